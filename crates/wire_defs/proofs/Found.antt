@@ -1,0 +1,230 @@
+-- What is read of bytes is what they spell, and what they spell is read.
+use Rattle.std.proofs.Common.{◌≡◌, ℕ, zero, suc, ◌-◌, ◌/◌, ◌%◌, ◌^◌, ◌<◌, ◌≤◌, true, false, cond, ltb, leb, eqb, ◌||◌, List, [], ◌∷◌, ◌++◌, length, take, drop, Result, Ok, Err, refl, sym, ap, subst, ◌∙◌, append_assoc, arith, inl, inr}
+use Rattle.std.specs.List.{flat_map, AllByRecursion}
+use Rattle.std.specs.Int.{w32, w64}
+use Rattle.std.proofs.lemmas.Bool.{ltb-false, le-ltb, lt-ltb, eqb-true, cases_lt, le-leb, lt-leb}
+use Rattle.std.proofs.lemmas.List.{take_at, drop_at, take-append-drop, length-append, length-take}
+use Rattle.std.proofs.lemmas.List.Concat.{flat_map-cons}
+use Rattle.wire_defs.specs.Field.{Payload, Field, Fault, wire_type, tag_of}
+use Rattle.wire_defs.specs.Field.Payload.{Varint, Eight, Span, Four}
+use Rattle.wire_defs.specs.Field.Fault.{Cut, BadTag}
+use Rattle.wire_defs.specs.Steps.{◌>>=◌}
+use Rattle.wire_defs.specs.Spelling.{IsVarint, IsPayload, IsField, HasFields}
+use Rattle.wire_defs.specs.Reading.{varint_at, span_at, payload_at, field_at, fields_within, fields_of}
+use Rattle.wire_defs.proofs.Steps.{ok_is, bind_ok, chosen, guard_ok, bind_same_at, bind_bind, bind_given}
+use Rattle.wire_defs.proofs.Bytes.{AreBytes, AreBytes-rest, AreBytes-behind, Takes, take-before}
+use Rattle.wire_defs.proofs.Numbers.{varint_found, varint_again, varint_long, fixed_found, fixed_again, IsFixed, wide32, wide64}
+use Rattle.wire_defs.proofs.Shorter.{field_shorter}
+
+-- ---- a run of bytes
+
+pub span_found : (bytes : List ℕ) (x : List ℕ × List ℕ) → AreBytes bytes → span_at bytes ≡ Ok x → Takes (λ spelling. IsPayload spelling (Span x.0)) bytes x.1
+unfolding span_at
+span_found bytes x fits e =
+    let a = bind_ok (varint_at bytes) (λ size. cond (ltb (length size.1) size.0) (Err Cut) (Ok (take size.0 size.1, drop size.0 size.1))) x e in
+    let size = a.0 in
+    let t = varint_found bytes size fits a.1 in
+    let g = guard_ok (ltb (length size.1) size.0) Cut (Ok (take size.0 size.1, drop size.0 size.1)) x a.2 in
+    let long : size.0 ≤ length size.1 = ltb-false _ _ g.0 in
+    let len : size.0 ≡ length (take size.0 size.1) = omega (arith, length-take size.0 size.1) in
+    let sized : IsVarint t.taken (length (take size.0 size.1)) = subst (λ (n : ℕ). IsVarint t.taken n) len t.is in
+    let whole : bytes ≡ (t.taken ++ take size.0 size.1) ++ drop size.0 size.1 = t.whole ∙ ap (λ (r : List ℕ). t.taken ++ r) (sym (take-append-drop size.0 size.1)) ∙ sym (append_assoc t.taken (take size.0 size.1) (drop size.0 size.1)) in
+    subst (λ (y : List ℕ × List ℕ). Takes (λ spelling. IsPayload spelling (Span y.0)) bytes y.1) (ok_is (take size.0 size.1, drop size.0 size.1) x g.1) (record { taken = t.taken ++ take size.0 size.1; is = (t.taken, sized, refl); whole = whole })
+
+pub span_again : (spelling content rest : List ℕ) → IsPayload spelling (Span content) → span_at (spelling ++ rest) ≡ Ok (content, rest)
+unfolding span_at
+span_again spelling content rest (size, sized, whole) =
+    let regrouped : spelling ++ rest ≡ size ++ (content ++ rest) = rw whole (append_assoc size content rest) in
+    let long : ltb (length (content ++ rest)) (length content) ≡ false = le-ltb _ _ (omega (arith, length-append content rest)) in
+    rw (regrouped, varint_again size (content ++ rest) (length content) sized, long, take_at content rest (length content) refl, drop_at content rest (length content) refl) refl
+
+-- ---- payloads
+
+-- a payload of this wire type, and its bytes
+abbrev pub IsOfType : ℕ → Payload → List ℕ → Type 0
+IsOfType kind payload spelling = IsPayload spelling payload × (wire_type payload ≡ kind)
+
+eight_is : (payload : Payload) (spelling : List ℕ) → IsFixed w64 (2 ^ 64) Eight payload spelling → IsOfType 1 payload spelling
+eight_is payload spelling (n, is, lt, whole) =
+    subst (λ (p : Payload). IsOfType 1 p spelling) (sym is) ((lt, whole), refl)
+
+four_is : (payload : Payload) (spelling : List ℕ) → IsFixed w32 (2 ^ 32) Four payload spelling → IsOfType 5 payload spelling
+four_is payload spelling (n, is, lt, whole) =
+    subst (λ (p : Payload). IsOfType 5 p spelling) (sym is) ((lt, whole), refl)
+
+pub payload_found : (kind : ℕ) (bytes : List ℕ) (x : Payload × List ℕ) → AreBytes bytes → payload_at kind bytes ≡ Ok x → Takes (IsOfType kind x.0) bytes x.1
+unfolding payload_at
+payload_found kind bytes x fits e =
+    elim (chosen (eqb kind 0) _ _ (Ok x) e) [
+      | inl h ↦
+          let a = bind_ok (varint_at bytes) (λ found. Ok (Varint found.0, found.1)) x h.1 in
+          let t = varint_found bytes a.0 fits a.1 in
+          let kind_is : 0 ≡ kind = sym (eqb-true kind 0 h.0) in
+          subst (λ (y : Payload × List ℕ). Takes (IsOfType kind y.0) bytes y.1) (ok_is (Varint a.0.0, a.0.1) x a.2) (record { taken = t.taken; is = (t.is, kind_is); whole = t.whole })
+      | inr h ↦
+          elim (chosen (eqb kind 1) _ _ (Ok x) h.1) [
+            | inl i ↦
+                let t = fixed_found w64 (2 ^ 64) wide64 Eight bytes x fits i.1 in
+                subst (λ (k : ℕ). Takes (IsOfType k x.0) bytes x.1) (sym (eqb-true kind 1 i.0)) (record { taken = t.taken; is = eight_is x.0 t.taken t.is; whole = t.whole })
+            | inr i ↦
+                elim (chosen (eqb kind 2) _ _ (Ok x) i.1) [
+                  | inl j ↦
+                      let a = bind_ok (span_at bytes) (λ found. Ok (Span found.0, found.1)) x j.1 in
+                      let t = span_found bytes a.0 fits a.1 in
+                      let kind_is : 2 ≡ kind = sym (eqb-true kind 2 j.0) in
+                      subst (λ (y : Payload × List ℕ). Takes (IsOfType kind y.0) bytes y.1) (ok_is (Span a.0.0, a.0.1) x a.2) (record { taken = t.taken; is = (t.is, kind_is); whole = t.whole })
+                  | inr j ↦
+                      elim (chosen (eqb kind 5) _ _ (Ok x) j.1) [
+                        | inl k ↦
+                            let t = fixed_found w32 (2 ^ 32) wide32 Four bytes x fits k.1 in
+                            subst (λ (n : ℕ). Takes (IsOfType n x.0) bytes x.1) (sym (eqb-true kind 5 k.0)) (record { taken = t.taken; is = four_is x.0 t.taken t.is; whole = t.whole })
+                        | inr k ↦ let never : Err BadTag ≡ Ok x = k.1 in absurd cc
+                      ]
+                ]
+          ]
+    ]
+
+pub payload_again : (payload : Payload) (spelling rest : List ℕ) → IsPayload spelling payload → payload_at (wire_type payload) (spelling ++ rest) ≡ Ok (payload, rest)
+unfolding payload_at
+payload_again (Varint n) spelling rest h = rw (varint_again spelling rest n h) refl
+payload_again (Eight n) spelling rest h = rw h.1 (fixed_again w64 (2 ^ 64) wide64 Eight n rest h.0)
+payload_again (Span content) spelling rest h = rw (span_again spelling content rest h) refl
+payload_again (Four n) spelling rest h = rw h.1 (fixed_again w32 (2 ^ 32) wide32 Four n rest h.0)
+
+-- ---- fields
+
+-- the tests of a tag, taken apart
+tag_fits : (tag : ℕ) → (leb (2 ^ 32) tag || ltb tag 8) ≡ false → (tag < 2 ^ 32) × (8 ≤ tag)
+tag_fits tag h =
+    elim (cases_lt tag (2 ^ 32)) [
+      | inl lt ↦
+          elim (cases_lt tag 8) [
+            | inl small ↦ let bad : (leb (2 ^ 32) tag || ltb tag 8) ≡ true = rw (lt-ltb tag 8 small, lt-leb (2 ^ 32) tag lt) refl in absurd cc
+            | inr le ↦ (lt, le)
+          ]
+      | inr le ↦ let bad : (leb (2 ^ 32) tag || ltb tag 8) ≡ true = rw (le-leb (2 ^ 32) tag le) refl in absurd cc
+    ]
+
+tag_passes : (tag : ℕ) → tag < 2 ^ 32 → 8 ≤ tag → (leb (2 ^ 32) tag || ltb tag 8) ≡ false
+tag_passes tag lt le = rw (le-ltb tag 8 le, lt-leb (2 ^ 32) tag lt) refl
+
+pub field_found : (bytes : List ℕ) (x : Field × List ℕ) → AreBytes bytes → field_at bytes ≡ Ok x → IsField x.0 × (bytes ≡ x.0.raw ++ x.1)
+unfolding field_at
+field_found bytes x fits e =
+    let a = bind_ok (varint_at bytes) (λ tag. cond (leb (2 ^ 32) tag.0 || ltb tag.0 8) (Err BadTag) (payload_at (tag.0 % 8) tag.1 >>= λ payload. Ok (record { number = tag.0 / 8; payload = payload.0; raw = take (length bytes - length payload.1) bytes }, payload.1))) x e in
+    let tag = a.0 in
+    let g = guard_ok (leb (2 ^ 32) tag.0 || ltb tag.0 8) BadTag (payload_at (tag.0 % 8) tag.1 >>= λ payload. Ok (record { number = tag.0 / 8; payload = payload.0; raw = take (length bytes - length payload.1) bytes }, payload.1)) x a.2 in
+    let p = bind_ok (payload_at (tag.0 % 8) tag.1) (λ payload. Ok (record { number = tag.0 / 8; payload = payload.0; raw = take (length bytes - length payload.1) bytes }, payload.1)) x g.1 in
+    let made : Field × List ℕ = (record { number = tag.0 / 8; payload = p.0.0; raw = take (length bytes - length p.0.1) bytes }, p.0.1) in
+    let first = varint_found bytes tag fits a.1 in
+    let second = payload_found (tag.0 % 8) tag.1 p.0 (AreBytes-rest _ bytes tag.1 first fits) p.1 in
+    let whole : bytes ≡ (first.taken ++ second.taken) ++ p.0.1 = first.whole ∙ ap (λ (r : List ℕ). first.taken ++ r) second.whole ∙ sym (append_assoc first.taken second.taken p.0.1) in
+    let raw_is : take (length bytes - length p.0.1) bytes ≡ first.taken ++ second.taken = take-before bytes (first.taken ++ second.taken) p.0.1 whole in
+    let limits = tag_fits tag.0 g.0 in
+    let tag_is : tag.0 ≡ tag_of (tag.0 / 8) p.0.0 = rw second.is.1 (omega arith) in
+    let tagged : IsVarint first.taken (tag_of (tag.0 / 8) p.0.0) = subst (λ (n : ℕ). IsVarint first.taken n) tag_is first.is in
+    let low : 1 ≤ tag.0 / 8 = omega arith in
+    let small : tag_of (tag.0 / 8) p.0.0 < 2 ^ 32 = subst (λ (n : ℕ). n < 2 ^ 32) tag_is limits.0 in
+    let is : IsField made.0 = record { tag = first.taken; rest = second.taken; whole = raw_is; tagged = tagged; numbered = low; small = small; carries = second.is.0 } in
+    let split : bytes ≡ made.0.raw ++ made.1 = whole ∙ ap (λ (r : List ℕ). r ++ p.0.1) (sym raw_is) in
+    subst (λ (y : Field × List ℕ). IsField y.0 × (bytes ≡ y.0.raw ++ y.1)) (ok_is made x p.2) (is, split)
+
+-- a wire type takes three bits
+pub wire_type_below : (payload : Payload) → wire_type payload < 8
+wire_type_below (Varint n) = omega arith
+wire_type_below (Eight n) = omega arith
+wire_type_below (Span content) = omega arith
+wire_type_below (Four n) = omega arith
+
+pub field_again : (field : Field) (rest : List ℕ) → IsField field → field_at (field.raw ++ rest) ≡ Ok (field, rest)
+unfolding field_at
+field_again field rest h =
+    let regrouped : field.raw ++ rest ≡ h.tag ++ (h.rest ++ rest) = ap (λ (r : List ℕ). r ++ rest) h.whole ∙ append_assoc h.tag h.rest rest in
+    let tag = tag_of field.number field.payload in
+    let below : wire_type field.payload < 8 = wire_type_below field.payload in
+    let kind_is : tag % 8 ≡ wire_type field.payload = omega arith in
+    let number_is : tag / 8 ≡ field.number = omega arith in
+    let passes : (leb (2 ^ 32) tag || ltb tag 8) ≡ false = tag_passes tag h.small (omega (arith, h.numbered)) in
+    let read : varint_at (field.raw ++ rest) ≡ Ok (tag, h.rest ++ rest) = rw regrouped (varint_again h.tag (h.rest ++ rest) tag h.tagged) in
+    let carried : payload_at (tag % 8) (h.rest ++ rest) ≡ Ok (field.payload, rest) = rw kind_is (payload_again field.payload h.rest rest h.carries) in
+    let raw_is : take (length (field.raw ++ rest) - length rest) (field.raw ++ rest) ≡ field.raw = take-before (field.raw ++ rest) field.raw rest refl in
+    rw (read, passes, carried, number_is, raw_is) refl
+
+pub field_long : (field : Field) → IsField field → 1 ≤ length field.raw
+field_long field h =
+    omega (arith, varint_long h.tag _ h.tagged, length-append h.tag h.rest, ap length h.whole)
+
+-- ---- lists of fields
+
+-- enough fuel is as good as more
+within_enough : (most more : ℕ) (bytes : List ℕ) → length bytes ≤ most → length bytes ≤ more → fields_within most bytes ≡ fields_within more bytes
+unfolding fields_within
+within_enough most more [] h k = refl
+within_enough zero more (b ∷ bs) h k = absurd (omega arith)
+within_enough (suc most) zero (b ∷ bs) h k = absurd (omega arith)
+within_enough (suc most) (suc more) (b ∷ bs) h k =
+    bind_same_at (field_at (b ∷ bs)) (λ first. fields_within most first.1 >>= λ others. Ok (first.0 ∷ others)) (λ first. fields_within more first.1 >>= λ others. Ok (first.0 ∷ others)) (λ first e. let shorter : length first.1 < length (b ∷ bs) = field_shorter (b ∷ bs) first e in ap (λ (r : Result (List Field) Fault). r >>= λ others. Ok (first.0 ∷ others)) (within_enough most more first.1 (omega arith) (omega arith)))
+
+pub fields_of-nil : fields_of [] ≡ Ok []
+unfolding fields_of fields_within
+fields_of-nil = refl
+
+-- the fields of bytes are the field in front and those behind it
+pub fields_of-cons : (b : ℕ) (bs : List ℕ) → fields_of (b ∷ bs) ≡ (field_at (b ∷ bs) >>= λ first. fields_of first.1 >>= λ others. Ok (first.0 ∷ others))
+unfolding fields_of fields_within
+fields_of-cons b bs =
+    bind_same_at (field_at (b ∷ bs)) (λ first. fields_within (length bs) first.1 >>= λ others. Ok (first.0 ∷ others)) (λ first. fields_within (length first.1) first.1 >>= λ others. Ok (first.0 ∷ others)) (λ first e. let shorter : length first.1 < length (b ∷ bs) = field_shorter (b ∷ bs) first e in ap (λ (r : Result (List Field) Fault). r >>= λ others. Ok (first.0 ∷ others)) (within_enough (length bs) (length first.1) first.1 (omega arith) (omega arith)))
+
+-- a field, and then the fields behind it
+pub fields_of-field : (bytes : List ℕ) (x : Field × List ℕ) → field_at bytes ≡ Ok x → fields_of bytes ≡ (fields_of x.1 >>= λ others. Ok (x.0 ∷ others))
+fields_of-field [] x e = let shorter : length x.1 < 0 = field_shorter [] x e in absurd (omega arith)
+fields_of-field (b ∷ bs) x e = rw (fields_of-cons b bs, e) refl
+
+-- no field, and so no fields
+pub fields_of-fault : (b : ℕ) (bs : List ℕ) (fault : Fault) → field_at (b ∷ bs) ≡ Err fault → fields_of (b ∷ bs) ≡ Err fault
+fields_of-fault b bs fault e = rw (fields_of-cons b bs, e) refl
+
+within_found : (most : ℕ) (bytes : List ℕ) (fields : List Field) → AreBytes bytes → fields_within most bytes ≡ Ok fields → HasFields bytes fields
+unfolding fields_within
+within_found most [] fields fits e =
+    subst (λ (fs : List Field). HasFields [] fs) (ok_is [] fields e) (record { each = tt; whole = refl })
+within_found zero (b ∷ bs) fields fits e = absurd cc
+within_found (suc most) (b ∷ bs) fields fits e =
+    let a = bind_ok (field_at (b ∷ bs)) (λ first. fields_within most first.1 >>= λ others. Ok (first.0 ∷ others)) fields e in
+    let o = bind_ok (fields_within most a.0.1) (λ others. Ok (a.0.0 ∷ others)) fields a.2 in
+    let first = field_found (b ∷ bs) a.0 fits a.1 in
+    let behind : AreBytes a.0.1 = AreBytes-behind a.0.0.raw a.0.1 (subst AreBytes first.1 fits) in
+    let others = within_found most a.0.1 o.0 behind o.1 in
+    let whole : b ∷ bs ≡ flat_map (λ field. field.raw) (a.0.0 ∷ o.0) = first.1 ∙ ap (λ (r : List ℕ). a.0.0.raw ++ r) others.whole ∙ sym (flat_map-cons (λ field. field.raw) a.0.0 o.0) in
+    subst (λ (fs : List Field). HasFields (b ∷ bs) fs) (ok_is (a.0.0 ∷ o.0) fields o.2) (record { each = (first.0, others.each); whole = whole })
+
+-- what is read is spelled so
+pub fields_found : (bytes : List ℕ) (fields : List Field) → AreBytes bytes → fields_of bytes ≡ Ok fields → HasFields bytes fields
+unfolding fields_of
+fields_found bytes fields fits e = within_found (length bytes) bytes fields fits e
+
+spelled_again : (fields : List Field) → AllByRecursion IsField fields → fields_of (flat_map (λ field. field.raw) fields) ≡ Ok fields
+spelled_again [] each = fields_of-nil
+spelled_again (f ∷ fs) each =
+    let rest = flat_map (λ field. field.raw) fs in
+    let whole : flat_map (λ field. field.raw) (f ∷ fs) ≡ f.raw ++ rest = flat_map-cons (λ field. field.raw) f fs in
+    rw (whole, fields_of-field (f.raw ++ rest) (f, rest) (field_again f rest each.0), spelled_again fs each.1) refl
+
+-- what is spelled so is read
+pub fields_only : (bytes : List ℕ) (fields : List Field) → HasFields bytes fields → fields_of bytes ≡ Ok fields
+fields_only bytes fields h = rw h.whole (spelled_again fields h.each)
+
+-- bytes spell one list of fields at most
+pub one_list : (bytes : List ℕ) (fields others : List Field) → HasFields bytes fields → HasFields bytes others → fields ≡ others
+one_list bytes fields others h k = ok_is fields others (sym (fields_only bytes fields h) ∙ fields_only bytes others k)
+
+-- behind fields that are spelled, reading goes on
+behind_spelled : (back : List ℕ) (fields : List Field) → AllByRecursion IsField fields → fields_of (flat_map (λ field. field.raw) fields ++ back) ≡ (fields_of back >>= λ others. Ok (fields ++ others))
+behind_spelled back [] each = sym (bind_given (fields_of back))
+behind_spelled back (f ∷ fs) each =
+    let front = flat_map (λ field. field.raw) fs in
+    let whole : flat_map (λ field. field.raw) (f ∷ fs) ++ back ≡ f.raw ++ (front ++ back) = ap (λ (r : List ℕ). r ++ back) (flat_map-cons (λ field. field.raw) f fs) ∙ append_assoc f.raw front back in
+    rw (whole, fields_of-field (f.raw ++ (front ++ back)) (f, front ++ back) (field_again f (front ++ back) each.0), behind_spelled back fs each.1) (bind_bind (fields_of back) (λ others. Ok (fs ++ others)) (λ others. Ok (f ∷ others)))
+
+pub fields_of-append : (front back : List ℕ) (fields : List Field) → HasFields front fields → fields_of (front ++ back) ≡ (fields_of back >>= λ others. Ok (fields ++ others))
+fields_of-append front back fields h = rw h.whole (behind_spelled back fields h.each)

@@ -1,0 +1,6 @@
+pub mod Steps
+pub mod Field
+pub mod Spelling
+pub mod Reading
+pub mod Writing
+pub mod Examples
