@@ -1,0 +1,80 @@
+// The messages of GTFS Realtime 2.0, each a struct. Field numbers and meanings are those of the reference.
+
+use crate::copied::Copied;
+use crate::items::Items;
+use crate::text::{Bytes, Text};
+use std::alloc::AllocError;
+
+/// Whether a message is the whole data set of its feed or a change to it (FeedHeader, `incrementality`).
+#[derive(Clone, Copy, PartialEq, Eq, Debug)]
+pub enum Incrementality {
+    FullDataset,
+    Differential,
+}
+
+/// A FeedHeader.
+#[derive(Drop)]
+pub struct Header {
+    /// The version of the reference that the feed follows, as `2.0`.
+    pub version: Text,
+    /// Absent means `FullDataset`.
+    pub incrementality: Option<Incrementality>,
+    /// When the message was made, in seconds since 1970.
+    pub timestamp: Option<u64>,
+    /// The fields that this profile does not know, as they came.
+    pub unknown: Bytes,
+}
+
+/// A FeedEntity.
+#[derive(Drop)]
+pub struct Entity {
+    /// Its id within its feed.
+    pub id: Text,
+    /// Whether a differential message takes the entity away.
+    pub is_deleted: Option<bool>,
+    /// The fields that this profile does not know, as they came.
+    pub unknown: Bytes,
+}
+
+/// The entities of a message, in their order.
+pub type Entities = Items<Entity>;
+
+/// A FeedMessage, which is what a feed sends at a time.
+#[derive(Drop)]
+pub struct FeedMessage {
+    pub header: Header,
+    pub entity: Entities,
+    /// The fields that this profile does not know, as they came.
+    pub unknown: Bytes,
+}
+
+impl Copied for Header {
+    fn copy(&self) -> Result<Self, AllocError> {
+        Ok(Header {
+            version: self.version.copy()?,
+            incrementality: self.incrementality,
+            timestamp: self.timestamp,
+            unknown: self.unknown.copy()?,
+        })
+    }
+}
+
+impl Copied for Entity {
+    fn copy(&self) -> Result<Self, AllocError> {
+        Ok(Entity {
+            id: self.id.copy()?,
+            is_deleted: self.is_deleted,
+            unknown: self.unknown.copy()?,
+        })
+    }
+}
+
+impl Copied for FeedMessage {
+    fn copy(&self) -> Result<Self, AllocError> {
+        Ok(FeedMessage {
+            header: self.header.copy()?,
+            entity: self.entity.copy()?,
+            unknown: self.unknown.copy()?,
+        })
+    }
+}
