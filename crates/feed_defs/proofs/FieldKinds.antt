@@ -1,0 +1,212 @@
+-- The kinds of fields: what each reads depends only on the fields that it takes, and reading gives back what was written.
+use Rattle.std.proofs.Common.{◌≡◌, ℕ, ◌%◌, ◌^◌, ◌<◌, Bool, true, false, cond, List, [], ◌∷◌, length, refl, ◌∙◌, ap, subst, arith}
+use Rattle.std.specs.Prelude.{Option, Some, None, is_some, Result, Ok, filter, ◌==◌}
+use Rattle.std.specs.List.{filter_map, last_or, AllByRecursion}
+use Rattle.std.specs.Option.{option_and_then}
+use Rattle.std.specs.Str.{is_utf8}
+use Rattle.std.proofs.lemmas.Bool.{eqb-true, eq-eqb}
+use Rattle.std.proofs.lemmas.List.{length-append}
+use Rattle.rt_types.specs.declared.fault.Kind.{Kind}
+use Rattle.wire_defs.specs.Field.{Payload, Field}
+use Rattle.wire_defs.specs.Field.Payload.{Varint, Eight, Span, Four}
+use Rattle.wire_defs.specs.Writing.{varint, payload_bytes}
+use Rattle.wire_defs.proofs.Bytes.{AreBytes}
+use Rattle.wire_defs.proofs.Steps.{bind_ok}
+use Rattle.wire_defs.proofs.Again.{IsInRange, CarriesBytes, WasRead}
+use Rattle.feed_defs.specs.Rows.{Fault, Message, FieldKind, at, occurring, last_of, varint_in, span_in, bool_in, bool_payload, scalar, u64, bool, choice, text, as_text, merged, embedded, value, written}
+use Rattle.feed_defs.proofs.Sifted.{said_same}
+
+-- a message that was read is read again from the bytes that are written of it
+abbrev pub Rereads : {M : Type 0} → Message M → Type 0
+Rereads {M} m = (payloads : List (List ℕ)) (x : M) → AllByRecursion AreBytes payloads → value m payloads ≡ Ok x → length (written m x) < 2 ^ 64 → value m (written m x ∷ []) ≡ Ok x
+
+-- a field with a payload
+abbrev pub carrying : ℕ → Payload → List ℕ → Field
+carrying n payload raw = record { number = n; payload = payload; raw = raw }
+
+-- a kind of field, under a number
+pub record IsLawfulKind {A : Type 0} (n : ℕ) (kind : FieldKind A) : Type 0 where
+  -- it takes only fields of that number
+  pub numbered : (field : Field) → kind.takes n field ≡ true → field.number ≡ n
+  -- what it reads depends only on those that it takes
+  pub same : (name : Kind) (fields others : List Field) → filter (kind.takes n) fields ≡ filter (kind.takes n) others → kind.read name n fields ≡ kind.read name n others
+  pub none : (name : Kind) → kind.read name n [] ≡ Ok None
+  -- it takes what it writes
+  pub knows : (x : A) (raw : List ℕ) → kind.takes n (carrying n (kind.write x) raw) ≡ true
+  -- what was read can be written
+  pub fits : (name : Kind) (fields : List Field) (x : A) → AllByRecursion WasRead fields → kind.read name n fields ≡ Ok (Some x) → length (payload_bytes (kind.write x)) < 2 ^ 64 → IsInRange (kind.write x)
+  -- and is then read again
+  pub back : (name : Kind) (fields : List Field) (x : A) (raw : List ℕ) → AllByRecursion WasRead fields → kind.read name n fields ≡ Ok (Some x) → length (payload_bytes (kind.write x)) < 2 ^ 64 → kind.read name n (carrying n (kind.write x) raw ∷ []) ≡ Ok (Some x)
+
+-- ---- what a field says
+
+pub at_own : {A : Type 0} (says : Payload → Option A) (n : ℕ) (payload : Payload) (raw : List ℕ) → at says n (carrying n payload raw) ≡ says payload
+at_own says n payload raw = rw (eq-eqb n n refl) refl
+
+number_of : {A : Type 0} (n number : ℕ) (o : Option A) (b : Bool) → (number == n) ≡ b → is_some (cond b o None) ≡ true → number ≡ n
+number_of n number o true e h = eqb-true number n e
+number_of n number o false e h = absurd cc
+
+pub at_number : {A : Type 0} (says : Payload → Option A) (n : ℕ) (field : Field) → is_some (at says n field) ≡ true → field.number ≡ n
+at_number says n field h = number_of n field.number (says field.payload) (field.number == n) refl h
+
+said_of : {A : Type 0} (o : Option A) (b : Bool) (x : A) → cond b o None ≡ Some x → o ≡ Some x
+said_of o true x e = e
+said_of o false x e = absurd cc
+
+at_says : {A : Type 0} (says : Payload → Option A) (n : ℕ) (field : Field) (x : A) → at says n field ≡ Some x → says field.payload ≡ Some x
+at_says says n field x e = said_of (says field.payload) (field.number == n) x e
+
+-- ---- scalars
+
+-- what the last one says is said by some payload
+last_holds : {A : Type 0} (says : Payload → Option A) (n : ℕ) (P : A → Type 0) → ((field : Field) (x : A) → WasRead field → says field.payload ≡ Some x → P x) → (fields : List Field) (before : Option A) (x : A) → ((y : A) → before ≡ Some y → P y) → AllByRecursion WasRead fields → last_or before (filter_map (at says n) fields) ≡ Some x → P x
+last_holds says n P holds [] before x first each e = first x e
+last_holds {A} says n P holds (field ∷ fields) before x first each e =
+    step (at says n field) refl (λ now known h. last_holds says n P holds fields now x known each.1 h) e
+  where
+    step : (o : Option A) → at says n field ≡ o → ((now : Option A) → ((y : A) → now ≡ Some y → P y) → last_or now (filter_map (at says n) fields) ≡ Some x → P x) → last_or before (filter_map (at says n) (field ∷ fields)) ≡ Some x → P x
+    step None is rest e = rest before first (rw is at e)
+    step (Some y) is rest e = rest (Some y) (λ z now. holds field z each.0 (at_says says n field z (is ∙ now))) (rw is at e)
+
+last_same : {A : Type 0} (says : Payload → Option A) (n : ℕ) (fields others : List Field) → filter (λ field. is_some (at says n field)) fields ≡ filter (λ field. is_some (at says n field)) others → last_of says n fields ≡ last_of says n others
+unfolding last_of
+last_same says n fields others e = ap (λ xs. last_or None xs) (said_same (at says n) fields others e)
+
+last_none : {A : Type 0} (says : Payload → Option A) (n : ℕ) → last_of says n [] ≡ None
+unfolding last_of
+last_none says n = refl
+
+last_own : {A : Type 0} (says : Payload → Option A) (n : ℕ) (payload : Payload) (raw : List ℕ) (x : A) → says payload ≡ Some x → last_of says n (carrying n payload raw ∷ []) ≡ Some x
+unfolding last_of
+last_own says n payload raw x e = rw (at_own says n payload raw, e) refl
+
+last_fits : {A : Type 0} (says : Payload → Option A) (n : ℕ) (P : A → Type 0) → ((payload : Payload) (x : A) → IsInRange payload → says payload ≡ Some x → P x) → (fields : List Field) (x : A) → AllByRecursion WasRead fields → last_of says n fields ≡ Some x → P x
+unfolding last_of
+last_fits says n P holds fields x each e = last_holds says n P (λ field y was is. holds field.payload y was.fits is) fields None x (λ y none. absurd (cc)) each e
+
+-- a number, if what it is written as says it again
+pub scalar_lawful : {A : Type 0} (n : ℕ) (says : Payload → Option A) (write : A → Payload) → ((payload : Payload) (x : A) → IsInRange payload → says payload ≡ Some x → IsInRange (write x)) → ((x : A) → says (write x) ≡ Some x) → IsLawfulKind n (scalar says write)
+scalar_lawful {A} n says write fits again =
+    record {
+      numbered = λ field h. at_number says n field h;
+      same = λ name fields others e. ap Ok (last_same says n fields others e);
+      none = λ name. ap Ok (last_none says n);
+      knows = λ x raw. rw (at_own says n (write x) raw, again x) refl;
+      fits = λ name fields x each e small. last_fits says n (λ y. IsInRange (write y)) fits fields x each (given_is e);
+      back = λ name fields x raw each e small. ap Ok (last_own says n (write x) raw x (again x));
+    }
+  where
+    given : Option A → Result (Option A) Fault
+    given o = Ok o
+
+    given_is : {o p : Option A} → given o ≡ given p → o ≡ p
+    given_is e = cc
+
+varint_is : (payload : Payload) (n : ℕ) → IsInRange payload → varint_in payload ≡ Some n → n < 2 ^ 64
+varint_is (Varint m) n fits e = let k : m ≡ n = cc in rw (← k) fits
+varint_is (Eight m) n fits e = absurd (cc)
+varint_is (Span bytes) n fits e = absurd (cc)
+varint_is (Four m) n fits e = absurd (cc)
+
+pub u64_lawful : (n : ℕ) → IsLawfulKind n u64
+u64_lawful n = scalar_lawful n varint_in Varint varint_is (λ x. refl)
+
+bool_fits : (b : Bool) → IsInRange (bool_payload b)
+bool_fits true = omega arith
+bool_fits false = omega arith
+
+bool_again : (b : Bool) → bool_in (bool_payload b) ≡ Some b
+bool_again true = refl
+bool_again false = refl
+
+pub bool_lawful : (n : ℕ) → IsLawfulKind n bool
+bool_lawful n = scalar_lawful n bool_in bool_payload (λ payload b fits e. bool_fits b) bool_again
+
+-- an enum, if the number of each value names it
+pub choice_lawful : {A : Type 0} (n : ℕ) (named : ℕ → Option A) (number : A → ℕ) → ((x : A) → number x < 2 ^ 64) → ((x : A) → named (number x % 2 ^ 32) ≡ Some x) → IsLawfulKind n (choice named number)
+choice_lawful n named number small again =
+    scalar_lawful n (λ payload. option_and_then (λ k. named (k % 2 ^ 32)) (varint_in payload)) (λ x. Varint (number x)) (λ payload x fits e. small x) again
+
+-- ---- runs of bytes
+
+pub span_fits : (bytes : List ℕ) → length (payload_bytes (Span bytes)) < 2 ^ 64 → length bytes < 2 ^ 64
+unfolding payload_bytes
+span_fits bytes small = omega (arith, length-append (varint (length bytes)) bytes)
+
+text_is : (name : Kind) (n : ℕ) (told : Option (List ℕ)) (x : List ℕ) → as_text name n told ≡ Ok (Some x) → is_utf8 x ≡ true
+text_is name n None x e = absurd (cc)
+text_is name n (Some bytes) x e = tested (is_utf8 bytes) refl e
+  where
+    tested : (b : Bool) → is_utf8 bytes ≡ b → as_text name n (Some bytes) ≡ Ok (Some x) → is_utf8 x ≡ true
+    tested true is e = let f = rw is at e in let same : bytes ≡ x = cc in rw (← same) is
+    tested false is e = let f = rw is at e in absurd (cc)
+
+text_again : (name : Kind) (n : ℕ) (x : List ℕ) → is_utf8 x ≡ true → as_text name n (Some x) ≡ Ok (Some x)
+text_again name n x e = rw e refl
+
+pub text_lawful : (n : ℕ) → IsLawfulKind n text
+text_lawful n =
+    record {
+      numbered = λ field h. at_number span_in n field h;
+      same = λ name fields others e. ap (λ told. as_text name n told) (last_same span_in n fields others e);
+      none = λ name. ap (λ told. as_text name n told) (last_none span_in n);
+      knows = λ x raw. rw (at_own span_in n (Span x) raw) refl;
+      fits = λ name fields x each e small. span_fits x small;
+      back = λ name fields x raw each e small. rw (last_own span_in n (Span x) raw x refl) (text_again name n x (text_is name n (last_of span_in n fields) x e));
+    }
+
+pub occurring_same : {A : Type 0} (says : Payload → Option A) (n : ℕ) (fields others : List Field) → filter (λ field. is_some (at says n field)) fields ≡ filter (λ field. is_some (at says n field)) others → occurring says n fields ≡ occurring says n others
+unfolding occurring
+occurring_same says n fields others e = said_same (at says n) fields others e
+
+pub occurring_none : {A : Type 0} (says : Payload → Option A) (n : ℕ) → occurring says n [] ≡ []
+unfolding occurring
+occurring_none says n = refl
+
+pub occurring_own : {A : Type 0} (says : Payload → Option A) (n : ℕ) (payload : Payload) (raw : List ℕ) (x : A) (fields : List Field) → says payload ≡ Some x → occurring says n (carrying n payload raw ∷ fields) ≡ x ∷ occurring says n fields
+unfolding occurring
+occurring_own says n payload raw x fields e = rw (at_own says n payload raw, e) refl
+
+span_carries : (payload : Payload) (bytes : List ℕ) → CarriesBytes payload → span_in payload ≡ Some bytes → AreBytes bytes
+span_carries (Varint n) bytes h e = absurd (cc)
+span_carries (Eight n) bytes h e = absurd (cc)
+span_carries (Span content) bytes h e = let same : content ≡ bytes = cc in subst AreBytes same h
+span_carries (Four n) bytes h e = absurd (cc)
+
+-- the runs of bytes that were read are bytes
+pub occurring_bytes : (n : ℕ) (fields : List Field) → AllByRecursion WasRead fields → AllByRecursion AreBytes (occurring span_in n fields)
+unfolding occurring
+occurring_bytes n [] each = tt
+occurring_bytes n (field ∷ fields) each = step (at span_in n field) refl (occurring_bytes n fields each.1)
+  where
+    step : (o : Option (List ℕ)) → at span_in n field ≡ o → AllByRecursion AreBytes (filter_map (at span_in n) fields) → AllByRecursion AreBytes (filter_map (at span_in n) (field ∷ fields))
+    step None is rest = rw is rest
+    step (Some bytes) is rest = rw is (span_carries field.payload bytes each.0.carried (at_says span_in n field bytes is), rest)
+
+merged_none : {M : Type 0} (m : Message M) → merged m [] ≡ Ok None
+unfolding merged
+merged_none m = refl
+
+merged_is : {M : Type 0} (m : Message M) (payloads : List (List ℕ)) (x : M) → merged m payloads ≡ Ok (Some x) → value m payloads ≡ Ok x
+unfolding merged
+merged_is m [] x e = absurd (cc)
+merged_is m (bytes ∷ more) x e = let h = bind_ok (value m (bytes ∷ more)) (λ y. Ok (Some y)) (Some x) e in let same : h.0 ≡ x = cc in h.1 ∙ ap Ok same
+
+merged_again : {M : Type 0} (m : Message M) (bytes : List ℕ) (x : M) → value m (bytes ∷ []) ≡ Ok x → merged m (bytes ∷ []) ≡ Ok (Some x)
+unfolding merged
+merged_again m bytes x e = rw e refl
+
+-- a message in a field, if it is read again itself
+pub embedded_lawful : {M : Type 0} (n : ℕ) (m : Message M) → Rereads m → IsLawfulKind n (embedded m)
+embedded_lawful n m rereads =
+    record {
+      numbered = λ field h. at_number span_in n field h;
+      same = λ name fields others e. ap (λ payloads. merged m payloads) (occurring_same span_in n fields others e);
+      none = λ name. rw (occurring_none span_in n) (merged_none m);
+      knows = λ x raw. rw (at_own span_in n (Span (written m x)) raw) refl;
+      fits = λ name fields x each e small. span_fits (written m x) small;
+      back = λ name fields x raw each e small.
+          rw (occurring_own span_in n (Span (written m x)) raw (written m x) [] refl, occurring_none span_in n)
+          (merged_again m (written m x) x (rereads (occurring span_in n fields) x (occurring_bytes n fields each) (merged_is m (occurring span_in n fields) x e) (span_fits (written m x) small)));
+    }

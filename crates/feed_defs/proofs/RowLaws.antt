@@ -1,0 +1,248 @@
+-- The rows of a table: what they read depends only on the fields that they know, and reading gives back what was written.
+use Rattle.std.proofs.Common.{◌≡◌, ℕ, ◌+◌, ◌^◌, ◌<◌, ◌≤◌, Bool, true, false, List, [], ◌∷◌, ◌++◌, length, min, refl, ◌∙◌, ap, subst, arith, append-nil}
+use Rattle.std.specs.Prelude.{Option, Some, None, is_some, Result, Ok, Err, filter, map, ◌||◌}
+use Rattle.std.specs.List.{flat_map, AllByRecursion}
+use Rattle.std.proofs.lemmas.Grind.{flat_map-append}
+use Rattle.std.proofs.lemmas.List.{length-append, map-append}
+use Rattle.std.proofs.lemmas.List.Elements.{filter-append}
+use Rattle.rt_types.specs.declared.fault.Kind.{Kind}
+use Rattle.wire_defs.specs.Steps.{◌>>=◌}
+use Rattle.wire_defs.specs.Field.{Field, tag_of}
+use Rattle.wire_defs.specs.Field.Payload.{Span}
+use Rattle.wire_defs.specs.Writing.{Written, varint, payload_bytes, spelled}
+use Rattle.wire_defs.proofs.Bytes.{AreBytes}
+use Rattle.wire_defs.proofs.Steps.{bind_ok}
+use Rattle.wire_defs.proofs.Again.{IsInRange, WasRead, as_field}
+use Rattle.feed_defs.specs.Rows.{Fault, Message, FieldKind, Rows, at, occurring, span_in, value, written, values, placed, numbered_values, optional, required, needed, repeated, numbered, write_if, write_all, both, ◌⊕◌}
+use Rattle.feed_defs.proofs.Sifted.{each_then, each_append, filter_none, same_within}
+use Rattle.feed_defs.proofs.FieldKinds.{Rereads, IsLawfulKind, at_number, at_own, span_fits, occurring_same, occurring_none, occurring_own, occurring_bytes}
+
+-- rows that know only fields with numbers from the one to the other
+pub record IsLawful {V : Type 0} (low high : ℕ) (rows : Rows V) : Type 0 where
+  pub ordered : low ≤ high
+  pub within : (field : Field) → rows.is_known field ≡ true → (low ≤ field.number) × (field.number ≤ high)
+  -- what they read depends only on the fields that they know
+  pub same : (name : Kind) (fields others : List Field) → filter rows.is_known fields ≡ filter rows.is_known others → rows.read name fields ≡ rows.read name others
+  -- they know what they write
+  pub knows : (v : V) → AllByRecursion (λ w. rows.is_known (as_field w) ≡ true) (rows.write v)
+  -- what was read can be written
+  pub fits : (name : Kind) (fields : List Field) (v : V) → AllByRecursion WasRead fields → rows.read name fields ≡ Ok (Ok v) → length (flat_map spelled (rows.write v)) < 2 ^ 64 → AllByRecursion (λ w. IsInRange w.payload) (rows.write v)
+  -- and is then read again
+  pub back : (name : Kind) (fields : List Field) (v : V) → AllByRecursion WasRead fields → rows.read name fields ≡ Ok (Ok v) → length (flat_map spelled (rows.write v)) < 2 ^ 64 → rows.read name (map as_field (rows.write v)) ≡ Ok (Ok v)
+
+-- a payload is no longer than its field
+short_payload : (w : Written) (ws : List Written) → length (flat_map spelled (w ∷ ws)) < 2 ^ 64 → (length (payload_bytes w.payload) < 2 ^ 64) × (length (flat_map spelled ws) < 2 ^ 64)
+unfolding spelled
+short_payload w ws small =
+    let whole = length-append (varint (tag_of w.number w.payload) ++ payload_bytes w.payload) (flat_map spelled ws) in
+    let own = length-append (varint (tag_of w.number w.payload)) (payload_bytes w.payload) in
+    (omega (arith, whole, own, small), omega (arith, whole, own, small))
+
+-- ---- one field
+
+option_is : {A : Type 0} (r : Result (Option A) Fault) (v : Option A) → ◌≡◌ {A = Result (Result (Option A) Fault) Fault} (r >>= λ x. Ok (Ok x)) (Ok (Ok v)) → r ≡ Ok v
+option_is (Ok o) v e = cc
+option_is (Err f) v e = absurd (cc)
+
+is_exactly : (n number : ℕ) → number ≡ n → (n ≤ number) × (number ≤ n)
+is_exactly n number e = (omega arith, omega arith)
+
+-- a field that may be absent
+pub optional_lawful : {A : Type 0} (n : ℕ) (kind : FieldKind A) → IsLawfulKind n kind → IsLawful n n (optional n kind)
+optional_lawful {A} n kind law =
+    record {
+      ordered = omega arith;
+      within = λ field h. is_exactly n field.number (law.numbered field h);
+      same = λ name fields others e. ap (λ r. r >>= λ x. Ok (Ok x)) (law.same name fields others e);
+      knows = knows;
+      fits = fits;
+      back = back;
+    }
+  where
+    knows : (v : Option A) → AllByRecursion (λ w. kind.takes n (as_field w) ≡ true) (write_if n kind.write v)
+    knows None = tt
+    knows (Some x) = (law.knows x (spelled (record { number = n; payload = kind.write x })), tt)
+
+    fits : (name : Kind) (fields : List Field) (v : Option A) → AllByRecursion WasRead fields → (optional n kind).read name fields ≡ Ok (Ok v) → length (flat_map spelled (write_if n kind.write v)) < 2 ^ 64 → AllByRecursion (λ w. IsInRange w.payload) (write_if n kind.write v)
+    fits name fields None each e small = tt
+    fits name fields (Some x) each e small = (law.fits name fields x each (option_is (kind.read name n fields) (Some x) e) (short_payload (record { number = n; payload = kind.write x }) [] small).0, tt)
+
+    back : (name : Kind) (fields : List Field) (v : Option A) → AllByRecursion WasRead fields → (optional n kind).read name fields ≡ Ok (Ok v) → length (flat_map spelled (write_if n kind.write v)) < 2 ^ 64 → (optional n kind).read name (map as_field (write_if n kind.write v)) ≡ Ok (Ok v)
+    back name fields None each e small = rw (law.none name) refl
+    back name fields (Some x) each e small =
+        rw (law.back name fields x (spelled (record { number = n; payload = kind.write x })) each (option_is (kind.read name n fields) (Some x) e) (short_payload (record { number = n; payload = kind.write x }) [] small).0) refl
+
+needed_is : {A : Type 0} (name : Kind) (n : ℕ) (r : Result (Option A) Fault) (v : A) → (r >>= λ x. Ok (needed name n x)) ≡ Ok (Ok v) → r ≡ Ok (Some v)
+needed_is name n (Ok None) v e = absurd (cc)
+needed_is name n (Ok (Some x)) v e = cc
+needed_is name n (Err f) v e = absurd (cc)
+
+-- a field that must be there
+pub required_lawful : {A : Type 0} (n : ℕ) (kind : FieldKind A) → IsLawfulKind n kind → IsLawful n n (required n kind)
+required_lawful {A} n kind law =
+    record {
+      ordered = omega arith;
+      within = λ field h. is_exactly n field.number (law.numbered field h);
+      same = λ name fields others e. ap (λ r. r >>= λ x. Ok (needed name n x)) (law.same name fields others e);
+      knows = λ x. (law.knows x (spelled (record { number = n; payload = kind.write x })), tt);
+      fits = λ name fields x each e small. (law.fits name fields x each (needed_is name n (kind.read name n fields) x e) (short_payload (record { number = n; payload = kind.write x }) [] small).0, tt);
+      back = λ name fields x each e small.
+          rw (law.back name fields x (spelled (record { number = n; payload = kind.write x })) each (needed_is name n (kind.read name n fields) x e) (short_payload (record { number = n; payload = kind.write x }) [] small).0) refl;
+    }
+
+-- ---- repeated fields
+
+write_all_known : {M : Type 0} (n : ℕ) (m : Message M) (xs : List M) → AllByRecursion (λ w. is_some (at span_in n (as_field w)) ≡ true) (write_all n m xs)
+write_all_known n m [] = tt
+write_all_known n m (x ∷ xs) = (rw (at_own span_in n (Span (written m x)) (spelled (record { number = n; payload = Span (written m x) }))) refl, write_all_known n m xs)
+
+write_all_fits : {M : Type 0} (n : ℕ) (m : Message M) (xs : List M) → length (flat_map spelled (write_all n m xs)) < 2 ^ 64 → AllByRecursion (λ w. IsInRange w.payload) (write_all n m xs)
+write_all_fits n m [] small = tt
+write_all_fits n m (x ∷ xs) small =
+    let short = short_payload (record { number = n; payload = Span (written m x) }) (write_all n m xs) small in
+    (span_fits (written m x) short.0, write_all_fits n m xs short.1)
+
+write_all_occurring : {M : Type 0} (n : ℕ) (m : Message M) (xs : List M) → occurring span_in n (map as_field (write_all n m xs)) ≡ map (λ x. written m x) xs
+write_all_occurring n m [] = occurring_none span_in n
+write_all_occurring n m (x ∷ xs) =
+    occurring_own span_in n (Span (written m x)) (spelled (record { number = n; payload = Span (written m x) })) (written m x) (map as_field (write_all n m xs)) refl
+    ∙ ap (λ rest. written m x ∷ rest) (write_all_occurring n m xs)
+
+placed_is : {M : Type 0} (k : ℕ) (r : Result M Fault) (x : M) → placed k r ≡ Ok x → r ≡ Ok x
+placed_is k (Ok y) x e = e
+placed_is k (Err f) x e = absurd (cc)
+
+numbered_again : {M : Type 0} (n : ℕ) (m : Message M) → Rereads m → (before : ℕ) (payloads : List (List ℕ)) (xs : List M) → AllByRecursion AreBytes payloads → numbered_values m before payloads ≡ Ok xs → length (flat_map spelled (write_all n m xs)) < 2 ^ 64 → numbered_values m before (map (λ x. written m x) xs) ≡ Ok xs
+unfolding numbered_values
+numbered_again n m rereads before [] xs each e small = let none : [] ≡ xs = cc in rw (← none) refl
+numbered_again {M} n m rereads before (bytes ∷ more) xs each e small =
+    let first = bind_ok (placed (min (before + 1) 4294967295) (value m (bytes ∷ []))) (λ x. numbered_values m (before + 1) more >>= λ ys. Ok (x ∷ ys)) xs e in
+    let rest = bind_ok (numbered_values m (before + 1) more) (λ ys. Ok (first.0 ∷ ys)) xs first.2 in
+    let same : first.0 ∷ rest.0 ≡ xs = cc in
+    let P : List M → Type 0 = λ zs. length (flat_map spelled (write_all n m zs)) < 2 ^ 64 → numbered_values m before (map (λ x. written m x) zs) ≡ Ok zs in
+    subst P same (λ fit.
+    let short = short_payload (record { number = n; payload = Span (written m first.0) }) (write_all n m rest.0) fit in
+    let here : value m (written m first.0 ∷ []) ≡ Ok first.0 = rereads (bytes ∷ []) first.0 (each.0, tt) (placed_is (min (before + 1) 4294967295) (value m (bytes ∷ [])) first.0 first.1) (span_fits (written m first.0) short.0) in
+    rw (here, numbered_again n m rereads (before + 1) more rest.0 each.1 rest.1 short.1) refl) small
+
+values_again : {M : Type 0} (n : ℕ) (m : Message M) → Rereads m → (payloads : List (List ℕ)) (xs : List M) → AllByRecursion AreBytes payloads → values m payloads ≡ Ok xs → length (flat_map spelled (write_all n m xs)) < 2 ^ 64 → values m (map (λ x. written m x) xs) ≡ Ok xs
+unfolding values
+values_again n m rereads [] xs each e small = let none : [] ≡ xs = cc in rw (← none) refl
+values_again {M} n m rereads (bytes ∷ more) xs each e small =
+    let first = bind_ok (value m (bytes ∷ [])) (λ x. values m more >>= λ ys. Ok (x ∷ ys)) xs e in
+    let rest = bind_ok (values m more) (λ ys. Ok (first.0 ∷ ys)) xs first.2 in
+    let same : first.0 ∷ rest.0 ≡ xs = cc in
+    let P : List M → Type 0 = λ zs. length (flat_map spelled (write_all n m zs)) < 2 ^ 64 → values m (map (λ x. written m x) zs) ≡ Ok zs in
+    subst P same (λ fit.
+    let short = short_payload (record { number = n; payload = Span (written m first.0) }) (write_all n m rest.0) fit in
+    let here : value m (written m first.0 ∷ []) ≡ Ok first.0 = rereads (bytes ∷ []) first.0 (each.0, tt) first.1 (span_fits (written m first.0) short.0) in
+    rw (here, values_again n m rereads more rest.0 each.1 rest.1 short.1) refl) small
+
+list_is : {M : Type 0} (r : Result (List M) Fault) (v : List M) → ◌≡◌ {A = Result (Result (List M) Fault) Fault} (r >>= λ x. Ok (Ok x)) (Ok (Ok v)) → r ≡ Ok v
+list_is (Ok o) v e = cc
+list_is (Err f) v e = absurd (cc)
+
+-- messages in a repeated field, if each is read again itself
+pub repeated_lawful : {M : Type 0} (n : ℕ) (m : Message M) → Rereads m → IsLawful n n (repeated n m)
+repeated_lawful n m rereads =
+    record {
+      ordered = omega arith;
+      within = λ field h. is_exactly n field.number (at_number span_in n field h);
+      same = λ name fields others e. ap (λ payloads. values m payloads >>= λ xs. Ok (Ok xs)) (occurring_same span_in n fields others e);
+      knows = write_all_known n m;
+      fits = λ name fields xs each e small. write_all_fits n m xs small;
+      back = λ name fields xs each e small.
+          rw (write_all_occurring n m xs, values_again n m rereads (occurring span_in n fields) xs (occurring_bytes n fields each) (list_is (values m (occurring span_in n fields)) xs e) small) refl;
+    }
+
+-- the same, where a fault tells the number of its message
+pub numbered_lawful : {M : Type 0} (n : ℕ) (m : Message M) → Rereads m → IsLawful n n (numbered n m)
+numbered_lawful n m rereads =
+    record {
+      ordered = omega arith;
+      within = λ field h. is_exactly n field.number (at_number span_in n field h);
+      same = λ name fields others e. ap (λ payloads. numbered_values m 0 payloads >>= λ xs. Ok (Ok xs)) (occurring_same span_in n fields others e);
+      knows = write_all_known n m;
+      fits = λ name fields xs each e small. write_all_fits n m xs small;
+      back = λ name fields xs each e small.
+          rw (write_all_occurring n m xs, numbered_again n m rereads 0 (occurring span_in n fields) xs (occurring_bytes n fields each) (list_is (numbered_values m 0 (occurring span_in n fields)) xs e) small) refl;
+    }
+
+-- ---- rows under one another
+
+both_is : {A B : Type 0} (r : Result (Result A Fault) Fault) (s : Result (Result B Fault) Fault) (v : A × B) → (r >>= λ x. s >>= λ y. Ok (both x y)) ≡ Ok (Ok v) → (r ≡ Ok (Ok v.0)) × (s ≡ Ok (Ok v.1))
+both_is {A} {B} (Ok (Ok x)) (Ok (Ok y)) v e =
+    let same : ◌≡◌ {A = A × B} (x, y) v = cc in
+    (ap (λ (w : A × B). Ok (Ok w.0)) same, ap (λ (w : A × B). Ok (Ok w.1)) same)
+both_is (Ok (Ok x)) (Ok (Err f)) v e = absurd (cc)
+both_is (Ok (Ok x)) (Err f) v e = absurd (cc)
+both_is (Ok (Err f)) (Ok y) v e = absurd (cc)
+both_is (Ok (Err f)) (Err g) v e = absurd (cc)
+both_is (Err f) s v e = absurd (cc)
+
+or_first : (a b : Bool) → a ≡ true → (a || b) ≡ true
+or_first true b e = refl
+or_first false b e = absurd (cc)
+
+or_second : (a b : Bool) → b ≡ true → (a || b) ≡ true
+or_second true b e = refl
+or_second false b e = e
+
+within_both : (a b : Bool) (low mid next high number : ℕ) → low ≤ mid → mid < next → next ≤ high → (a ≡ true → (low ≤ number) × (number ≤ mid)) → (b ≡ true → (next ≤ number) × (number ≤ high)) → (a || b) ≡ true → (low ≤ number) × (number ≤ high)
+within_both true b low mid next high number l m h first second e = let k = first refl in (omega (arith, k.0), omega (arith, k.1))
+within_both false b low mid next high number l m h first second e = let k = second e in (omega (arith, k.0), omega (arith, k.1))
+
+fails_beyond : (a : Bool) (mid next low high number : ℕ) → mid < next → (a ≡ true → (low ≤ number) × (number ≤ mid)) → (next ≤ number) × (number ≤ high) → a ≡ false
+fails_beyond false mid next low high number m first k = refl
+fails_beyond true mid next low high number m first k = absurd (omega (arith, (first refl).1, k.0))
+
+fails_before : (b : Bool) (mid next low high number : ℕ) → mid < next → (b ≡ true → (next ≤ number) × (number ≤ high)) → (low ≤ number) × (number ≤ mid) → b ≡ false
+fails_before false mid next low high number m second k = refl
+fails_before true mid next low high number m second k = absurd (omega (arith, (second refl).0, k.1))
+
+pub joined_lawful : {A B : Type 0} (a : Rows A) (b : Rows B) (low mid next high : ℕ) → IsLawful low mid a → IsLawful next high b → mid < next → IsLawful low high (a ⊕ b)
+joined_lawful {A} {B} a b low mid next high first second apart =
+    record {
+      ordered = omega (arith, first.ordered, second.ordered);
+      within = λ field h. within_both (a.is_known field) (b.is_known field) low mid next high field.number first.ordered apart second.ordered (first.within field) (second.within field) h;
+      same = λ name fields others e.
+          ap (λ r. r >>= λ x. b.read name fields >>= λ y. Ok (both x y)) (first.same name fields others (same_within a.is_known known (λ field h. or_first (a.is_known field) (b.is_known field) h) fields others e))
+          ∙ ap (λ s. a.read name others >>= λ x. s >>= λ y. Ok (both x y)) (second.same name fields others (same_within b.is_known known (λ field h. or_second (a.is_known field) (b.is_known field) h) fields others e));
+      knows = λ v.
+          each_append (λ w. known (as_field w) ≡ true) (a.write v.0) (b.write v.1)
+          (each_then (λ w h. or_first (a.is_known (as_field w)) (b.is_known (as_field w)) h) (a.write v.0) (first.knows v.0))
+          (each_then (λ w h. or_second (a.is_known (as_field w)) (b.is_known (as_field w)) h) (b.write v.1) (second.knows v.1));
+      fits = λ name fields v each e small.
+          let parts = both_is (a.read name fields) (b.read name fields) v e in
+          let short = shorter (a.write v.0) (b.write v.1) small in
+          each_append (λ w. IsInRange w.payload) (a.write v.0) (b.write v.1) (first.fits name fields v.0 each parts.0 short.0) (second.fits name fields v.1 each parts.1 short.1);
+      back = λ name fields v each e small.
+          let parts = both_is (a.read name fields) (b.read name fields) v e in
+          let short = shorter (a.write v.0) (b.write v.1) small in
+          let front : a.read name (map as_field (a.write v.0 ++ b.write v.1)) ≡ Ok (Ok v.0) = first.same name _ _ (keeps_front v) ∙ first.back name fields v.0 each parts.0 short.0 in
+          let behind : b.read name (map as_field (a.write v.0 ++ b.write v.1)) ≡ Ok (Ok v.1) = second.same name _ _ (keeps_back v) ∙ second.back name fields v.1 each parts.1 short.1 in
+          rw (front, behind) refl;
+    }
+  where
+    known : Field → Bool
+    known field = a.is_known field || b.is_known field
+
+    shorter : (us ws : List Written) → length (flat_map spelled (us ++ ws)) < 2 ^ 64 → (length (flat_map spelled us) < 2 ^ 64) × (length (flat_map spelled ws) < 2 ^ 64)
+    shorter us ws small =
+        let h : length (flat_map spelled us) + length (flat_map spelled ws) < 2 ^ 64 = rw (flat_map-append spelled us ws, length-append (flat_map spelled us) (flat_map spelled ws)) at small in
+        (omega arith, omega arith)
+
+    keeps_front : (v : A × B) → filter a.is_known (map as_field (a.write v.0 ++ b.write v.1)) ≡ filter a.is_known (map as_field (a.write v.0))
+    keeps_front v =
+        ap (λ fields. filter a.is_known fields) (map-append as_field (a.write v.0) (b.write v.1))
+        ∙ filter-append a.is_known (map as_field (a.write v.0)) (map as_field (b.write v.1))
+        ∙ ap (λ rest. filter a.is_known (map as_field (a.write v.0)) ++ rest)
+        (filter_none a.is_known as_field (b.write v.1) (each_then (λ w h. fails_beyond (a.is_known (as_field w)) mid next low high w.number apart (first.within (as_field w)) (second.within (as_field w) h)) (b.write v.1) (second.knows v.1)))
+        ∙ append-nil _
+
+    keeps_back : (v : A × B) → filter b.is_known (map as_field (a.write v.0 ++ b.write v.1)) ≡ filter b.is_known (map as_field (b.write v.1))
+    keeps_back v =
+        ap (λ fields. filter b.is_known fields) (map-append as_field (a.write v.0) (b.write v.1))
+        ∙ filter-append b.is_known (map as_field (a.write v.0)) (map as_field (b.write v.1))
+        ∙ ap (λ front. front ++ filter b.is_known (map as_field (b.write v.1)))
+        (filter_none b.is_known as_field (a.write v.0) (each_then (λ w h. fails_before (b.is_known (as_field w)) mid next low high w.number apart (second.within (as_field w)) (first.within (as_field w) h)) (a.write v.0) (first.knows v.0)))

@@ -1,0 +1,19 @@
+// What a hub keeps.
+
+use rt_types::{Entity, FeedMessage};
+
+/// An accepted message, with the number of the feed that sent it.
+#[derive(Drop)]
+pub struct Entry {
+    /// Feeds are numbered from 0.
+    pub feed: u32,
+    pub message: FeedMessage,
+}
+
+/// An entity that a feed holds, with the time of the message that brought it.
+#[derive(Drop)]
+pub struct Stored {
+    pub entity: Entity,
+    /// In seconds since 1970.
+    pub stamp: u64,
+}
