@@ -1,0 +1,6 @@
+pub mod Options
+pub mod Lines
+pub mod Words
+pub mod Payloads
+pub mod Turns
+pub mod Runs
