@@ -1,0 +1,34 @@
+-- What a clause reads of an adapter: the object of std behind it, and its count of faults.
+use Rattle.std.specs.Prelude.{ℕ}
+use Rattle.hub_outside.specs.declared.adapters.source.StdSource.{StdSource}
+use Rattle.hub_outside.specs.declared.adapters.sink.StdSink.{StdSink}
+use Rattle.hub_outside.specs.declared.adapters.files.StdFiles.{StdFiles}
+use Rattle.hub_outside.specs.declared.adapters.clock.SystemClock.{SystemClock}
+
+-- the reader behind a source
+abbrev pub reader_of : {R : Type 0} → StdSource R → R
+reader_of source = source.reader
+
+-- the faults that a source over a reader met
+abbrev pub reader_faults : {R : Type 0} → StdSource R → ℕ
+reader_faults source = source.faults
+
+-- the writer behind a sink
+abbrev pub writer_of : {W : Type 0} → StdSink W → W
+writer_of sink = sink.writer
+
+-- the faults that a sink over a writer met
+abbrev pub writer_faults : {W : Type 0} → StdSink W → ℕ
+writer_faults sink = sink.faults
+
+-- the runtime behind the files of the system
+abbrev pub files_system : {R : Type 0} → StdFiles R → R
+files_system files = files.system
+
+-- the faults that the files of the system met
+abbrev pub files_faults : {R : Type 0} → StdFiles R → ℕ
+files_faults files = files.faults
+
+-- the runtime behind the system's clock
+abbrev pub clock_system : {C : Type 0} → SystemClock C → C
+clock_system clock = clock.system

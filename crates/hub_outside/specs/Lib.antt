@@ -1,0 +1,9 @@
+pub mod Count
+pub mod Source
+pub mod Sink
+pub mod Buffer
+pub mod Files
+pub mod Clock
+pub mod Calls
+pub mod Memory
+pub mod Adapters

@@ -1,0 +1,44 @@
+//! The outside of the hub: where bytes come from and go to, files, and the clock.
+//!
+//! Everything above reaches the outside by four traits alone: [`Source`], [`Sink`], [`Files`] and
+//! [`Clock`]. Each has a contract over what it *tells*: the bytes that a source has left, the bytes
+//! that a sink took, the map of files, the readings ahead. A real object tells nothing, a form in
+//! memory tells all, and code that is proved over the trait is right for both.
+//!
+//! What the layer above may rely on:
+//! - where contents are told, each answer says exactly what it took, left or found;
+//! - each trait that can fail has a count of faults, which never falls, and `Failed` is answered
+//!   only by a call that raised it (or found it at the last value of its 64 bits);
+//! - a call that is refused leaves the contents as they were.
+//!
+//! [`Buf`] is a buffer that says how much it takes without asking for memory. The forms in memory
+//! cut and fail their calls as their lists say. The adapters over std are a few lines each.
+//!
+//! The crate stands on std alone.
+#![tactic(auto)]
+
+mod adapters;
+mod buffers;
+mod clocks;
+mod file_stores;
+mod memory;
+mod sinks;
+mod sources;
+
+pub use adapters::clock::SystemClock;
+pub use adapters::files::StdFiles;
+pub use adapters::sink::StdSink;
+pub use adapters::source::StdSource;
+pub use buffers::Buf;
+pub use clocks::{Clock, LATEST_MOMENT};
+pub use file_stores::{FileAnswer, Files};
+pub use memory::clock::FixedClock;
+pub use memory::files::{MemoryFile, MemoryFiles};
+pub use memory::sink::MemorySink;
+pub use memory::source::MemorySource;
+pub use sinks::{Sink, WriteAnswer};
+pub use sources::{ReadAnswer, Source};
+pub use std::alloc::AllocError as NoMemory;
+
+#[cfg(test)]
+mod tests;

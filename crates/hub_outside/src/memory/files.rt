@@ -1,0 +1,96 @@
+// Files in memory.
+ghost use Rattle.std.specs.Prelude.{◌≡◌, ◌↔◌, ℕ, ◌<◌, ◌≤◌, List, Option, Some, IsTrue};
+ghost use Rattle.std.specs.List.{find};
+ghost use Rattle.std.specs.Option.{option_copied};
+ghost use Rattle.std.specs.Str.{bytes_eq};
+ghost use Rattle.hub_outside.specs.Files.{AnswersFile, HasFileCause};
+ghost use Rattle.hub_outside.specs.Buffer.{room_of};
+ghost use Rattle.hub_outside.specs.Calls.{uncalled, is_failing, after_call};
+ghost use Rattle.hub_outside.specs.Memory.{files_stored, store_faults};
+
+use super::calls::Calls;
+use crate::buffers::Buf;
+use crate::file_stores::{FileAnswer, Files};
+use std::marker::Model;
+
+/// A file in memory. Contracts see it as the pair of its path and its bytes.
+#[derive(Drop)]
+pub struct MemoryFile {
+    pub path: String,
+    pub bytes: Vec<u8>,
+}
+
+impl Model for MemoryFile {
+    ghost use Rattle.std.specs.Prelude.{ℕ, List, string_bytes};
+
+    ghost Value = { List ℕ × List ℕ };
+
+    ghost view = { λ file. (string_bytes file.path, file.bytes.items) };
+}
+
+/// Files in memory, of which the first of a path counts, with faults as they were told.
+#[derive(Drop)]
+pub struct MemoryFiles {
+    files: Vec<MemoryFile>,
+    calls: Calls,
+}
+
+impl Model for MemoryFiles {
+    ghost use Rattle.hub_outside.specs.Memory.{Stored};
+
+    ghost Value = { Stored };
+
+    ghost view = { λ s. record { files = s.files.items; calls = s.calls } };
+}
+
+impl MemoryFiles {
+    /// These files. The calls whose numbers, from 1 on, are in `failing` fail. It takes no memory.
+    pub fn new(files: Vec<MemoryFile>, failing: Vec<u64>) -> MemoryFiles
+        ensures { result ≡ record { files = files.items; calls = uncalled failing.items } }
+    {
+        MemoryFiles {
+            files,
+            calls: Calls::new(failing),
+        }
+    }
+}
+
+impl Files for MemoryFiles {
+    ghost contents = { λ s. Some (files_stored s) };
+
+    ghost faults = { store_faults };
+
+    /// Copies the file's bytes. It fails exactly where its call is listed. A file that is too long is
+    /// answered with its length.
+    fn read_file(&mut self, path: &str, limit: u64, into: &mut Buf) -> FileAnswer
+        ensures answer { AnswersFile result (Some (files_stored self.old)) path.now limit into.new.bytes }
+        ensures room { room_of into.old ≤ room_of into.new }
+        ensures memory { result ≡ FileAnswer.NoMemory → room_of into.old < limit }
+        ensures cause { HasFileCause result (store_faults self.old) (store_faults self.new) }
+        ensures fails { (result ≡ FileAnswer.Failed) ↔ IsTrue (is_failing self.old.calls) }
+        ensures after { self.new ≡ record self.old { calls = after_call self.old.calls } }
+    {
+        into.clear();
+        if self.calls.begin() {
+            return FileAnswer::Failed;
+        }
+        let Some(file) = first_at(&self.files, path) else {
+            return FileAnswer::Absent;
+        };
+        let length = file.bytes.len() as u64;
+        if limit < length {
+            return FileAnswer::TooLong(length);
+        }
+        let Ok(()) = into.push_all(&file.bytes) else {
+            return FileAnswer::NoMemory;
+        };
+        FileAnswer::Read
+    }
+}
+
+// The first file of that path.
+fn first_at<'a>(files: &'a [MemoryFile], path: &str) -> Option<&'a MemoryFile>
+    ensures { option_copied result ≡ find (λ file. bytes_eq file.0 path.now) files.now }
+{
+    files.iter().find(|file| file.path.as_str() == path)
+}
