@@ -1,0 +1,4 @@
+pub mod Spelt
+pub mod Groups
+pub mod Lists
+pub mod Rows

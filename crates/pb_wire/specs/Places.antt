@@ -1,0 +1,76 @@
+-- Fields that are read as places, seen over their bytes as the fields of the wire.
+use Rattle.std.specs.Prelude.{◌≡◌, ℕ, ◌+◌, ◌-◌, ◌<◌, ◌≤◌, List, [], ◌∷◌, length, map, slice_range, Result, Ok, Err, IsErr}
+use Rattle.wire_defs.specs.Field as wire
+use Rattle.wire_defs.specs.Field.Payload.{Varint, Eight, Span, Four}
+use Rattle.wire_defs.specs.Steps.{◌>>=◌}
+use Rattle.pb_wire.specs.declared.fault.WireFault.{WireFault}
+use Rattle.pb_wire.specs.declared.fault.WireFault.TheVariants.{NotFields, NoMemory}
+use Rattle.pb_wire.specs.declared.field.Payload.{Payload}
+use Rattle.pb_wire.specs.declared.field.Payload.TheVariants as placed
+use Rattle.pb_wire.specs.declared.field.Field.{Field}
+
+-- a payload, with the bytes that stand at its places
+abbrev pub payload_in : List ℕ → Payload → wire.Payload
+payload_in bytes (placed.Varint n) = Varint n
+payload_in bytes (placed.Eight n) = Eight n
+payload_in bytes (placed.Span from to) = Span (slice_range bytes from to)
+payload_in bytes (placed.Four n) = Four n
+
+-- a field, with the bytes that stand at its places
+abbrev pub field_in : List ℕ → Field → wire.Field
+field_in bytes field = record { number = field.number; payload = payload_in bytes field.payload; raw = slice_range bytes field.start field.end }
+
+-- fields, with the bytes that stand at their places
+abbrev pub fields_in : List ℕ → List Field → List wire.Field
+fields_in bytes fields = map (field_in bytes) fields
+
+-- the places of a payload lie between these
+abbrev pub LiesBetween : ℕ → ℕ → Payload → Type 0
+LiesBetween start end (placed.Varint n) = Unit {0}
+LiesBetween start end (placed.Eight n) = Unit {0}
+LiesBetween start end (placed.Span from to) = (start ≤ from) × (from ≤ to) × (to ≤ end)
+LiesBetween start end (placed.Four n) = Unit {0}
+
+-- the places of a field lie in bytes of this length
+pub record LiesWithin (limit : ℕ) (field : Field) : Type 0 where
+  pub taken : field.start < field.end
+  pub ended : field.end ≤ limit
+  pub carried : LiesBetween field.start field.end field.payload
+
+-- from a place on the fields stand one after another, each beginning where the one before it ends, up to the limit
+abbrev pub AreInRow : ℕ → ℕ → List Field → Type 0
+AreInRow at limit [] = at ≡ limit
+AreInRow at limit (f ∷ fs) = (f.start ≡ at) × AreInRow f.end limit fs
+
+-- what was answered is what is told of the bytes; memory may run out at any place
+abbrev pub Reads : {A V : Type 0} → (V → A) → Result A wire.Fault → Result V WireFault → Type 0
+Reads view told (Ok v) = told ≡ Ok (view v)
+Reads view told (Err NotFields) = IsErr told
+Reads view told (Err NoMemory) = Unit {0}
+
+-- a run of bytes is no longer than this
+abbrev pub FitsIn : wire.Payload → ℕ → Type 0
+FitsIn (Varint n) size = Unit {0}
+FitsIn (Eight n) size = Unit {0}
+FitsIn (Span content) size = length content ≤ size
+FitsIn (Four n) size = Unit {0}
+
+-- a payload by its places; a run of bytes stands at the end of its field
+abbrev pub payload_place : ℕ → wire.Payload → Payload
+payload_place end (Varint n) = placed.Varint n
+payload_place end (Eight n) = placed.Eight n
+payload_place end (Span content) = placed.Span (end - length content) end
+payload_place end (Four n) = placed.Four n
+
+-- a field by its places, where it starts at this place
+abbrev pub place : ℕ → wire.Field → Field
+place start field = record { number = field.number; payload = payload_place (start + length field.raw) field.payload; start = start; end = start + length field.raw }
+
+-- fields by their places, one behind another from this place on
+unfoldable pub places : ℕ → List wire.Field → List Field
+places at [] = []
+places at (f ∷ fs) = place at f ∷ places (at + length f.raw) fs
+
+-- the places of the fields that are told
+abbrev pub told_places : Result (List wire.Field) wire.Fault → Result (List Field) wire.Fault
+told_places told = told >>= λ fields. Ok (places 0 fields)

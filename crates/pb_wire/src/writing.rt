@@ -1,0 +1,86 @@
+// The one spelling that a writer chooses: the shortest varints.
+
+ghost use Rattle.std.specs.Prelude.{◌≡◌, ℕ, List, ◌++◌, ◌≤◌, OnOk, OnErr};
+ghost use Rattle.wire_defs.specs.Field.Payload.{Varint, Span};
+ghost use Rattle.wire_defs.specs.Writing.{varint, spelled};
+
+use std::alloc::AllocError;
+
+/// Appends the shortest varint of the value (Protocol Buffers, "Encoding", "Base 128 Varints"). Want of memory
+/// leaves `out` as it was.
+pub fn write_varint(value: u64, out: &mut Vec<u8>) -> Result<(), AllocError>
+    ensures written { OnOk result (out.new.items ≡ out.old.items ++ varint value) }
+    ensures kept { OnErr result (out.new.items ≡ out.old.items) }
+{
+    if value < 128 {
+        out.push(value as u8)?;
+        return Ok(());
+    }
+    let mut spelling = [0u8; 10];
+    let mut length = 0usize;
+    let mut rest = value;
+    'groups: while rest >= 128 {
+        spelling[length] = (rest % 128) as u8 + 128;
+        rest /= 128;
+        length += 1;
+    }
+    spelling[length] = rest as u8;
+    out.extend_from_slice(&spelling[..length + 1])
+}
+
+/// Appends a field of wire type 0: its tag and the value, in shortest varints. Want of memory leaves `out`
+/// as it was.
+pub fn write_scalar(number: u32, value: u64, out: &mut Vec<u8>) -> Result<(), AllocError>
+    requires first { 1 ≤ number }
+    requires last { number ≤ 536870911 }
+    ensures written { OnOk result
+        (out.new.items ≡ out.old.items ++ spelled (record { number = number; payload = Varint value })) }
+    ensures kept { OnErr result (out.new.items ≡ out.old.items) }
+{
+    let length = out.len();
+    let answer = append_scalar(number, value, out);
+    if answer.is_err() {
+        out.truncate(length);
+    }
+    answer
+}
+
+/// Appends a field of wire type 2: its tag, the length of the bytes and the bytes. Want of memory leaves
+/// `out` as it was.
+pub fn write_field(number: u32, bytes: &[u8], out: &mut Vec<u8>) -> Result<(), AllocError>
+    requires first { 1 ≤ number }
+    requires last { number ≤ 536870911 }
+    ensures written { OnOk result
+        (out.new.items ≡ out.old.items ++ spelled (record { number = number; payload = Span bytes.now })) }
+    ensures kept { OnErr result (out.new.items ≡ out.old.items) }
+{
+    let length = out.len();
+    let answer = append_field(number, bytes, out);
+    if answer.is_err() {
+        out.truncate(length);
+    }
+    answer
+}
+
+#[tactic(auto, unfolding(wire_defs::specs::Writing::spelled, wire_defs::specs::Writing::payload_bytes))]
+fn append_scalar(number: u32, value: u64, out: &mut Vec<u8>) -> Result<(), AllocError>
+    requires { number ≤ 536870911 }
+    ensures written { OnOk result
+        (out.new.items ≡ out.old.items ++ spelled (record { number = number; payload = Varint value })) }
+    ensures begins { OnErr result ((more : List ℕ) × (out.new.items ≡ out.old.items ++ more)) }
+{
+    write_varint(u64::from(number) * 8, out)?;
+    write_varint(value, out)
+}
+
+#[tactic(auto, unfolding(wire_defs::specs::Writing::spelled, wire_defs::specs::Writing::payload_bytes))]
+fn append_field(number: u32, bytes: &[u8], out: &mut Vec<u8>) -> Result<(), AllocError>
+    requires { number ≤ 536870911 }
+    ensures written { OnOk result
+        (out.new.items ≡ out.old.items ++ spelled (record { number = number; payload = Span bytes.now })) }
+    ensures begins { OnErr result ((more : List ℕ) × (out.new.items ≡ out.old.items ++ more)) }
+{
+    write_varint(u64::from(number) * 8 + 2, out)?;
+    write_varint(bytes.len() as u64, out)?;
+    out.extend_from_slice(bytes)
+}
