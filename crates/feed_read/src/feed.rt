@@ -1,0 +1,81 @@
+// The messages of a feed, as their tables list their fields.
+
+ghost use Rattle.feed_defs.specs.Table.{header, entity, feed};
+
+use crate::fault::ReadFault;
+use crate::message::{Message, needed};
+use crate::nested::{embedded, numbered};
+use crate::payload::{is_span, text};
+use crate::scalar::{is_scalar, last};
+use pb_wire::Part;
+use rt_types::{Bytes, Entity, FeedMessage, Header, Incrementality, Kind};
+use std::alloc::Global;
+
+impl Message for Header {
+    ghost table = { header };
+
+    fn kind() -> Kind {
+        Kind::FeedHeader
+    }
+
+    fn knows(part: &Part<'_>) -> bool {
+        is_span(1, part) || (is_scalar::<Incrementality>(2, part) || is_scalar::<u64>(3, part))
+    }
+
+    fn of_parts(alloc: Global, parts: &[Part<'_>], unknown: Bytes) -> Result<Header, ReadFault> {
+        let version = text(alloc, Kind::FeedHeader, 1, parts)?;
+        Ok(Header {
+            version: needed(Kind::FeedHeader, 1, version)?,
+            incrementality: last(2, parts),
+            timestamp: last(3, parts),
+            unknown,
+        })
+    }
+}
+
+impl Message for Entity {
+    ghost table = { entity };
+
+    fn kind() -> Kind {
+        Kind::FeedEntity
+    }
+
+    fn knows(part: &Part<'_>) -> bool {
+        is_span(1, part) || is_scalar::<bool>(2, part)
+    }
+
+    fn of_parts(alloc: Global, parts: &[Part<'_>], unknown: Bytes) -> Result<Entity, ReadFault> {
+        let id = text(alloc, Kind::FeedEntity, 1, parts)?;
+        Ok(Entity {
+            id: needed(Kind::FeedEntity, 1, id)?,
+            is_deleted: last(2, parts),
+            unknown,
+        })
+    }
+}
+
+impl Message for FeedMessage {
+    ghost table = { feed };
+
+    fn kind() -> Kind {
+        Kind::FeedMessage
+    }
+
+    fn knows(part: &Part<'_>) -> bool {
+        is_span(1, part) || is_span(2, part)
+    }
+
+    fn of_parts(
+        alloc: Global,
+        parts: &[Part<'_>],
+        unknown: Bytes,
+    ) -> Result<FeedMessage, ReadFault> {
+        let header = embedded(alloc, 1, parts)?;
+        let entity = numbered(alloc, 2, parts)?;
+        Ok(FeedMessage {
+            header: needed(Kind::FeedMessage, 1, header)?,
+            entity,
+            unknown,
+        })
+    }
+}

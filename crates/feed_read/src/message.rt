@@ -1,0 +1,75 @@
+// A message from its fields.
+
+ghost use Rattle.std.specs.Prelude.{◌≡◌, [], ◌∷◌, IfOk};
+ghost use Rattle.feed_defs.specs.Rows.{others, needed, value, Message as Table};
+ghost use Rattle.pb_wire.specs.Parts.{part_seen, parts_seen};
+ghost use Rattle.feed_read.specs.Reads.{Reads};
+
+use crate::fault::ReadFault;
+use crate::payload::add_parts;
+use pb_wire::Part;
+use rt_types::{Bytes, Kind, What};
+use std::alloc::{AllocError, Global};
+
+/// A message of the reference, as its table says.
+pub trait Message: Drop {
+    ghost table: { Table Self };
+
+    /// Its name.
+    fn kind() -> Kind
+        ensures { result ≡ table.kind };
+
+    /// Whether the part is a field of this message.
+    fn knows(part: &Part<'_>) -> bool
+        ensures { result ≡ table.is_known (part_seen part.now) };
+
+    /// The message of these parts and of the bytes of those that it doesn't know, or the first fault.
+    fn of_parts(alloc: Global, parts: &[Part<'_>], unknown: Bytes) -> Result<Self, ReadFault>
+        requires { unknown ≡ others table.is_known (parts_seen parts.now) }
+        ensures { Reads (table.of_fields (parts_seen parts.now)) result };
+}
+
+/// The bytes of the parts that the message doesn't know, in order.
+fn unknown<M: Message>(alloc: Global, parts: &[Part<'_>]) -> Result<Bytes, AllocError>
+    ensures { IfOk result (λ bytes. bytes ≡ others M.table.is_known (parts_seen parts.now)) }
+{
+    let mut bytes = Vec::new(alloc);
+    for part in parts {
+        if !M::knows(part) {
+            bytes.extend_from_slice(part.raw)?;
+        }
+    }
+    Bytes::new(alloc, bytes.as_slice())
+}
+
+/// The message of these parts, or the first fault in them.
+pub fn whole<M: Message>(alloc: Global, parts: &[Part<'_>]) -> Result<M, ReadFault>
+    ensures { Reads (M.table.of_fields (parts_seen parts.now)) result }
+{
+    let unknown = unknown::<M>(alloc, parts)?;
+    M::of_parts(alloc, parts, unknown)
+}
+
+/// The message of these bytes, or the first fault in them.
+pub fn read_one<M: Message>(alloc: Global, bytes: &[u8]) -> Result<M, ReadFault>
+    ensures { Reads (value M.table (bytes.now ∷ [])) result }
+{
+    let mut parts = Vec::new(alloc);
+    add_parts(M::kind(), bytes, &mut parts)?;
+    whole(alloc, parts.as_slice())
+}
+
+/// The value of a required field, or that it is missing.
+pub fn needed<A>(kind: Kind, number: u32, value: Option<A>) -> Result<A, ReadFault>
+    ensures { Reads (needed kind number value) result }
+{
+    match value {
+        Some(found) => Ok(found),
+        None => Err(ReadFault::Malformed {
+            entity: 0,
+            what: What::Missing,
+            kind,
+            field: number,
+        }),
+    }
+}

@@ -1,0 +1,106 @@
+// The kinds of fields that are messages: singular ones, merged of all their occurrences, and repeated ones.
+
+ghost use Rattle.std.specs.Prelude.{◌≡◌, [], ◌∷◌};
+ghost use Rattle.feed_defs.specs.Rows.{occurring, span_in, joined, merged, value, values, placed, numbered_values};
+ghost use Rattle.pb_wire.specs.Parts.{parts_seen};
+ghost use Rattle.feed_read.specs.Reads.{Reads};
+ghost use Rattle.feed_read.specs.Grows.{Grows};
+
+use crate::fault::ReadFault;
+use crate::message::{Message, read_one, whole};
+use crate::payload::{add_parts, last_span, span_at};
+use pb_wire::Part;
+use rt_types::{Items, Kind};
+use std::alloc::Global;
+
+/// Puts the fields of all payloads under this number behind the parts, in order.
+fn join_parts<'a>(
+    kind: Kind,
+    number: u32,
+    parts: &[Part<'a>],
+    inner: &mut Vec<Part<'a>>,
+) -> Result<(), ReadFault>
+    ensures { Grows (parts_seen inner.old.items) (parts_seen inner.new.items)
+        (joined kind (occurring span_in number (parts_seen parts.now))) result }
+{
+    for part in parts {
+        if let Some(bytes) = span_at(number, part) {
+            add_parts(kind, bytes, inner)?;
+        }
+    }
+    Ok(())
+}
+
+/// The singular message under this number, made of all its occurrences together.
+pub fn embedded<M: Message>(
+    alloc: Global,
+    number: u32,
+    parts: &[Part<'_>],
+) -> Result<Option<M>, ReadFault>
+    ensures { Reads (merged M.table (occurring span_in number (parts_seen parts.now))) result }
+{
+    if last_span(number, parts).is_none() {
+        return Ok(None);
+    }
+    let mut inner = Vec::new(alloc);
+    join_parts(M::kind(), number, parts, &mut inner)?;
+    Ok(Some(whole(alloc, inner.as_slice())?))
+}
+
+/// The messages of the repeated field with this number, each of its own payload.
+pub fn all<M: Message>(
+    alloc: Global,
+    number: u32,
+    parts: &[Part<'_>],
+) -> Result<Items<M>, ReadFault>
+    ensures { Reads (values M.table (occurring span_in number (parts_seen parts.now))) result }
+{
+    let mut items = Vec::new(alloc);
+    for part in parts {
+        if let Some(bytes) = span_at(number, part) {
+            items.push(read_one(alloc, bytes)?)?;
+        }
+    }
+    Ok(Items::new(items))
+}
+
+/// The message of these bytes, whose fault tells this entity.
+fn read_placed<M: Message>(alloc: Global, entity: u32, bytes: &[u8]) -> Result<M, ReadFault>
+    ensures { Reads (placed entity (value M.table (bytes.now ∷ []))) result }
+{
+    match read_one(alloc, bytes) {
+        Err(
+            ReadFault::Malformed {
+                what,
+                kind,
+                field,
+                ..
+            },
+        ) => Err(ReadFault::Malformed {
+            entity,
+            what,
+            kind,
+            field,
+        }),
+        other => other,
+    }
+}
+
+/// The messages of the repeated field with this number, whose faults tell which of them they are in.
+pub fn numbered<M: Message>(
+    alloc: Global,
+    number: u32,
+    parts: &[Part<'_>],
+) -> Result<Items<M>, ReadFault>
+    ensures { Reads (numbered_values M.table 0 (occurring span_in number (parts_seen parts.now))) result }
+{
+    let mut items = Vec::new(alloc);
+    let mut entity = 0u32;
+    for part in parts {
+        if let Some(bytes) = span_at(number, part) {
+            entity = entity.saturating_add(1);
+            items.push(read_placed(alloc, entity, bytes)?)?;
+        }
+    }
+    Ok(Items::new(items))
+}

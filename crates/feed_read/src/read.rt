@@ -1,0 +1,17 @@
+// The message of a byte list.
+
+ghost use Rattle.feed_defs.specs.Table.{read};
+ghost use Rattle.feed_read.specs.Reads.{Reads};
+
+use crate::fault::ReadFault;
+use crate::message::read_one;
+use rt_types::FeedMessage;
+use std::alloc::Global;
+
+/// The message of the bytes, or their first fault (GTFS Realtime 2.0; Protocol Buffers, "Encoding").
+#[tactic(auto, unfolding(feed_defs::specs::Table::read))]
+pub fn read_message(alloc: Global, bytes: &[u8]) -> Result<FeedMessage, ReadFault>
+    ensures { Reads (read bytes.now) result }
+{
+    read_one(alloc, bytes)
+}
