@@ -1,0 +1,81 @@
+-- Fields one after another are spelled one after another.
+use Rattle.std.proofs.Common.{◌≡◌, ◌<◌, ℕ, ◌+◌, ◌-◌, ◌*◌, List, [], ◌∷◌, ◌++◌, take, drop, length, get_or, refl, sym, ap, ◌∙◌, append_assoc, append-nil, arith}
+use Rattle.std.specs.Prelude.{◌^◌, Result, Ok, Err, OnOk}
+use Rattle.std.specs.List.{flat_map}
+use Rattle.std.proofs.lemmas.Grind.{flat_map-append}
+use Rattle.std.proofs.lemmas.List.{take_more, length-append}
+use Rattle.std.proofs.Math.Seq.{take-append_seam, drop-append_seam}
+use Rattle.wire_defs.specs.Field.Payload.{Span}
+use Rattle.wire_defs.specs.Writing.{Written, varint, payload_bytes, spelled}
+use Rattle.feed_defs.specs.Rows.{Message, written, write_all}
+use Rattle.wire_defs.specs.Spelling.{AreBytes}
+use Rattle.rt_types.specs.declared.message.FeedMessage.{FeedMessage}
+use Rattle.feed_defs.specs.Table.{read, write}
+use Rattle.feed_defs.proofs.Rereading.{read_again}
+use Rattle.feed_write.specs.Puts.{StartsWith}
+
+pub spelled_both : (a b : List Written) → flat_map spelled (a ++ b) ≡ flat_map spelled a ++ flat_map spelled b
+spelled_both a b = flat_map-append spelled a b
+
+pub starts_with : (old new more : List ℕ) → new ≡ old ++ more → StartsWith old new
+starts_with old new more e = record { more = more; whole = e }
+
+pub starts_on : (old mid new : List ℕ) → StartsWith old mid → StartsWith mid new → StartsWith old new
+starts_on old mid new a b = record { more = a.more ++ b.more; whole = b.whole ∙ ap (λ xs. xs ++ b.more) a.whole ∙ append_assoc old a.more b.more }
+
+-- a message more of a repeated field
+all_append : {M : Type 0} (n : ℕ) (m : Message M) (xs : List M) (y : M) → flat_map spelled (write_all n m (xs ++ y ∷ [])) ≡ flat_map spelled (write_all n m xs) ++ spelled (record { number = n; payload = Span (written m y) })
+all_append n m [] y = append-nil _
+all_append n m (x ∷ xs) y = ap (λ ys. spelled (record { number = n; payload = Span (written m x) }) ++ ys) (all_append n m xs y) ∙ sym (append_assoc (spelled (record { number = n; payload = Span (written m x) })) (flat_map spelled (write_all n m xs)) _)
+
+pub all_more : {M : Type 0} (n : ℕ) (m : Message M) (xs : List M) (i : ℕ) (y : M) (old before after : List ℕ) → i < length xs → y ≡ get_or xs i y
+    → before ≡ old ++ flat_map spelled (write_all n m (take i xs)) → after ≡ before ++ spelled (record { number = n; payload = Span (written m y) })
+    → after ≡ old ++ flat_map spelled (write_all n m (take (i + 1) xs))
+all_more n m xs i y old before after within item so_far appended =
+    appended ∙ ap (λ bs. bs ++ spelled (record { number = n; payload = Span (written m y) })) so_far
+    ∙ append_assoc old _ _
+    ∙ ap (λ bs. old ++ bs) (sym (all_append n m (take i xs) y) ∙ ap (λ ys. flat_map spelled (write_all n m ys)) (ap (λ x. take i xs ++ x ∷ []) item ∙ sym (take_more xs i y within)))
+
+-- content with its head behind it, once the two are swapped
+pub swapped_is : (n tag size start middle : ℕ) (old content one two all after : List ℕ) →
+    one ≡ old ++ content → two ≡ one ++ varint tag → all ≡ two ++ varint size → tag ≡ n * 8 + 2 → size ≡ middle - start
+    → start ≡ length old → middle ≡ length one
+    → after ≡ take start all ++ drop middle all ++ take (middle - start) (drop start all)
+    → after ≡ old ++ spelled (record { number = n; payload = Span content })
+unfolding spelled payload_bytes
+swapped_is n tag size start middle old content one two all after made tagged sized tag_is size_is begins ends swapped =
+    swapped
+    ∙ ap (λ bs. bs ++ drop middle all ++ take (middle - start) (drop start all)) front
+    ∙ ap (λ bs. old ++ bs ++ take (middle - start) (drop start all)) head
+    ∙ ap (λ bs. old ++ (varint (n * 8 + 2) ++ varint (length content)) ++ bs) body
+    ∙ append_assoc old (varint (n * 8 + 2) ++ varint (length content)) content
+    ∙ ap (λ bs. old ++ bs) (append_assoc (varint (n * 8 + 2)) (varint (length content)) content)
+  where
+    span : middle - start ≡ length content
+    span = let both : length one ≡ length old + length content = ap length made ∙ length-append old content in omega arith
+
+    whole : all ≡ old ++ (content ++ (varint (n * 8 + 2) ++ varint (length content)))
+    whole = sized ∙ ap (λ bs. bs ++ varint size) (tagged ∙ ap (λ bs. bs ++ varint tag) made) ∙ ap (λ k. ((old ++ content) ++ varint k) ++ varint size) tag_is ∙ ap (λ k. ((old ++ content) ++ varint (n * 8 + 2)) ++ varint k) (size_is ∙ span) ∙ simp append_assoc
+
+    front : take start all ≡ old
+    front = ap (λ k. take k all) begins ∙ ap (take (length old)) whole ∙ take-append_seam old _
+
+    behind : drop start all ≡ content ++ (varint (n * 8 + 2) ++ varint (length content))
+    behind = ap (λ k. drop k all) begins ∙ ap (drop (length old)) whole ∙ drop-append_seam old _
+
+    body : take (middle - start) (drop start all) ≡ content
+    body = ap (λ k. take k (drop start all)) span ∙ ap (take (length content)) behind ∙ take-append_seam content _
+
+    head : drop middle all ≡ varint (n * 8 + 2) ++ varint (length content)
+    head = ap (λ k. drop k all) (ends ∙ ap length made) ∙ ap (drop (length (old ++ content))) (whole ∙ sym (append_assoc old content _)) ∙ drop-append_seam (old ++ content) _
+
+-- a message that was written within a vector reads again
+pub written_again : {A E : Type 0} (r : Result A E) (m : FeedMessage) (before after : List ℕ) → length after < 2 ^ 64
+    → OnOk r (after ≡ before ++ write m) → OnOk r ((bytes : List ℕ) → AreBytes bytes → read bytes ≡ Ok m → read (write m) ≡ Ok m)
+written_again (Ok x) m before after small appended = λ bytes fits is.
+    let whole : length after ≡ length before + length (write m) = ap length appended ∙ length-append before (write m) in
+    let fit : length (write m) < 2 ^ 64 = omega arith in
+    read_again bytes m fits is fit
+written_again (Err e) m before after small appended = tt
+
+pub ruleset puts = (spelled_both, starts_on, append_assoc, append-nil)

@@ -1,0 +1,42 @@
+// The messages of GTFS Realtime 2.0, each a listing of its fields by rising number.
+
+ghost use Rattle.feed_defs.specs.Table.{feed, header, entity};
+
+use crate::fields::{put_all, put_message, put_scalar, put_text, put_unknown};
+use crate::message::Message;
+use rt_types::{Entity, FeedMessage, Header};
+use std::alloc::AllocError;
+
+impl Message for Header {
+    ghost table = { header };
+
+    #[tactic(auto, unfolding(feed_defs::specs::Rows::written), using(crate::proofs::Spelling::puts))]
+    fn put(&self, out: &mut Vec<u8>) -> Result<(), AllocError> {
+        put_text(1, &self.version, out)?;
+        put_scalar(2, self.incrementality, out)?;
+        put_scalar(3, self.timestamp, out)?;
+        put_unknown(&self.unknown, out)
+    }
+}
+
+impl Message for Entity {
+    ghost table = { entity };
+
+    #[tactic(auto, unfolding(feed_defs::specs::Rows::written), using(crate::proofs::Spelling::puts))]
+    fn put(&self, out: &mut Vec<u8>) -> Result<(), AllocError> {
+        put_text(1, &self.id, out)?;
+        put_scalar(2, self.is_deleted, out)?;
+        put_unknown(&self.unknown, out)
+    }
+}
+
+impl Message for FeedMessage {
+    ghost table = { feed };
+
+    #[tactic(auto, unfolding(feed_defs::specs::Rows::written), using(crate::proofs::Spelling::puts))]
+    fn put(&self, out: &mut Vec<u8>) -> Result<(), AllocError> {
+        put_message(1, &self.header, out)?;
+        put_all(2, self.entity.as_slice(), out)?;
+        put_unknown(&self.unknown, out)
+    }
+}

@@ -1,0 +1,94 @@
+// How each kind of field is written.
+
+ghost use Rattle.std.specs.Prelude.{◌≡◌, ◌≤◌, ◌-◌, ◌++◌, take, drop, length, OnOk};
+ghost use Rattle.std.specs.List.{flat_map};
+ghost use Rattle.wire_defs.specs.Field.Payload.{Span};
+ghost use Rattle.wire_defs.specs.Writing.{spelled};
+ghost use Rattle.feed_defs.specs.Rows.{written, write_if, write_all};
+ghost use Rattle.feed_write.specs.Puts.{StartsWith};
+
+use crate::message::Message;
+use crate::scalar::Scalar;
+use pb_wire::{write_field, write_scalar, write_varint};
+use rt_types::{Bytes, Text};
+use std::alloc::AllocError;
+
+/// Appends a number, where there is one.
+pub fn put_scalar<S: Scalar>(
+    number: u32,
+    value: Option<S>,
+    out: &mut Vec<u8>,
+) -> Result<(), AllocError>
+    requires first { 1 ≤ number }
+    requires last { number ≤ 536870911 }
+    ensures written { OnOk result (out.new.items ≡ out.old.items ++ flat_map spelled (write_if number S.payload value)) }
+    ensures begins { StartsWith out.old.items out.new.items }
+{
+    match value {
+        Some(value) => write_scalar(number, value.number(), out),
+        None => Ok(()),
+    }
+}
+
+/// Appends a text.
+pub fn put_text(number: u32, text: &Text, out: &mut Vec<u8>) -> Result<(), AllocError>
+    requires first { 1 ≤ number }
+    requires last { number ≤ 536870911 }
+    ensures written { OnOk result (out.new.items ≡ out.old.items ++ spelled (record { number = number; payload = Span text.now })) }
+    ensures begins { StartsWith out.old.items out.new.items }
+{
+    write_field(number, text.as_str().as_bytes(), out)
+}
+
+/// Appends a message, as its length and its bytes.
+pub fn put_message<M: Message>(
+    number: u32,
+    message: &M,
+    out: &mut Vec<u8>,
+) -> Result<(), AllocError>
+    requires first { 1 ≤ number }
+    requires last { number ≤ 536870911 }
+    ensures written { OnOk result (out.new.items ≡ out.old.items ++ spelled (record { number = number; payload = Span (written M.table message.now) })) }
+    ensures begins { StartsWith out.old.items out.new.items }
+{
+    let start = out.len();
+    message.put(out)?;
+    let end = out.len();
+    // The length is known only now: the head is written behind the content, and turned in front of it.
+    write_varint(u64::from(number) * 8 + 2, out)?;
+    write_varint((end - start) as u64, out)?;
+    swap_ends(out, start, end);
+    Ok(())
+}
+
+/// Appends the messages, each as a field of that number.
+pub fn put_all<M: Message>(number: u32, messages: &[M], out: &mut Vec<u8>) -> Result<(), AllocError>
+    requires first { 1 ≤ number }
+    requires last { number ≤ 536870911 }
+    ensures written { OnOk result (out.new.items ≡ out.old.items ++ flat_map spelled (write_all number M.table messages.now)) }
+    ensures begins { StartsWith out.old.items out.new.items }
+{
+    for message in messages {
+        put_message(number, message, out)?;
+    }
+    Ok(())
+}
+
+/// Appends the fields that a message doesn't know, as they came.
+pub fn put_unknown(bytes: &Bytes, out: &mut Vec<u8>) -> Result<(), AllocError>
+    ensures written { OnOk result (out.new.items ≡ out.old.items ++ bytes.now) }
+    ensures begins { StartsWith out.old.items out.new.items }
+{
+    out.extend_from_slice(bytes.as_slice())
+}
+
+/// Turns what stands from `middle` on in front of what stands from `start` on.
+fn swap_ends(out: &mut Vec<u8>, start: usize, middle: usize)
+    requires ordered { start ≤ middle }
+    requires within { middle ≤ length out.old.items }
+    ensures { out.new.items ≡ take start out.old.items ++ drop middle out.old.items ++ take (middle - start) (drop start out.old.items) }
+{
+    let turned = out.len() - middle;
+    let tail = &mut out[start..];
+    tail.rotate_right(turned);
+}
