@@ -1,0 +1,3 @@
+pub mod KeptLemmas
+pub mod LatestLemmas
+pub mod CombineLemmas

@@ -1,0 +1,66 @@
+// The judgement of an offered message.
+
+ghost use Rattle.std.specs.Prelude.{◌≡◌};
+ghost use Rattle.feed_defs.specs.History.{judged, well_formed, is_sound, stamp_of};
+ghost use Rattle.hub_core.specs.Answers.{Judges, Forms};
+
+use crate::refusal::Refusal;
+use feed_read::{ReadFault, read_message};
+use rt_types::FeedMessage;
+use std::alloc::Global;
+
+/// The most bytes that a message may have.
+const LONGEST_MESSAGE: usize = 16_777_216;
+
+/// The last second of the year 9999, since 1970.
+const LAST_MOMENT: u64 = 253_402_300_799;
+
+/// The message of the bytes, where it is well-formed and its stamp is above `last`, which is in seconds
+/// since 1970; else why it is refused.
+pub fn check(alloc: Global, last: u64, bytes: &[u8]) -> Result<FeedMessage, Refusal>
+    ensures { Judges (judged last bytes.now) result }
+{
+    let message = formed(alloc, bytes)?;
+    let got = stamp(&message);
+    if got <= last {
+        return Err(Refusal::Stale { last, got });
+    }
+    Ok(message)
+}
+
+/// The message of well-formed bytes: at most 16,777,216 of them, that read as a message of the versions
+/// 1.0 or 2.0 with a stamp up to the end of the year 9999.
+fn formed(alloc: Global, bytes: &[u8]) -> Result<FeedMessage, Refusal>
+    ensures { Forms (well_formed bytes.now) result }
+{
+    if bytes.len() > LONGEST_MESSAGE {
+        return Err(Refusal::NotWellFormed);
+    }
+    match read_message(alloc, bytes) {
+        Ok(message) => {
+            if is_sound(&message) {
+                Ok(message)
+            } else {
+                Err(Refusal::NotWellFormed)
+            }
+        }
+        Err(ReadFault::Malformed { .. }) => Err(Refusal::NotWellFormed),
+        Err(ReadFault::NoMemory) => Err(Refusal::NoMemory),
+    }
+}
+
+/// Whether the message has a version and a stamp that a hub takes.
+fn is_sound(message: &FeedMessage) -> bool
+    ensures { result ≡ is_sound message.now }
+{
+    let version = message.header.version.as_str();
+    let moment = stamp(message);
+    (version == "1.0" || version == "2.0") && (1 <= moment && moment <= LAST_MOMENT)
+}
+
+/// When the message was made, in seconds since 1970; 0 where it doesn't say.
+pub fn stamp(message: &FeedMessage) -> u64
+    ensures { result ≡ stamp_of message.now }
+{
+    message.header.timestamp.unwrap_or(0)
+}
