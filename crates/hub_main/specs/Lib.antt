@@ -1,0 +1,7 @@
+pub mod Lines
+pub mod Window
+pub mod Writing
+pub mod Feeds
+pub mod Records
+pub mod Steps
+pub mod Outcome

@@ -1,0 +1,14 @@
+-- What writing some bytes does to the output.
+use Rattle.std.specs.Prelude.{ℕ, ◌≤◌, List, length, take, Option, Result, Ok, Err}
+use Rattle.std.specs.Io.KnownBytes.{Appends}
+use Rattle.hub_outside.specs.Count.{Rose}
+
+-- the output grew by all the bytes, or, where it failed, by the first of them
+abbrev pub Writes : {A E : Type 0} → Result A E → Option (List ℕ) → Option (List ℕ) → List ℕ → Type 0
+Writes (Ok x) written written' bytes = Appends written written' bytes
+Writes (Err e) written written' bytes = (n : ℕ) × (n ≤ length bytes) × Appends written written' (take n bytes)
+
+-- the output's count of faults did not fall, and rose where it failed
+abbrev pub HasWritingCause : {A E : Type 0} → Result A E → ℕ → ℕ → Type 0
+HasWritingCause (Ok x) before after = before ≤ after
+HasWritingCause (Err e) before after = (before ≤ after) × Rose before after
