@@ -1,0 +1,112 @@
+-- What the rows of a file are, or its first fault, from the records into which `csv` cuts its bytes.
+use Rattle.std.specs.Prelude.{ℕ, ◌≡◌, Bool, ◌||◌, ◌==◌, nat_le, if◌then◌else◌, bytes_eq, is_none, List, [], ◌∷◌, map, slice_index_or, Option, Some, None, Result, Ok, Err, ⊤, Vec}
+use Rattle.std.specs.List.{position_from, enumerate_from}
+use Rattle.csv.specs.Reading.{records, default_config, strip_bom}
+use Rattle.gtfs_rows.specs.Names.{column_name}
+use Rattle.gtfs_rows.specs.Tables.{Columns, and_then}
+use Rattle.gtfs_rows.specs.declared.column.Column.{Column}
+use Rattle.gtfs_rows.specs.declared.column.Heading.{Heading}
+use Rattle.gtfs_rows.specs.declared.column.Heading.TheVariants.{Required, Optional}
+use Rattle.std.specs.declared.alloc.Global.{Global}
+use Rattle.gtfs_rows.specs.declared.fault.RowFault.{RowFault}
+use Rattle.gtfs_rows.specs.declared.fault.RowFault.TheVariants as fault
+
+-- spaces and tabs
+abbrev pub is_blank : ℕ → Bool
+is_blank b = (b == 32) || (b == 9)
+
+-- bytes without the blanks in front of them
+abbrev pub trimmed_start : List ℕ → List ℕ
+trimmed_start [] = []
+trimmed_start (b ∷ bytes) = if is_blank b then trimmed_start bytes else b ∷ bytes
+
+-- a byte in front of bytes that have no blanks behind them
+abbrev pub before_trimmed : ℕ → List ℕ → List ℕ
+before_trimmed b [] = if is_blank b then [] else b ∷ []
+before_trimmed b (c ∷ bytes) = b ∷ c ∷ bytes
+
+-- bytes without the blanks behind them
+abbrev pub trimmed_end : List ℕ → List ℕ
+trimmed_end [] = []
+trimmed_end (b ∷ bytes) = before_trimmed b (trimmed_end bytes)
+
+-- bytes without blanks at both ends
+unfoldable pub trimmed : List ℕ → List ℕ
+trimmed bytes = trimmed_end (trimmed_start bytes)
+
+-- where a column stands: at the first field of the header that is its name
+abbrev pub place_of : List (List ℕ) → Column → Option ℕ
+place_of header column = position_from (λ name. bytes_eq (trimmed name) (column_name column)) 0 header
+
+-- the field at a place: empty where there is no such place, or the record is too short for it
+abbrev pub field_in : List (List ℕ) → Option ℕ → List ℕ
+field_in fields None = []
+field_in fields (Some place) = slice_index_or fields place []
+
+-- a record's cell in a column
+abbrev pub cell_of : List (List ℕ) → List (List ℕ) → Column → List ℕ
+cell_of header fields column = trimmed (field_in fields (place_of header column))
+
+-- the column that a header lacks, where the file may not do without it
+abbrev pub missing_in : List (List ℕ) → Heading → Option Column
+missing_in header (Required column) = if is_none (place_of header column) then Some column else None
+missing_in header (Optional column) = None
+
+-- a value, or else another
+abbrev pub or_else : {A : Type 0} → Option A → Option A → Option A
+or_else None other = other
+or_else (Some x) other = Some x
+
+-- the first column that a header lacks
+abbrev pub first_missing : List (List ℕ) → List Heading → Option Column
+first_missing header [] = None
+first_missing header (heading ∷ headings) = or_else (missing_in header heading) (first_missing header headings)
+
+-- the row of the last record that a file may have: its header, and 4,000,000 rows of data
+abbrev pub last_row : ℕ
+last_row = 4000001
+
+-- what a record of data says, of which the number among all records is given, and the cells
+abbrev pub row_of : {R : Type 0} → Columns R → (List (List ℕ) → Column → List ℕ) → ℕ × List (List ℕ) → Result R RowFault
+row_of columns cells (row, fields) = if nat_le row last_row then columns.read row (cells fields) else Err fault.TooMany
+
+-- all values in order, or the first fault
+abbrev pub all_ok : {A : Type 0} → List (Result A RowFault) → Result (List A) RowFault
+all_ok [] = Ok []
+all_ok (r ∷ rs) = and_then r (λ x. and_then (all_ok rs) (λ xs. Ok (x ∷ xs)))
+
+-- the rows of records, the first of which has this number among all records; or the first fault
+unfoldable pub rows_from : {R : Type 0} → Columns R → (List (List ℕ) → Column → List ℕ) → ℕ → List (List (List ℕ)) → Result (List R) RowFault
+rows_from columns cells row recs = all_ok (map (row_of columns cells) (enumerate_from row recs))
+
+-- the fault of a missing column, or else the rows
+abbrev pub unless_missing : {R : Type 0} → Option Column → Result (List R) RowFault → Result (List R) RowFault
+unless_missing None rows = rows
+unless_missing (Some column) rows = Err (fault.MissingColumn column)
+
+-- the rows of a file with this header and these records of data, or its first fault
+abbrev pub rows_under : {R : Type 0} → Columns R → List (List ℕ) → List (List (List ℕ)) → Result (List R) RowFault
+rows_under columns header recs = unless_missing (first_missing header columns.headings) (rows_from columns (cell_of header) 2 recs)
+
+-- the same of all records: the first is the header, and a file without records has an empty one
+abbrev pub rows_of_records : {R : Type 0} → Columns R → List (List (List ℕ)) → Result (List R) RowFault
+rows_of_records columns [] = rows_under columns [] []
+rows_of_records columns (header ∷ recs) = rows_under columns header recs
+
+-- the rows of a file with these columns, or its first fault
+unfoldable pub rows_of : {R : Type 0} → Columns R → List ℕ → Result (List R) RowFault
+rows_of columns bytes = rows_of_records columns (records default_config (strip_bom bytes))
+
+-- an answer is what is told; only want of memory may come in its place
+abbrev pub Answers : {A : Type 0} → Result A RowFault → Result A RowFault → Type 0
+Answers told (Ok x) = told ≡ Ok x
+Answers told (Err (fault.MissingColumn column)) = told ≡ Err (fault.MissingColumn column)
+Answers told (Err (fault.BadValue row column)) = told ≡ Err (fault.BadValue row column)
+Answers told (Err (fault.NotText row column)) = told ≡ Err (fault.NotText row column)
+Answers told (Err fault.TooMany) = told ≡ Err fault.TooMany
+Answers told (Err fault.NoMemory) = ⊤
+
+-- the rows that a reader gave, as a list
+abbrev pub rows_given : {R : Type 0} → Result (Vec R Global) RowFault → Result (List R) RowFault
+rows_given (Ok rows) = Ok rows.items
+rows_given (Err e) = Err e

@@ -1,0 +1,99 @@
+//! The rows of the seven files of a GTFS timetable.
+//!
+//! There is one reader per file. It takes the bytes of the file and gives its rows, or the first fault:
+//! a column that is missing, a field that isn't UTF-8 or isn't of its column's form, more than 4,000,000
+//! rows. The definitions are in `specs/`: `Tables` has the columns of each file, `Values` the forms of
+//! their fields, `Files` what the rows of a file are. Each reader answers by them exactly, and only want
+//! of memory may come in place of an answer. What a reference from one file to another means, and which
+//! rows are duplicates, is for the layer above.
+//!
+//! The crate stands on `csv`, which cuts the bytes into records, and on nothing of this repository.
+#![tactic(auto)]
+
+ghost use Rattle.gtfs_rows.specs.Files.{Answers, rows_given, rows_of};
+ghost use Rattle.gtfs_rows.specs.Tables.{agency, calendar, exceptions, routes, stop_times, stops, trips};
+
+mod cell_text;
+mod cells;
+mod column;
+mod fault;
+mod file;
+mod records;
+mod rows;
+mod tables;
+mod values;
+
+pub use cell_text::CellText;
+pub use column::Column;
+pub use fault::RowFault;
+use file::read_rows;
+pub use rows::{AgencyRow, CalendarRow, ExceptionRow, RouteRow, StopRow, StopTimeRow, TripRow};
+pub use std::alloc::AllocError as NoMemory;
+use std::alloc::Global;
+
+/// The rows of agency.txt in their order, or the first fault of the file.
+///
+/// `agency_id` may be absent.
+pub fn read_agencies(alloc: Global, bytes: &[u8]) -> Result<Vec<AgencyRow>, RowFault>
+    ensures { Answers (rows_of agency bytes.now) (rows_given result) }
+{
+    read_rows(alloc, bytes)
+}
+
+/// The rows of stops.txt in their order, or the first fault of the file.
+///
+/// `stop_id` must be there; `stop_name`, `location_type` and `parent_station` may be absent.
+pub fn read_stops(alloc: Global, bytes: &[u8]) -> Result<Vec<StopRow>, RowFault>
+    ensures { Answers (rows_of stops bytes.now) (rows_given result) }
+{
+    read_rows(alloc, bytes)
+}
+
+/// The rows of routes.txt in their order, or the first fault of the file.
+///
+/// `route_id` and `route_type` must be there; `agency_id`, `route_short_name` and `route_long_name` may be
+/// absent.
+pub fn read_routes(alloc: Global, bytes: &[u8]) -> Result<Vec<RouteRow>, RowFault>
+    ensures { Answers (rows_of routes bytes.now) (rows_given result) }
+{
+    read_rows(alloc, bytes)
+}
+
+/// The rows of trips.txt in their order, or the first fault of the file.
+///
+/// `trip_id`, `route_id` and `service_id` must be there; `trip_headsign` and `direction_id` may be absent.
+pub fn read_trips(alloc: Global, bytes: &[u8]) -> Result<Vec<TripRow>, RowFault>
+    ensures { Answers (rows_of trips bytes.now) (rows_given result) }
+{
+    read_rows(alloc, bytes)
+}
+
+/// The rows of stop_times.txt in their order, or the first fault of the file.
+///
+/// All columns but `pickup_type` must be there. An empty time is `None`.
+pub fn read_stop_times(alloc: Global, bytes: &[u8]) -> Result<Vec<StopTimeRow>, RowFault>
+    ensures { Answers (rows_of stop_times bytes.now) (rows_given result) }
+{
+    read_rows(alloc, bytes)
+}
+
+/// The rows of calendar.txt in their order, or the first fault of the file.
+///
+/// All columns must be there.
+pub fn read_calendar(alloc: Global, bytes: &[u8]) -> Result<Vec<CalendarRow>, RowFault>
+    ensures { Answers (rows_of calendar bytes.now) (rows_given result) }
+{
+    read_rows(alloc, bytes)
+}
+
+/// The rows of calendar_dates.txt in their order, or the first fault of the file.
+///
+/// All columns must be there.
+pub fn read_exceptions(alloc: Global, bytes: &[u8]) -> Result<Vec<ExceptionRow>, RowFault>
+    ensures { Answers (rows_of exceptions bytes.now) (rows_given result) }
+{
+    read_rows(alloc, bytes)
+}
+
+#[cfg(test)]
+mod tests;
