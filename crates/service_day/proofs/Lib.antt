@@ -1,0 +1,4 @@
+pub mod CalendarLemmas
+pub mod ZoneLemmas
+pub mod WorkedRows
+pub mod CalendarLaws

@@ -1,0 +1,3 @@
+pub mod Calendar
+pub mod Service
+pub mod Zone
