@@ -1,0 +1,9 @@
+pub mod Found
+pub mod Days
+pub mod PlainLemmas
+pub mod Lists
+pub mod RunLemmas
+pub mod ChildrenLemmas
+pub mod Checks
+pub mod CityLemmas
+pub mod TimetableLaws

@@ -1,0 +1,61 @@
+-- Lists that stand in vectors, and the places of trips.
+use Rattle.std.proofs.Common.{◌≡◌, ℕ, ◌+◌, ◌^◌, ◌<◌, ◌≤◌, List, [], length, map, sum_by, get_or, take, slice_get, unwrap_or, sym, ap, ◌∙◌, arith, ℤ, w64, SFits}
+use Rattle.std.proofs.lemmas.Int.{ints}
+use Rattle.std.specs.Global.{Vec}
+use Rattle.std.proofs.lemmas.List.{get_or-map, length-map}
+use Rattle.std.proofs.lemmas.List.FromFn.{get_or-map-range_with_len, length-map-range_with_len}
+use Rattle.std.proofs.lemmas.List.Sums.{get_or-le-sum_by, sum_by_more, sum_by-take-le}
+use Rattle.std.proofs.lemmas.Option.{unwrap_or-slice_get}
+use Rattle.sched_types.specs.declared.rows.Place.{Place}
+use Rattle.sched_types.specs.declared.plan.Plan.TheInside.{Inside}
+use Rattle.sched_types.specs.Timetable.{Timetable, IsTimetable, IsSmall, places_of, days_of, children_of}
+use Rattle.sched_types.specs.Sound.{table_in, IsSound}
+
+-- small seconds fit 64 bits
+pub fits_seconds : (seconds : ℤ) → IsSmall seconds → SFits w64 seconds
+fits_seconds seconds small = omega (arith, ints, small.above, small.below)
+
+-- the list in the vector at a place
+pub read_within : {A : Type 0} (vs : List (Vec A)) (i : ℕ) (d : Vec A) → i < length vs → unwrap_or (slice_get (map (λ v. v.items) vs) i) [] ≡ (get_or vs i d).items
+read_within vs i d h = unwrap_or-slice_get (map (λ v. v.items) vs) i [] ∙ get_or-map (λ v. v.items) vs i d [] h
+
+-- the places of one more trip
+pub taken_more : (vs : List (Vec Place)) (i : ℕ) (trip : Vec Place) → i < length vs → trip ≡ get_or vs i trip → sum_by length (take (i + 1) (map (λ v. v.items) vs)) ≡ sum_by length (take i (map (λ v. v.items) vs)) + length trip.items
+taken_more vs i trip h e =
+    sum_by_more length (map (λ v. v.items) vs) i [] (omega (arith, length-map vs (λ v. v.items)))
+    ∙ ap (λ n. sum_by length (take i (map (λ v. v.items) vs)) + n) (ap length (get_or-map (λ v. v.items) vs i trip [] h ∙ ap (λ v. v.items) (sym e)))
+
+pub taken_le : (vs : List (Vec Place)) (i : ℕ) (trip : Vec Place) → i < length vs → trip ≡ get_or vs i trip → sum_by length (take i (map (λ v. v.items) vs)) + length trip.items ≤ sum_by length (map (λ v. v.items) vs)
+taken_le vs i trip h e = omega (arith, taken_more vs i trip h e, sum_by-take-le length (map (λ v. v.items) vs) (i + 1))
+
+-- no trip has more places than all trips together
+pub few_places : (t : Timetable) (sound : IsTimetable t) (trip : ℕ) → trip < length t.trips → length (places_of t trip) < 2 ^ 32
+few_places t sound trip h =
+    omega (arith, sound.few_times, sound.places_each, get_or-le-sum_by length t.places trip [] (omega (arith, sound.places_each)), ap length (unwrap_or-slice_get t.places trip []))
+
+module _ (p : Inside) (sound : IsSound p) where
+  -- there is a list of places for each trip, and one of children for each stop
+  pub length_places : length p.places.items ≡ length p.trips.items
+  length_places = sym (length-map p.places.items (λ v. v.items)) ∙ sound.table.places_each
+
+  pub length_active : length p.active.items ≡ length (table_in p).active
+  length_active = sym (length-map p.active.items (λ v. v.items))
+
+  pub length_children : length p.children.items ≡ length p.stops.items
+  length_children =
+      sym (length-map p.children.items (λ v. v.items)) ∙ ap length sound.children
+      ∙ length-map-range_with_len (children_of p.stops.items) 0 (length p.stops.items)
+
+  -- the places that are kept for a trip, and the days for a service
+  pub places_at : (trip : ℕ) (places : Vec Place) → trip < length p.trips.items → places ≡ get_or p.places.items trip places → places.items ≡ places_of (table_in p) trip
+  places_at trip places h e = ap (λ v. v.items) e ∙ sym (read_within p.places.items trip places (omega (arith, length_places)))
+
+  pub days_at : (service : ℕ) (days : Vec ℕ) → service < length (table_in p).active → days ≡ get_or p.active.items service days → days.items ≡ days_of (table_in p) service
+  days_at service days h e = ap (λ v. v.items) e ∙ sym (read_within p.active.items service days (omega (arith, length_active)))
+
+  -- the children that are kept for a stop
+  pub children_at : (stop : ℕ) (d : Vec ℕ) → stop < length p.stops.items → (get_or p.children.items stop d).items ≡ children_of p.stops.items stop
+  children_at stop d h =
+      sym (get_or-map (λ v. v.items) p.children.items stop d [] (omega (arith, length_children)))
+      ∙ ap (λ l. get_or l stop []) sound.children
+      ∙ get_or-map-range_with_len (children_of p.stops.items) 0 (length p.stops.items) stop stop [] h (omega arith)

@@ -1,0 +1,29 @@
+-- What a plan keeps, beside the lists of its timetable.
+use Rattle.std.specs.Prelude.{◌≡◌, ℕ, List, length, map}
+use Rattle.std.specs.List.{range_with_len}
+use Rattle.sched_types.specs.declared.rows.Stop.{Stop}
+use Rattle.sched_types.specs.declared.plan.Plan.TheInside.{Inside}
+use Rattle.sched_types.specs.Timetable.{Timetable, IsTimetable, children_of, dates_of}
+
+-- the timetable that the fields of a plan show
+abbrev pub table_in : Inside → Timetable
+table_in p = record {
+  agencies = p.agencies.items;
+  stops = p.stops.items;
+  routes = p.routes.items;
+  trips = p.trips.items;
+  places = map (λ v. v.items) p.places.items;
+  active = map (λ v. v.items) p.active.items;
+  first = p.first;
+  bases = p.bases.items;
+}
+
+-- for each stop the stops that name it as parent_station
+abbrev pub all_children : List Stop → List (List ℕ)
+all_children stops = map (children_of stops) (range_with_len 0 (length stops))
+
+-- a plan's lists are a timetable, and its lists of children and of dates are right
+pub record IsSound (p : Inside) : Type 0 where
+  pub table : IsTimetable (table_in p)
+  pub children : map (λ v. v.items) p.children.items ≡ all_children p.stops.items
+  pub dates : p.dates.items ≡ dates_of (table_in p)

@@ -1,0 +1,72 @@
+//! The timetables and the feeds of one hub.
+ghost use Rattle.std.specs.Prelude.{◌≡◌};
+ghost use Rattle.sched_types.specs.Schedules.{Schedules, AreSchedules};
+
+use crate::names::PlanName;
+use crate::plan::Plan;
+use std::marker::Model;
+
+/// A timetable, with its name and the prefix that its ids get where feeds are combined.
+#[derive(Drop)]
+pub struct NamedPlan {
+    pub name: PlanName,
+    pub prefix: PlanName,
+    pub plan: Plan,
+}
+
+/// A feed of realtime messages, with its name and the number of its timetable.
+#[derive(Debug, Drop)]
+pub struct NamedFeed {
+    pub name: PlanName,
+    pub plan: u32,
+}
+
+/// The timetables and the feeds of one hub. They are numbered from 0 in the order in which they were
+/// given.
+#[derive(Drop)]
+pub struct Plans {
+    plans: Vec<NamedPlan>,
+    feeds: Vec<NamedFeed>,
+}
+
+impl Model for Plans {
+    ghost use Rattle.sched_types.specs.Schedules.{Schedules, AreSchedules};
+
+    ghost Value = { Schedules };
+
+    ghost view = { λ s. record { plans = s.plans.items; feeds = s.feeds.items } };
+
+    ghost invariant = { λ s. AreSchedules (record { plans = s.plans.items; feeds = s.feeds.items }) };
+}
+
+impl Plans {
+    /// Those timetables and feeds: up to 8 and up to 64, with distinct names of 1 to 32 of a to z, 0 to
+    /// 9 and `_`, and each feed with the number of a timetable.
+    pub fn new(plans: Vec<NamedPlan>, feeds: Vec<NamedFeed>) -> Plans
+        requires { AreSchedules (record { plans = plans.items; feeds = feeds.items }) }
+        ensures { result ≡ record { plans = plans.items; feeds = feeds.items } }
+    {
+        Plans { plans, feeds }
+    }
+
+    /// The timetables, in order.
+    pub fn plans(&self) -> &[NamedPlan]
+        ensures { result.now ≡ self.now.plans }
+    {
+        self.plans.as_slice()
+    }
+
+    /// The feeds, in order.
+    pub fn feeds(&self) -> &[NamedFeed]
+        ensures { result.now ≡ self.now.feeds }
+    {
+        self.feeds.as_slice()
+    }
+
+    /// Does nothing; its contract tells what is true of all timetables and feeds of a hub.
+    pub fn sound(&self)
+        ensures { AreSchedules self.now }
+    {
+        let _plans = &self.plans;
+    }
+}
