@@ -1,0 +1,5 @@
+pub mod OnFiles
+pub mod Examples
+pub mod RowExamples
+pub mod Listing
+pub mod Moves

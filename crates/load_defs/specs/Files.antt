@@ -1,0 +1,58 @@
+-- Where the files of a GTFS dataset lie, and what the rows of a file are, or its first fault.
+use Rattle.std.specs.Prelude.{ℕ, nat_lt, if◌then◌else◌, List, [], ◌∷◌, ◌++◌, length, codes, Option, Some, None, Result, Ok, Err}
+use Rattle.gtfs_rows.specs.Files.{rows_of}
+use Rattle.gtfs_rows.specs.Tables.{Columns}
+use Rattle.gtfs_rows.specs.declared.fault.RowFault.{RowFault}
+use Rattle.load_defs.specs.declared.fault.File.{File}
+use Rattle.load_defs.specs.declared.fault.File.TheVariants as file
+use Rattle.load_defs.specs.declared.fault.LoadFault.{LoadFault}
+use Rattle.load_defs.specs.declared.fault.LoadFault.TheVariants as fault
+
+infixl 10 ◌>>=◌
+-- what follows from a value; the first fault stays
+abbrev pub ◌>>=◌ : {A B : Type 0} → Result A LoadFault → (A → Result B LoadFault) → Result B LoadFault
+(Ok x) >>= f = f x
+(Err e) >>= f = Err e
+
+-- a value, unless there is a fault
+abbrev pub unless : {A : Type 0} → Option LoadFault → A → Result A LoadFault
+unless None x = Ok x
+unless (Some e) x = Err e
+
+-- the name of a file (GTFS Schedule, "Dataset Files")
+abbrev pub file_name : File → List ℕ
+file_name file.Agency = codes "agency.txt"
+file_name file.Stops = codes "stops.txt"
+file_name file.Routes = codes "routes.txt"
+file_name file.Trips = codes "trips.txt"
+file_name file.StopTimes = codes "stop_times.txt"
+file_name file.Calendar = codes "calendar.txt"
+file_name file.CalendarDates = codes "calendar_dates.txt"
+
+-- the path of a file in a folder: a slash stands between them
+abbrev pub path_of : List ℕ → File → List ℕ
+path_of folder name = folder ++ 47 ∷ file_name name
+
+-- the most bytes that a file may have
+abbrev pub longest_file : ℕ
+longest_file = 268435456
+
+-- the rows of a file, or the fault that it has by itself
+abbrev pub of_file : {A : Type 0} → File → Result A RowFault → Result A LoadFault
+of_file name (Ok rows) = Ok rows
+of_file name (Err e) = Err (fault.Rows name e)
+
+-- the rows of a file with these bytes, which must not be too many
+abbrev pub rows_within : {R : Type 0} → File → Columns R → List ℕ → Result (List R) LoadFault
+rows_within name columns bytes =
+    if nat_lt longest_file (length bytes) then Err (fault.TooLong name) else of_file name (rows_of columns bytes)
+
+-- the rows of a file that a dataset must have
+abbrev pub required_rows : {R : Type 0} → File → Columns R → Option (List ℕ) → Result (List R) LoadFault
+required_rows name columns None = Err (fault.MissingFile name)
+required_rows name columns (Some bytes) = rows_within name columns bytes
+
+-- the rows of a file that may be absent, and has no rows then
+abbrev pub optional_rows : {R : Type 0} → File → Columns R → Option (List ℕ) → Result (List R) LoadFault
+optional_rows name columns None = Ok []
+optional_rows name columns (Some bytes) = rows_within name columns bytes
