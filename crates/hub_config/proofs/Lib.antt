@@ -1,0 +1,6 @@
+pub mod ConfLaws
+pub mod Dates
+pub mod Documents
+pub mod Judging
+pub mod Rows
+pub mod Views

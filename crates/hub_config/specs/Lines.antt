@@ -1,0 +1,36 @@
+-- The line that a command prints for a fault, without the LF at its end.
+use Rattle.std.specs.Prelude.{ℕ, List, [], ◌++◌, ◌==◌, ◌||◌, nat_lt, if◌then◌else◌, map, codes}
+use Rattle.std.specs.Fmt.{decimal}
+use Rattle.hub_config.specs.declared.fault.TableName.{TableName}
+use Rattle.hub_config.specs.declared.fault.TableName.TheVariants.{Top, Schedule, Feed}
+use Rattle.hub_config.specs.declared.fault.ConfWhy.{ConfWhy}
+use Rattle.hub_config.specs.declared.fault.ConfWhy.TheVariants as why
+use Rattle.hub_config.specs.declared.fault.ConfFault.{ConfFault}
+use Rattle.hub_config.specs.declared.fault.ConfFault.TheVariants.{Toml, Bad, NoMemory}
+
+-- a table's word
+abbrev pub table_word : TableName → List ℕ
+table_word Top = codes "top"
+table_word Schedule = codes "schedule"
+table_word Feed = codes "feed"
+
+-- the word for what is wrong
+abbrev pub why_word : ConfWhy → List ℕ
+why_word why.Unknown = codes "unknown"
+why_word why.Missing = codes "missing"
+why_word why.Bad = codes "bad"
+why_word why.Twice = codes "twice"
+why_word why.NoName = codes "noname"
+
+-- a text without control characters of ASCII: a space stands for each
+abbrev pub clean_byte : ℕ → ℕ
+clean_byte b = if nat_lt b 32 || (b == 127) then 32 else b
+
+abbrev pub cleaned : List ℕ → List ℕ
+cleaned key = map clean_byte key
+
+-- the line: where the fault is, and what is wrong there
+unfoldable pub line_of : ConfFault → List ℕ
+line_of Toml = codes "hub: config toml"
+line_of (Bad table row key why) = codes "hub: config " ++ (table_word table ++ (codes " " ++ (decimal row ++ codes " "))) ++ cleaned key ++ codes " " ++ why_word why
+line_of NoMemory = []
