@@ -10,8 +10,9 @@ use thiserror::Error;
 /// Why bytes give no message.
 #[derive(Debug, Drop, Error)]
 pub enum ReadFault {
-    /// The first fault of the bytes. Entity 0 is the header and the outer level; entity k is the k-th
-    /// entity, and from the 4294967295th on the number is 4294967295. Field 0 stands for the whole message.
+    /// The first fault of the bytes. Entities are numbered from 1 in the order of the message, up to
+    /// 4294967295, at which the count stays; 0 stands for all that is in no entity. Field 0 stands for the
+    /// whole message.
     #[error("a malformed message")]
     Malformed {
         entity: u32,
