@@ -1,4 +1,6 @@
 pub mod Spelt
-pub mod Groups
+pub mod Faults
+pub mod Varints
+pub mod Nested
 pub mod Lists
 pub mod Rows

@@ -1,5 +1,5 @@
 -- A reader's loop over the fields of bytes that notes their places, and what those places are.
-use Rattle.std.specs.Prelude.{slice_range, All, IsErr, IfOk}
+use Rattle.std.specs.Prelude.{slice_range, All, IfOk}
 use Rattle.std.specs.Global.{Vec}
 use Rattle.std.proofs.Common.{◌≡◌, ℕ, ◌+◌, ◌-◌, ◌<◌, ◌≤◌, List, [], ◌∷◌, ◌++◌, length, Result, Ok, Err, refl, sym, ap, subst, ◌∙◌, append_assoc, arith}
 use Rattle.std.specs.List.{flat_map, AllByRecursion}
@@ -8,18 +8,20 @@ use Rattle.std.proofs.lemmas.List.{append-nil, length-append}
 use Rattle.std.proofs.lemmas.List.Concat.{flat_map-cons}
 use Rattle.std.proofs.lemmas.List.Elements.{All-from_recursion}
 use Rattle.std.proofs.Math.Seq.{take-append_seam, drop-append_seam}
-use Rattle.wire_defs.specs.Field.{Field, Fault, Payload}
-use Rattle.wire_defs.specs.Field.Payload.{Varint, Eight, Span, Four}
-use Rattle.wire_defs.specs.Spelling.{IsPayload, IsField, HasFields}
+use Rattle.wire_defs.specs.Field.{Field, Fault, Payload, deepest_group}
+use Rattle.wire_defs.specs.Field.Payload.{Varint, Eight, Span, Four, Group}
+use Rattle.wire_defs.specs.Spelling.{IsPayload, IsGroup, IsField, HasFields}
 use Rattle.wire_defs.specs.Reading.{field_at, fields_of}
 use Rattle.wire_defs.proofs.Steps.{bind_ok, ok_is}
 use Rattle.wire_defs.proofs.Bytes.{AreBytes, AreBytes-behind}
 use Rattle.wire_defs.proofs.Found.{field_found, field_long, fields_found, fields_only}
+use Rattle.pb_wire.specs.Parts.{FailsOr, Fails}
 use Rattle.pb_wire.specs.Places.{place, payload_place, places, told_places, FitsIn, payload_in, field_in, fields_in, LiesBetween, LiesWithin, AreInRow, Reads}
 use Rattle.pb_wire.specs.declared.field.Field as placed
 use Rattle.pb_wire.specs.declared.fault.WireFault.{WireFault}
-use Rattle.pb_wire.specs.declared.fault.WireFault.TheVariants.{NotFields, NoMemory}
+use Rattle.pb_wire.specs.declared.fault.WireFault.TheVariants as named
 use Rattle.pb_wire.proofs.Lists as lists
+use Rattle.pb_wire.proofs.Faults.{fails_on}
 
 -- the bytes of fields
 abbrev pub bytes_of : List Field → List ℕ
@@ -48,16 +50,17 @@ pub begins : (bytes : List ℕ) → Placing [] 0 bytes bytes
 unfolding places
 begins bytes = record { done = []; noted_is = refl; at_is = refl; split = refl; progress = lists.begins [] bytes }
 
-run_fits : (payload : Payload) (spelling : List ℕ) (most : ℕ) → IsPayload spelling payload → length spelling ≤ most → FitsIn payload most
-run_fits (Varint n) spelling most carries le = tt
-run_fits (Eight n) spelling most carries le = tt
-run_fits (Span content) spelling most (size, sized, is) le = omega (arith, ap length is, length-append size content)
-run_fits (Four n) spelling most carries le = tt
+run_fits : (group : ℕ → List ℕ → Type 0) (number : ℕ) (payload : Payload) (spelling : List ℕ) (most : ℕ) → IsPayload group number spelling payload → length spelling ≤ most → FitsIn payload most
+run_fits group number (Varint n) spelling most carries le = tt
+run_fits group number (Eight n) spelling most carries le = tt
+run_fits group number (Span content) spelling most (size, sized, is) le = omega (arith, ap length is, length-append size content)
+run_fits group number (Four n) spelling most carries le = tt
+run_fits group number Group spelling most carries le = tt
 
 -- a run of bytes is no longer than the field that carries it
 pub carried_fits : (field : Field) → IsField field → FitsIn field.payload (length field.raw)
 carried_fits field h =
-    run_fits field.payload h.rest (length field.raw) h.carries (omega (arith, ap length h.whole, length-append h.tag h.rest))
+    run_fits (IsGroup deepest_group) field.number field.payload h.rest (length field.raw) h.carries (omega (arith, ap length h.whole, length-append h.tag h.rest))
 
 module _ (noted : List placed.Field) (at : ℕ) (rest bytes : List ℕ) (so_far : Placing noted at rest bytes) (fits : AreBytes bytes) where
   pub rest_fits : AreBytes rest
@@ -88,9 +91,9 @@ module _ (noted : List placed.Field) (at : ℕ) (rest bytes : List ℕ) (so_far 
         progress = lists.goes_on [] so_far.done rest bytes so_far.progress (so_far.done ++ x ∷ []) x after found refl;
       }
 
-  pub stops : (fault : Fault) → 0 < length rest → field_at rest ≡ Err fault → IsErr (told_places (fields_of bytes))
+  pub stops : (fault : WireFault) → 0 < length rest → FailsOr ⊥ (field_at rest) fault → Fails (told_places (fields_of bytes)) fault
   stops fault some found =
-      rw (lists.stops [] so_far.done rest bytes so_far.progress fault some found) refl
+      fails_on (Unit {0}) (field_at rest) (told_places (fields_of bytes)) fault (λ told e. rw (lists.stops [] so_far.done rest bytes so_far.progress told some e) refl) found
 
   pub ends : length rest ≡ 0 → told_places (fields_of bytes) ≡ Ok noted
   ends none =
@@ -104,23 +107,24 @@ slice_between front here behind =
     let n : (length front + length here) - length front ≡ length here = omega arith in
     rw (n, drop-append_seam front (here ++ behind)) (take-append_seam here behind)
 
-payload_right : (payload : Payload) (front tag spelling behind bytes : List ℕ) → IsPayload spelling payload → bytes ≡ front ++ ((tag ++ spelling) ++ behind) → payload_in bytes (payload_place (length front + length (tag ++ spelling)) payload) ≡ payload
-payload_right (Varint n) front tag spelling behind bytes h whole = refl
-payload_right (Eight n) front tag spelling behind bytes h whole = refl
-payload_right (Span content) front tag spelling behind bytes (size, sized, is) whole =
+payload_right : (group : ℕ → List ℕ → Type 0) (number : ℕ) (payload : Payload) (front tag spelling behind bytes : List ℕ) → IsPayload group number spelling payload → bytes ≡ front ++ ((tag ++ spelling) ++ behind) → payload_in bytes (payload_place (length front + length (tag ++ spelling)) payload) ≡ payload
+payload_right group number (Varint n) front tag spelling behind bytes h whole = refl
+payload_right group number (Eight n) front tag spelling behind bytes h whole = refl
+payload_right group number (Span content) front tag spelling behind bytes (size, sized, is) whole =
     let lead = front ++ (tag ++ size) in
     let split : bytes ≡ lead ++ (content ++ behind) = whole ∙ rw is (simp append_assoc) in
     let from : (length front + length (tag ++ spelling)) - length content ≡ length lead = omega (arith, ap length is, length-append size content, length-append tag spelling, length-append tag size, length-append front (tag ++ size)) in
     let to : length front + length (tag ++ spelling) ≡ length lead + length content = omega (arith, ap length is, length-append size content, length-append tag spelling, length-append tag size, length-append front (tag ++ size)) in
     ap Span (rw (from, to, split) (slice_between lead content behind))
-payload_right (Four n) front tag spelling behind bytes h whole = refl
+payload_right group number (Four n) front tag spelling behind bytes h whole = refl
+payload_right group number Group front tag spelling behind bytes h whole = refl
 
 -- a field that stands in the bytes is seen at its places
 field_right : (field : Field) (front behind bytes : List ℕ) → IsField field → bytes ≡ front ++ (field.raw ++ behind) → field_in bytes (place (length front) field) ≡ field
 field_right field front behind bytes h whole =
     let raw_is : slice_range bytes (length front) (length front + length field.raw) ≡ field.raw = rw whole (slice_between front field.raw behind) in
     let split : bytes ≡ front ++ ((h.tag ++ h.rest) ++ behind) = rw (← h.whole) whole in
-    let payload_is : payload_in bytes (payload_place (length front + length field.raw) field.payload) ≡ field.payload = rw h.whole (payload_right field.payload front h.tag h.rest behind bytes h.carries split) in
+    let payload_is : payload_in bytes (payload_place (length front + length field.raw) field.payload) ≡ field.payload = rw h.whole (payload_right (IsGroup deepest_group) field.number field.payload front h.tag h.rest behind bytes h.carries split) in
     let made : Payload → List ℕ → Field = λ payload raw. record { number = field.number; payload = payload; raw = raw } in
     ap (λ (p : Payload). made p (slice_range bytes (length front) (length front + length field.raw))) payload_is ∙ ap (λ (r : List ℕ). made field.payload r) raw_is
 
@@ -138,6 +142,7 @@ payload_between (Varint n) start size fits = tt
 payload_between (Eight n) start size fits = tt
 payload_between (Span content) start size fits = (omega arith, omega arith, omega arith)
 payload_between (Four n) start size fits = tt
+payload_between Group start size fits = tt
 
 fields_within : (fields : List Field) (at limit : ℕ) → AllByRecursion IsField fields → at + length (bytes_of fields) ≤ limit → AllByRecursion (LiesWithin limit) (places at fields)
 unfolding places
@@ -167,11 +172,20 @@ module _ (bytes : List ℕ) (fits : AreBytes bytes) where
   is_exact (Ok v) h =
       let t = told v h in
       t.1 ∙ ap (λ (fs : List Field). Ok fs) (sym (ap (fields_in bytes) t.2 ∙ fields_right t.0 [] bytes t.3.each t.3.whole))
-  is_exact (Err NotFields) h = still_err (fields_of bytes) h where
-    still_err : (r : Result (List Field) Fault) → IsErr (told_places r) → IsErr r
-    still_err (Ok fields) h = h
-    still_err (Err fault) h = h
-  is_exact (Err NoMemory) h = tt
+  is_exact (Err fault) h =
+      fails_told fault h
+    where
+      -- places are told where fields are
+      told_fault : (told : Result (List Field) Fault) (first : Fault) → told_places told ≡ Err first → told ≡ Err first
+      told_fault (Ok fields) first e = absurd cc
+      told_fault (Err other) first e = cc
+
+      fails_told : (fault : WireFault) → Fails (told_places (fields_of bytes)) fault → Fails (fields_of bytes) fault
+      fails_told named.Cut h = told_fault (fields_of bytes) _ h
+      fails_told named.Varint h = told_fault (fields_of bytes) _ h
+      fails_told named.Tag h = told_fault (fields_of bytes) _ h
+      fails_told named.Group h = told_fault (fields_of bytes) _ h
+      fails_told named.NoMemory h = tt
 
   pub is_found : (answer : Result (Vec placed.Field) WireFault) → Reads (λ v. v.items) (told_places (fields_of bytes)) answer → IfOk answer (λ v. HasFields bytes (fields_in bytes v.items))
   is_found (Ok v) h =
@@ -192,18 +206,20 @@ module _ (bytes : List ℕ) (fits : AreBytes bytes) where
       subst (AreInRow 0 (length bytes)) (sym t.2) (fields_in_row t.0 0 (length bytes) (omega (arith, ap length t.3.whole)))
   is_row (Err e) h = tt
 
--- where the bytes spell fields, it isn't said that they spell none
-pub is_none : (bytes : List ℕ) (answer : Result (Vec placed.Field) WireFault) → Reads (λ v. v.items) (told_places (fields_of bytes)) answer → answer ≡ Err NotFields → (fields : List Field) → HasFields bytes fields → ⊥
-is_none bytes (Ok v) h e fields spelled = cc
-is_none bytes (Err NotFields) h e fields spelled =
+-- where the bytes spell fields, nothing but want of memory is answered
+pub is_none : (bytes : List ℕ) (answer : Result (Vec placed.Field) WireFault) (fault : WireFault) → Reads (λ v. v.items) (told_places (fields_of bytes)) answer → answer ≡ Err fault → (fault ≡ named.NoMemory → ⊥) → (fields : List Field) → HasFields bytes fields → ⊥
+is_none bytes (Ok v) fault h e other fields spelled = cc
+is_none bytes (Err first) fault h e other fields spelled =
+    let first_is : first ≡ fault = cc in
     let ok : told_places (fields_of bytes) ≡ Ok (places 0 fields) = rw (fields_only bytes fields spelled) refl in
-    let bad : IsErr (told_places (fields_of bytes)) = h in
-    no_err (told_places (fields_of bytes)) (places 0 fields) ok bad
+    no_fault fault (told_places (fields_of bytes)) (places 0 fields) ok other (subst (Fails (told_places (fields_of bytes))) first_is h)
   where
-    no_err : (r : Result (List placed.Field) Fault) (fs : List placed.Field) → r ≡ Ok fs → IsErr r → ⊥
-    no_err (Ok x) fs e h = cc
-    no_err (Err d) fs e h = cc
-is_none bytes (Err NoMemory) h e fields spelled = cc
+    no_fault : (fault : WireFault) (told : Result (List placed.Field) Fault) (fs : List placed.Field) → told ≡ Ok fs → (fault ≡ named.NoMemory → ⊥) → Fails told fault → ⊥
+    no_fault named.Cut told fs e other h = cc
+    no_fault named.Varint told fs e other h = cc
+    no_fault named.Tag told fs e other h = cc
+    no_fault named.Group told fs e other h = cc
+    no_fault named.NoMemory told fs e other h = other refl
 
 pub is_only : (bytes : List ℕ) (answer : Result (Vec placed.Field) WireFault) (fields : List Field) → HasFields bytes fields → Reads (λ v. fields_in bytes v.items) (fields_of bytes) answer → Reads (λ v. fields_in bytes v.items) (Ok fields) answer
 is_only bytes answer fields spelled exact =

@@ -1,13 +1,11 @@
 -- Fields that are read as borrows, seen as the fields of the wire, and what reading them gives.
 use Rattle.std.specs.Prelude.{◌≡◌, List, ◌++◌, map, Result, Ok, Err}
 use Rattle.wire_defs.specs.Field as wire
-use Rattle.wire_defs.specs.Field.Payload.{Varint, Eight, Span, Four}
-use Rattle.wire_defs.specs.Field.Fault.{Cut, Overlong, BadTag}
+use Rattle.wire_defs.specs.Field.Payload.{Varint, Eight, Span, Four, Group}
+use Rattle.wire_defs.specs.Field.Fault.{Cut, Overlong, BadTag, BadGroup}
 use Rattle.wire_defs.specs.Steps.{◌>>=◌}
-use Rattle.pb_wire.specs.declared.fault.Fault.{Fault}
-use Rattle.pb_wire.specs.declared.fault.Fault.TheVariants as named
-use Rattle.pb_wire.specs.declared.fault.PartsFault.{PartsFault}
-use Rattle.pb_wire.specs.declared.fault.PartsFault.TheVariants.{Wire, NoMemory}
+use Rattle.pb_wire.specs.declared.fault.WireFault.{WireFault}
+use Rattle.pb_wire.specs.declared.fault.WireFault.TheVariants as named
 use Rattle.pb_wire.specs.declared.part.PartPayload.{PartPayload}
 use Rattle.pb_wire.specs.declared.part.PartPayload.TheVariants as carried
 use Rattle.pb_wire.specs.declared.part.Part.{Part}
@@ -18,6 +16,7 @@ payload_seen (carried.Varint n) = Varint n
 payload_seen (carried.Eight n) = Eight n
 payload_seen (carried.Span bytes) = Span bytes.now
 payload_seen (carried.Four n) = Four n
+payload_seen carried.Group = Group
 
 -- a field without where it lies in memory
 abbrev pub part_seen : Part → wire.Field
@@ -27,22 +26,23 @@ part_seen part = record { number = part.number; payload = payload_seen part.payl
 abbrev pub parts_seen : List Part → List wire.Field
 parts_seen parts = map part_seen parts
 
--- the fault of the wire that a fault names
-abbrev pub fault_seen : Fault → wire.Fault
-fault_seen named.Cut = Cut
-fault_seen named.Varint = Overlong
-fault_seen named.Tag = BadTag
-
 -- fields with these before them, or the fault in their place
 abbrev pub with_front : List wire.Field → Result (List wire.Field) wire.Fault → Result (List wire.Field) wire.Fault
 with_front front told = told >>= λ fields. Ok (front ++ fields)
 
--- the first fault that reading meets is the one named; memory may run out at any place
-abbrev pub Fails : {A : Type 0} → Result A wire.Fault → PartsFault → Type 0
-Fails told (Wire fault) = told ≡ Err (fault_seen fault)
-Fails told NoMemory = Unit {0}
+-- the first fault that reading meets is the one named; of want of memory only `memory` is known
+abbrev pub FailsOr : {A : Type 0} → Type 0 → Result A wire.Fault → WireFault → Type 0
+FailsOr memory told named.Cut = told ≡ Err Cut
+FailsOr memory told named.Varint = told ≡ Err Overlong
+FailsOr memory told named.Tag = told ≡ Err BadTag
+FailsOr memory told named.Group = told ≡ Err BadGroup
+FailsOr memory told named.NoMemory = memory
 
--- what a function finds in front of bytes, seen so, is what is told; else it names the fault
-abbrev pub Finds : {X Y : Type 0} → (X → Y) → Result X Fault → Result Y wire.Fault → Type 0
+-- the first fault that reading meets is the one named; memory may run out at any place
+abbrev pub Fails : {A : Type 0} → Result A wire.Fault → WireFault → Type 0
+Fails told fault = FailsOr (Unit {0}) told fault
+
+-- what a function that needs no memory finds in front of bytes, seen so, is what is told; else it names the fault
+abbrev pub Finds : {X Y : Type 0} → (X → Y) → Result X WireFault → Result Y wire.Fault → Type 0
 Finds view (Ok x) told = told ≡ Ok (view x)
-Finds view (Err fault) told = told ≡ Err (fault_seen fault)
+Finds view (Err fault) told = FailsOr ⊥ told fault

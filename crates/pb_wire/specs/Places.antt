@@ -1,13 +1,13 @@
 -- Fields that are read as places, seen over their bytes as the fields of the wire.
-use Rattle.std.specs.Prelude.{◌≡◌, ℕ, ◌+◌, ◌-◌, ◌<◌, ◌≤◌, List, [], ◌∷◌, length, map, slice_range, Result, Ok, Err, IsErr}
+use Rattle.std.specs.Prelude.{◌≡◌, ℕ, ◌+◌, ◌-◌, ◌<◌, ◌≤◌, List, [], ◌∷◌, length, map, slice_range, Result, Ok, Err}
 use Rattle.wire_defs.specs.Field as wire
-use Rattle.wire_defs.specs.Field.Payload.{Varint, Eight, Span, Four}
+use Rattle.wire_defs.specs.Field.Payload.{Varint, Eight, Span, Four, Group}
 use Rattle.wire_defs.specs.Steps.{◌>>=◌}
 use Rattle.pb_wire.specs.declared.fault.WireFault.{WireFault}
-use Rattle.pb_wire.specs.declared.fault.WireFault.TheVariants.{NotFields, NoMemory}
 use Rattle.pb_wire.specs.declared.field.Payload.{Payload}
 use Rattle.pb_wire.specs.declared.field.Payload.TheVariants as placed
 use Rattle.pb_wire.specs.declared.field.Field.{Field}
+use Rattle.pb_wire.specs.Parts.{Fails}
 
 -- a payload, with the bytes that stand at its places
 abbrev pub payload_in : List ℕ → Payload → wire.Payload
@@ -15,6 +15,7 @@ payload_in bytes (placed.Varint n) = Varint n
 payload_in bytes (placed.Eight n) = Eight n
 payload_in bytes (placed.Span from to) = Span (slice_range bytes from to)
 payload_in bytes (placed.Four n) = Four n
+payload_in bytes placed.Group = Group
 
 -- a field, with the bytes that stand at its places
 abbrev pub field_in : List ℕ → Field → wire.Field
@@ -30,6 +31,7 @@ LiesBetween start end (placed.Varint n) = Unit {0}
 LiesBetween start end (placed.Eight n) = Unit {0}
 LiesBetween start end (placed.Span from to) = (start ≤ from) × (from ≤ to) × (to ≤ end)
 LiesBetween start end (placed.Four n) = Unit {0}
+LiesBetween start end placed.Group = Unit {0}
 
 -- the places of a field lie in bytes of this length
 pub record LiesWithin (limit : ℕ) (field : Field) : Type 0 where
@@ -42,11 +44,10 @@ abbrev pub AreInRow : ℕ → ℕ → List Field → Type 0
 AreInRow at limit [] = at ≡ limit
 AreInRow at limit (f ∷ fs) = (f.start ≡ at) × AreInRow f.end limit fs
 
--- what was answered is what is told of the bytes; memory may run out at any place
+-- what was answered is what is told of the bytes, the value or the first fault; memory may run out at any place
 abbrev pub Reads : {A V : Type 0} → (V → A) → Result A wire.Fault → Result V WireFault → Type 0
 Reads view told (Ok v) = told ≡ Ok (view v)
-Reads view told (Err NotFields) = IsErr told
-Reads view told (Err NoMemory) = Unit {0}
+Reads view told (Err fault) = Fails told fault
 
 -- a run of bytes is no longer than this
 abbrev pub FitsIn : wire.Payload → ℕ → Type 0
@@ -54,6 +55,7 @@ FitsIn (Varint n) size = Unit {0}
 FitsIn (Eight n) size = Unit {0}
 FitsIn (Span content) size = length content ≤ size
 FitsIn (Four n) size = Unit {0}
+FitsIn Group size = Unit {0}
 
 -- a payload by its places; a run of bytes stands at the end of its field
 abbrev pub payload_place : ℕ → wire.Payload → Payload
@@ -61,6 +63,7 @@ payload_place end (Varint n) = placed.Varint n
 payload_place end (Eight n) = placed.Eight n
 payload_place end (Span content) = placed.Span (end - length content) end
 payload_place end (Four n) = placed.Four n
+payload_place end Group = placed.Group
 
 -- a field by its places, where it starts at this place
 abbrev pub place : ℕ → wire.Field → Field

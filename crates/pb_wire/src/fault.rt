@@ -1,67 +1,34 @@
 // Why fields cannot be read.
 
 ghost use Rattle.std.specs.Prelude.{◌≡◌};
-ghost use Rattle.pb_wire.specs.declared.fault.PartsFault.TheVariants.{NoMemory};
+ghost use Rattle.pb_wire.specs.declared.fault.WireFault.TheVariants.{NoMemory};
 
 use std::alloc::{AllocError, AllocFailed};
 use thiserror::Error;
 
-/// Why no field can be read at some place (Protocol Buffers, "Encoding").
+/// Why no fields were read: the first fault of the bytes from the left (Protocol Buffers, "Encoding"), or want of
+/// memory.
 #[derive(Clone, Copy, Debug, PartialEq, Eq, Error)]
-pub enum Fault {
-    /// The bytes end within a field.
+pub enum WireFault {
+    /// The bytes end within a field; so they do where a group has no end.
     #[error("the bytes end within a field")]
     Cut,
     /// A varint goes past ten bytes.
     #[error("a varint goes past ten bytes")]
     Varint,
-    /// A tag names no field: its number is 0, it is 2^32 or more, or its wire type begins no field.
+    /// A tag names no field: its number is 0, it is 2^32 or more, or its wire type is 6 or 7.
     #[error("a tag names no field")]
     Tag,
-}
-
-/// Why `read_parts` read no fields.
-#[derive(Debug, Drop, Error)]
-pub enum PartsFault {
-    /// The bytes spell no fields; this is the first fault from the left.
-    #[error("the bytes spell no fields: {0}")]
-    Wire(Fault),
-    /// Memory ran out.
-    #[error("out of memory")]
-    NoMemory,
-}
-
-impl From<AllocError> for PartsFault {
-    ghost from_gives = { λ _ e. e ≡ NoMemory };
-
-    fn from(_error: AllocError) -> PartsFault {
-        PartsFault::NoMemory
-    }
-}
-
-impl<T: Drop> From<AllocFailed<T>> for PartsFault {
-    ghost from_gives = { λ _ e. e ≡ NoMemory };
-
-    fn from(_error: AllocFailed<T>) -> PartsFault {
-        PartsFault::NoMemory
-    }
-}
-
-/// Why `read_fields` read no fields.
-#[derive(Debug, Drop, Error)]
-pub enum WireFault {
-    /// The bytes spell no list of fields.
-    #[error("the bytes spell no fields")]
-    NotFields,
+    /// A group ends while none is open or one of another number is, or it begins while 64 are open.
+    #[error("a group ends that isn't open, or begins too deep")]
+    Group,
     /// Memory ran out.
     #[error("out of memory")]
     NoMemory,
 }
 
 impl From<AllocError> for WireFault {
-    ghost use Rattle.pb_wire.specs.declared.fault.WireFault.TheVariants as wire;
-
-    ghost from_gives = { λ _ e. e ≡ wire.NoMemory };
+    ghost from_gives = { λ _ e. e ≡ NoMemory };
 
     fn from(_error: AllocError) -> WireFault {
         WireFault::NoMemory
@@ -69,9 +36,7 @@ impl From<AllocError> for WireFault {
 }
 
 impl<T: Drop> From<AllocFailed<T>> for WireFault {
-    ghost use Rattle.pb_wire.specs.declared.fault.WireFault.TheVariants as wire;
-
-    ghost from_gives = { λ _ e. e ≡ wire.NoMemory };
+    ghost from_gives = { λ _ e. e ≡ NoMemory };
 
     fn from(_error: AllocFailed<T>) -> WireFault {
         WireFault::NoMemory

@@ -12,6 +12,8 @@ pub enum Payload {
     Span(usize, usize),
     /// Wire type 5: four bytes, the lowest first.
     Four(u32),
+    /// Wire type 3: the fields up to an end tag of the same number; the field's own bytes hold them.
+    Group,
 }
 
 /// A field of bytes. A clause sees it over its bytes as `field_in` says.

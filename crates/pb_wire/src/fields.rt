@@ -24,9 +24,9 @@ pub fn read_fields(alloc: Global, bytes: &[u8]) -> Result<Vec<Field>, WireFault>
     // What is spelled so is read, unless memory runs out.
     ensures only { (fields : List wire.Field) → HasFields bytes.now fields
         → Reads (λ v. fields_in bytes.now v.items) (Ok fields) result }
-    ensures none { result ≡ Err WireFault.NotFields
+    ensures none { (fault : WireFault) → result ≡ Err fault → (fault ≡ WireFault.NoMemory → ⊥)
         → (fields : List wire.Field) → HasFields bytes.now fields → ⊥ }
-    // It is what reading from the left gives.
+    // It is what reading from the left gives, the first fault too.
     ensures exact { Reads (λ v. fields_in bytes.now v.items) (fields_of bytes.now) result }
 {
     placed_fields(alloc, bytes)
@@ -46,7 +46,7 @@ fn placed_fields(alloc: Global, bytes: &[u8]) -> Result<Vec<Field>, WireFault>
                 fields.push(field)?;
                 rest = after;
             }
-            Err(_) => return Err(WireFault::NotFields),
+            Err(fault) => return Err(fault),
         }
     }
     Ok(fields)
@@ -64,6 +64,7 @@ fn placed(part: Part<'_>, start: usize) -> Field
         PartPayload::Eight(value) => Payload::Eight(value),
         PartPayload::Span(content) => Payload::Span(end - content.len(), end),
         PartPayload::Four(value) => Payload::Four(value),
+        PartPayload::Group => Payload::Group,
     };
     Field {
         number: part.number,

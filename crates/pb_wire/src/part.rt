@@ -11,6 +11,8 @@ pub enum PartPayload<'a> {
     Span(&'a [u8]),
     /// Wire type 5: four bytes, the lowest first.
     Four(u32),
+    /// Wire type 3: the fields up to an end tag of the same number; the part's `raw` holds them.
+    Group,
 }
 
 /// A field of borrowed bytes. A clause sees it as `part_seen` says.

@@ -50,42 +50,84 @@ fn places(rt: HostRuntime) {
     expect_field(&rt, &largest, 1, Payload::Varint(u64::MAX));
 }
 
+fn expect_fault(rt: &(impl Abort + AllocGlobal), bytes: &[u8], fault: WireFault) {
+    assert_eq!(rt; read_fields(rt.alloc(), bytes).err(), Some(fault));
+    let mut parts = Vec::new(rt.alloc());
+    assert_eq!(rt; read_parts(bytes, &mut parts).err(), Some(fault));
+}
+
 #[test]
 fn faults(rt: HostRuntime) {
     let eleven: &[u8] = &[
         0x08, 0x80, 0x80, 0x80, 0x80, 0x80, 0x80, 0x80, 0x80, 0x80, 0x80, 0x00,
     ];
-    let cases: [(&[u8], Fault); 10] = [
-        (&[0x00, 0x01], Fault::Tag),
-        (&[0x0b], Fault::Tag),
-        (&[0x0c], Fault::Tag),
-        (&[0x0e], Fault::Tag),
-        (&[0x0f], Fault::Tag),
-        (&[0x80, 0x80, 0x80, 0x80, 0x10, 0x01], Fault::Tag),
-        (&[0x12, 0x07, 0x74], Fault::Cut),
-        (&[0x08, 0x96], Fault::Cut),
-        (&[0x1d, 0x01, 0x02, 0x03], Fault::Cut),
-        (eleven, Fault::Varint),
+    let cases: [(&[u8], WireFault); 15] = [
+        (&[0x00, 0x01], WireFault::Tag),
+        (&[0x04], WireFault::Tag),
+        (&[0x0e], WireFault::Tag),
+        (&[0x0f], WireFault::Tag),
+        (&[0x80, 0x80, 0x80, 0x80, 0x10, 0x01], WireFault::Tag),
+        (&[0x12, 0x07, 0x74], WireFault::Cut),
+        (&[0x08, 0x96], WireFault::Cut),
+        (&[0x1d, 0x01, 0x02, 0x03], WireFault::Cut),
+        (eleven, WireFault::Varint),
+        (&[0x4c], WireFault::Group),
+        (&[0x4b, 0x54], WireFault::Group),
+        (&[0x4b], WireFault::Cut),
+        (&[0x4b, 0x08], WireFault::Cut),
+        (&[0x4b, 0x04], WireFault::Tag),
+        (&[0x4b, 0x53, 0x4c, 0x54], WireFault::Group),
     ];
     for (bytes, fault) in cases {
-        assert!(&rt; matches!(read_fields(rt.alloc(), bytes), Err(WireFault::NotFields)));
-        let mut parts = Vec::new(rt.alloc());
-        match read_parts(bytes, &mut parts) {
-            Err(PartsFault::Wire(named)) => assert_eq!(&rt; named, fault),
-            _ => assert!(&rt; false),
-        }
+        expect_fault(&rt, bytes, fault);
     }
+}
+
+#[test]
+fn groups(rt: HostRuntime) -> Result<(), Fail> {
+    let each_type: &[u8] = &[
+        0x4b, 0x08, 0x05, 0x11, 1, 0, 0, 0, 0, 0, 0, 0, 0x12, 0x01, 0x4c, 0x1b, 0x1c, 0x25, 1, 0,
+        0, 0, 0x4c,
+    ];
+    expect_field(&rt, each_type, 9, Payload::Group);
+    let between = &[0x08, 0x05, 0x4b, 0x53, 0x54, 0x4c, 0x10, 0x06];
+    let fields = read_fields(rt.alloc(), between)?;
+    let places = [(1, 0, 2), (9, 2, 6), (2, 6, 8)];
+    assert_eq!(&rt; fields.len(), places.len());
+    for (field, (number, start, end)) in fields.iter().zip(places) {
+        assert_eq!(&rt;
+            (field.number, field.start, field.end),
+            (number, start, end)
+        );
+    }
+    Ok(())
+}
+
+#[test]
+fn nested(rt: HostRuntime) {
+    let mut bytes = [0x4bu8; 130];
+    bytes[64..128].fill(0x4c);
+    expect_field(&rt, &bytes[..128], 9, Payload::Group);
+    bytes[64] = 0x4b;
+    bytes[65..].fill(0x4c);
+    expect_fault(&rt, &bytes, WireFault::Group);
 }
 
 #[test]
 fn joined(rt: HostRuntime) -> Result<(), Fail> {
     let mut parts = Vec::new(rt.alloc());
     read_parts(b"\x12\x02hi", &mut parts)?;
-    read_parts(&[0x08, 0x96, 0x01, 0x10, 0x05], &mut parts)?;
-    assert_eq!(&rt; parts.len(), 3);
-    for (part, number) in parts.iter().zip([2, 1, 2]) {
+    read_parts(&[0x08, 0x96, 0x01, 0x4b, 0x4c, 0x10, 0x05], &mut parts)?;
+    assert_eq!(&rt; parts.len(), 4);
+    for (part, number) in parts.iter().zip([2, 1, 9, 2]) {
         assert_eq!(&rt; part.number, number);
     }
+    assert_eq!(&rt; parts[0].raw, b"\x12\x02hi".as_slice());
+    assert_eq!(&rt; parts[2].raw, b"\x4b\x4c".as_slice());
+    assert!(&rt; matches!(parts[0].payload, PartPayload::Span(b"hi")));
+    assert!(&rt; matches!(parts[1].payload, PartPayload::Varint(150)));
+    assert!(&rt; matches!(parts[2].payload, PartPayload::Group));
+    assert!(&rt; matches!(parts[3].payload, PartPayload::Varint(5)));
     Ok(())
 }
 

@@ -1,7 +1,7 @@
 // The one spelling that a writer chooses: the shortest varints.
 
 ghost use Rattle.std.specs.Prelude.{◌≡◌, ℕ, List, ◌++◌, ◌≤◌, OnOk, OnErr};
-ghost use Rattle.wire_defs.specs.Field.Payload.{Varint, Span};
+ghost use Rattle.wire_defs.specs.Field.Payload.{Varint, Span, Four};
 ghost use Rattle.wire_defs.specs.Writing.{varint, spelled};
 
 use std::alloc::AllocError;
@@ -62,6 +62,23 @@ pub fn write_field(number: u32, bytes: &[u8], out: &mut Vec<u8>) -> Result<(), A
     answer
 }
 
+/// Appends a field of wire type 5: its tag and the four bytes of the value, the lowest first. Want of memory
+/// leaves `out` as it was.
+pub fn write_four(number: u32, value: u32, out: &mut Vec<u8>) -> Result<(), AllocError>
+    requires first { 1 ≤ number }
+    requires last { number ≤ 536870911 }
+    ensures written { OnOk result
+        (out.new.items ≡ out.old.items ++ spelled (record { number = number; payload = Four value })) }
+    ensures kept { OnErr result (out.new.items ≡ out.old.items) }
+{
+    let length = out.len();
+    let answer = append_four(number, value, out);
+    if answer.is_err() {
+        out.truncate(length);
+    }
+    answer
+}
+
 #[tactic(auto, unfolding(wire_defs::specs::Writing::spelled, wire_defs::specs::Writing::payload_bytes))]
 fn append_scalar(number: u32, value: u64, out: &mut Vec<u8>) -> Result<(), AllocError>
     requires { number ≤ 536870911 }
@@ -83,4 +100,15 @@ fn append_field(number: u32, bytes: &[u8], out: &mut Vec<u8>) -> Result<(), Allo
     write_varint(u64::from(number) * 8 + 2, out)?;
     write_varint(bytes.len() as u64, out)?;
     out.extend_from_slice(bytes)
+}
+
+#[tactic(auto, unfolding(wire_defs::specs::Writing::spelled, wire_defs::specs::Writing::payload_bytes))]
+fn append_four(number: u32, value: u32, out: &mut Vec<u8>) -> Result<(), AllocError>
+    requires { number ≤ 536870911 }
+    ensures written { OnOk result
+        (out.new.items ≡ out.old.items ++ spelled (record { number = number; payload = Four value })) }
+    ensures begins { OnErr result ((more : List ℕ) × (out.new.items ≡ out.old.items ++ more)) }
+{
+    write_varint(u64::from(number) * 8 + 5, out)?;
+    out.extend_from_slice(&value.to_le_bytes())
 }

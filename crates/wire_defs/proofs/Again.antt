@@ -5,9 +5,9 @@ use Rattle.std.specs.List.{flat_map, AllByRecursion}
 use Rattle.std.proofs.Math.Nat.{pow-suc, mod-eq_of_lt}
 use Rattle.std.proofs.lemmas.Bool.{cases_lt, lt-ltb, le-ltb}
 use Rattle.std.proofs.lemmas.List.Concat.{flat_map-cons}
-use Rattle.wire_defs.specs.Field.{Payload, Field, wire_type, tag_of}
-use Rattle.wire_defs.specs.Field.Payload.{Varint, Eight, Span, Four}
-use Rattle.wire_defs.specs.Spelling.{IsGroups, IsVarint, IsPayload, IsField}
+use Rattle.wire_defs.specs.Field.{Payload, Field, wire_type, tag_of, deepest_group}
+use Rattle.wire_defs.specs.Field.Payload.{Varint, Eight, Span, Four, Group}
+use Rattle.wire_defs.specs.Spelling.{IsGroups, IsVarint, IsPayload, IsGroup, IsField}
 use Rattle.wire_defs.specs.Reading.{fields_of}
 use Rattle.wire_defs.specs.Writing.{Written, groups, varint, payload_bytes, spelled}
 use Rattle.wire_defs.proofs.Bytes.{AreBytes, AreBytes-front, AreBytes-behind}
@@ -70,12 +70,13 @@ varint_shortest n spelling h =
 
 -- ---- what can be written
 
--- a payload that has a spelling
+-- a payload that a writer spells: in range, and no group
 abbrev pub IsInRange : Payload → Type 0
 IsInRange (Varint n) = n < 2 ^ 64
 IsInRange (Eight n) = n < 2 ^ 64
 IsInRange (Span content) = length content < 2 ^ 64
 IsInRange (Four n) = n < 2 ^ 32
+IsInRange Group = ⊥
 
 -- a field that has a spelling
 pub record IsSpellable (w : Written) : Type 0 where
@@ -87,12 +88,13 @@ pub record IsSpellable (w : Written) : Type 0 where
 abbrev pub as_field : Written → Field
 as_field w = record { number = w.number; payload = w.payload; raw = spelled w }
 
-payload_spelled : (payload : Payload) → IsInRange payload → IsPayload (payload_bytes payload) payload
+payload_spelled : (group : ℕ → List ℕ → Type 0) (number : ℕ) (payload : Payload) → IsInRange payload → IsPayload group number (payload_bytes payload) payload
 unfolding payload_bytes
-payload_spelled (Varint n) fits = varint_spells n fits
-payload_spelled (Eight n) fits = (fits, refl)
-payload_spelled (Span content) fits = (varint (length content), varint_spells (length content) fits, refl)
-payload_spelled (Four n) fits = (fits, refl)
+payload_spelled group number (Varint n) fits = varint_spells n fits
+payload_spelled group number (Eight n) fits = (fits, refl)
+payload_spelled group number (Span content) fits = (varint (length content), varint_spells (length content) fits, refl)
+payload_spelled group number (Four n) fits = (fits, refl)
+payload_spelled group number Group fits = absurd fits
 
 -- what is written spells the field
 pub spelled_is_field : (w : Written) → IsSpellable w → IsField (as_field w)
@@ -100,7 +102,7 @@ unfolding spelled
 spelled_is_field w h =
     let below : wire_type w.payload < 8 = wire_type_below w.payload in
     let small : tag_of w.number w.payload < 2 ^ 32 = omega (arith, h.high) in
-    record { tag = varint (tag_of w.number w.payload); rest = payload_bytes w.payload; whole = refl; tagged = varint_spells (tag_of w.number w.payload) (omega arith); numbered = h.low; small = small; carries = payload_spelled w.payload h.fits }
+    record { tag = varint (tag_of w.number w.payload); rest = payload_bytes w.payload; whole = refl; tagged = varint_spells (tag_of w.number w.payload) (omega arith); numbered = h.low; small = small; carries = payload_spelled (IsGroup deepest_group) w.number w.payload h.fits }
 
 written_are_fields : (ws : List Written) (fields : List Field) → AllByRecursion IsSpellable ws → AllByRecursion IsField fields → AllByRecursion IsField (map as_field ws ++ fields)
 written_are_fields [] fields each rest = rest
@@ -135,30 +137,41 @@ CarriesBytes (Varint n) = Unit {0}
 CarriesBytes (Eight n) = Unit {0}
 CarriesBytes (Span content) = AreBytes content
 CarriesBytes (Four n) = Unit {0}
+CarriesBytes Group = Unit {0}
+
+-- a payload in the range that reading gives
+abbrev pub WasInRange : Payload → Type 0
+WasInRange (Varint n) = n < 2 ^ 64
+WasInRange (Eight n) = n < 2 ^ 64
+WasInRange (Span content) = length content < 2 ^ 64
+WasInRange (Four n) = n < 2 ^ 32
+WasInRange Group = Unit {0}
 
 -- a field as reading bytes gives it
 pub record WasRead (field : Field) : Type 0 where
   pub low : 1 ≤ field.number
   pub high : field.number ≤ 536870911
-  pub fits : IsInRange field.payload
+  pub fits : WasInRange field.payload
   pub carried : CarriesBytes field.payload
   pub is : IsField field
 
-payload_in_range : (payload : Payload) (spelling : List ℕ) → IsPayload spelling payload → IsInRange payload
-payload_in_range (Varint n) spelling h = varint_below spelling n h
-payload_in_range (Eight n) spelling h = h.0
-payload_in_range (Span content) spelling (size, sized, is) = varint_below size (length content) sized
-payload_in_range (Four n) spelling h = h.0
+payload_in_range : (group : ℕ → List ℕ → Type 0) (number : ℕ) (payload : Payload) (spelling : List ℕ) → IsPayload group number spelling payload → WasInRange payload
+payload_in_range group number (Varint n) spelling h = varint_below spelling n h
+payload_in_range group number (Eight n) spelling h = h.0
+payload_in_range group number (Span content) spelling (size, sized, is) = varint_below size (length content) sized
+payload_in_range group number (Four n) spelling h = h.0
+payload_in_range group number Group spelling h = tt
 
-payload_carries : (payload : Payload) (spelling : List ℕ) → IsPayload spelling payload → AreBytes spelling → CarriesBytes payload
-payload_carries (Varint n) spelling h fits = tt
-payload_carries (Eight n) spelling h fits = tt
-payload_carries (Span content) spelling (size, sized, is) fits = AreBytes-behind size content (subst AreBytes is fits)
-payload_carries (Four n) spelling h fits = tt
+payload_carries : (group : ℕ → List ℕ → Type 0) (number : ℕ) (payload : Payload) (spelling : List ℕ) → IsPayload group number spelling payload → AreBytes spelling → CarriesBytes payload
+payload_carries group number (Varint n) spelling h fits = tt
+payload_carries group number (Eight n) spelling h fits = tt
+payload_carries group number (Span content) spelling (size, sized, is) fits = AreBytes-behind size content (subst AreBytes is fits)
+payload_carries group number (Four n) spelling h fits = tt
+payload_carries group number Group spelling h fits = tt
 
 field_was_read : (field : Field) → IsField field → AreBytes field.raw → WasRead field
 field_was_read field h fits =
-    record { low = h.numbered; high = omega (arith, h.small); fits = payload_in_range field.payload h.rest h.carries; carried = payload_carries field.payload h.rest h.carries (AreBytes-behind h.tag h.rest (subst AreBytes h.whole fits)); is = h }
+    record { low = h.numbered; high = omega (arith, h.small); fits = payload_in_range (IsGroup deepest_group) field.number field.payload h.rest h.carries; carried = payload_carries (IsGroup deepest_group) field.number field.payload h.rest h.carries (AreBytes-behind h.tag h.rest (subst AreBytes h.whole fits)); is = h }
 
 all_were_read : (fields : List Field) → AllByRecursion IsField fields → AreBytes (flat_map (λ field. field.raw) fields) → AllByRecursion WasRead fields
 all_were_read [] each fits = tt
@@ -172,6 +185,14 @@ were_read bytes fields fits e =
     let h = fields_found bytes fields fits e in
     all_were_read fields h.each (subst AreBytes h.whole fits)
 
--- a field that was read can be written
-pub read_is_spellable : (field : Field) → WasRead field → IsSpellable (record { number = field.number; payload = field.payload })
-read_is_spellable field h = record { low = h.low; high = h.high; fits = h.fits }
+-- what was read is in range for a writer, but for groups
+pub range_of_read : (payload : Payload) → WasInRange payload → (payload ≡ Group → ⊥) → IsInRange payload
+range_of_read (Varint n) fits other = fits
+range_of_read (Eight n) fits other = fits
+range_of_read (Span content) fits other = fits
+range_of_read (Four n) fits other = fits
+range_of_read Group fits other = other refl
+
+-- a field that was read and is no group can be written
+pub read_is_spellable : (field : Field) → WasRead field → (field.payload ≡ Group → ⊥) → IsSpellable (record { number = field.number; payload = field.payload })
+read_is_spellable field h other = record { low = h.low; high = h.high; fits = range_of_read field.payload h.fits other }

@@ -1,6 +1,8 @@
 pub mod Steps
 pub mod Bytes
 pub mod Numbers
-pub mod Found
+pub mod Tags
 pub mod Shorter
+pub mod Groups
+pub mod Found
 pub mod Again

@@ -1,9 +1,9 @@
 -- The fields of a byte list from the left, or the first fault (Protocol Buffers, "Encoding").
 use Rattle.std.specs.Prelude.{ℕ, zero, suc, ◌+◌, ◌-◌, ◌*◌, ◌/◌, ◌%◌, ◌^◌, List, [], ◌∷◌, length, take, drop, Result, Ok, Err, nat_lt, nat_le, ◌==◌, ◌||◌, if◌then◌else◌}
 use Rattle.std.specs.Int.{Width, w32, w64, byte_len, from_le_bytes}
-use Rattle.wire_defs.specs.Field.{Payload, Field, Fault}
-use Rattle.wire_defs.specs.Field.Payload.{Varint, Eight, Span, Four}
-use Rattle.wire_defs.specs.Field.Fault.{Cut, Overlong, BadTag}
+use Rattle.wire_defs.specs.Field.{Payload, Field, Fault, deepest_group}
+use Rattle.wire_defs.specs.Field.Payload.{Varint, Eight, Span, Four, Group}
+use Rattle.wire_defs.specs.Field.Fault.{Cut, Overlong, BadTag, BadGroup}
 use Rattle.wire_defs.specs.Steps.{◌>>=◌}
 
 -- the groups in front, at most this many, with the bytes behind them
@@ -26,22 +26,46 @@ span_at bytes = do
   size ← varint_at bytes
   if nat_lt (length size.1) size.0 then Err Cut else Ok (take size.0 size.1, drop size.0 size.1)
 
--- the payload that a wire type asks for; 3 and 4, which bracket a group, begin no field here
-unfoldable pub payload_at : ℕ → List ℕ → Result (Payload × List ℕ) Fault
-payload_at wire_type bytes =
+-- the tag in front: below 2 ^ 32, with a number of at least 1 and a wire type of at most 5
+unfoldable pub tag_at : List ℕ → Result (ℕ × List ℕ) Fault
+tag_at bytes = do
+  tag ← varint_at bytes
+  if nat_le (2 ^ 32) tag.0 || nat_lt tag.0 8 || nat_lt 5 (tag.0 % 8) then Err BadTag else Ok tag
+
+-- the payload that a wire type asks for, where `group` says what is behind a group of a number; the end of a group
+-- begins no field
+unfoldable pub payload_at : (ℕ → List ℕ → Result (List ℕ) Fault) → ℕ → ℕ → List ℕ → Result (Payload × List ℕ) Fault
+payload_at group number wire_type bytes =
     if wire_type == 0 then (varint_at bytes >>= λ found. Ok (Varint found.0, found.1))
     else if wire_type == 1 then fixed_at w64 Eight bytes
     else if wire_type == 2 then (span_at bytes >>= λ found. Ok (Span found.0, found.1))
+    else if wire_type == 3 then (group number bytes >>= λ rest. Ok (Group, rest))
     else if wire_type == 5 then fixed_at w32 Four bytes
-    else Err BadTag
+    else Err BadGroup
+
+-- the field in front, where `group` says what is behind a group
+unfoldable pub field_with : (ℕ → List ℕ → Result (List ℕ) Fault) → List ℕ → Result (Field × List ℕ) Fault
+field_with group bytes = do
+  tag ← tag_at bytes
+  payload ← payload_at group (tag.0 / 8) (tag.0 % 8) tag.1
+  Ok (record { number = tag.0 / 8; payload = payload.0; raw = take (length bytes - length payload.1) bytes }, payload.1)
+
+-- what is behind the end tag of a number: in front of it are at most this many fields, which `field` reads
+unfoldable pub behind_end : (List ℕ → Result (Field × List ℕ) Fault) → ℕ → ℕ → List ℕ → Result (List ℕ) Fault
+behind_end field zero number bytes = Err Cut
+behind_end field (suc most) number bytes = do
+  tag ← tag_at bytes
+  if tag.0 % 8 == 4 then (if tag.0 / 8 == number then Ok tag.1 else Err BadGroup)
+      else (field bytes >>= λ first. behind_end field most number first.1)
+
+-- what is behind a group of a number, from behind its start tag on; this many levels of groups may be open
+unfoldable pub group_at : ℕ → ℕ → List ℕ → Result (List ℕ) Fault
+group_at zero number bytes = Err BadGroup
+group_at (suc deeper) number bytes = behind_end (field_with (group_at deeper)) (suc (length bytes)) number bytes
 
 -- the field in front
 unfoldable pub field_at : List ℕ → Result (Field × List ℕ) Fault
-field_at bytes = do
-  tag ← varint_at bytes
-  if nat_le (2 ^ 32) tag.0 || nat_lt tag.0 8 then Err BadTag else (do
-    payload ← payload_at (tag.0 % 8) tag.1
-    Ok (record { number = tag.0 / 8; payload = payload.0; raw = take (length bytes - length payload.1) bytes }, payload.1))
+field_at bytes = field_with (group_at deepest_group) bytes
 
 -- at most this many fields, up to the end
 unfoldable pub fields_within : ℕ → List ℕ → Result (List Field) Fault

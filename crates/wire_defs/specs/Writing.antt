@@ -2,7 +2,7 @@
 use Rattle.std.specs.Prelude.{ℕ, zero, suc, ◌+◌, ◌/◌, ◌%◌, List, [], ◌∷◌, ◌++◌, length, nat_lt, if◌then◌else◌}
 use Rattle.std.specs.Int.{w32, w64, to_le_bytes}
 use Rattle.wire_defs.specs.Field.{Payload, tag_of}
-use Rattle.wire_defs.specs.Field.Payload.{Varint, Eight, Span, Four}
+use Rattle.wire_defs.specs.Field.Payload.{Varint, Eight, Span, Four, Group}
 
 -- a field to be written
 pub record Written : Type 0 where
@@ -18,12 +18,13 @@ groups (suc most) n = if nat_lt n 128 then n ∷ [] else (n % 128 + 128) ∷ gro
 unfoldable pub varint : ℕ → List ℕ
 varint n = groups 10 n
 
--- the bytes of a payload behind its tag
+-- the bytes of a payload behind its tag; a writer makes no groups of its own
 unfoldable pub payload_bytes : Payload → List ℕ
 payload_bytes (Varint n) = varint n
 payload_bytes (Eight n) = to_le_bytes w64 n
 payload_bytes (Span content) = varint (length content) ++ content
 payload_bytes (Four n) = to_le_bytes w32 n
+payload_bytes Group = []
 
 -- the bytes of a field: its tag and its payload
 unfoldable pub spelled : Written → List ℕ

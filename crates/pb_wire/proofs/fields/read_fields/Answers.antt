@@ -19,8 +19,8 @@ returns-clause-only c = λ fields spelled.
     is_only c.args.bytes.now c.placed_fields.result fields spelled (is_exact c.args.bytes.now (λ i. omega (arith, c.type_inv.bytes i)) c.placed_fields.result c.placed_fields.ensures)
 
 pub returns-clause-none : goal.returns-clause-none
-returns-clause-none c =
-    is_none c.args.bytes.now c.placed_fields.result c.placed_fields.ensures
+returns-clause-none c = λ fault.
+    is_none c.args.bytes.now c.placed_fields.result fault c.placed_fields.ensures
 
 pub returns-clause-exact : goal.returns-clause-exact
 returns-clause-exact c =

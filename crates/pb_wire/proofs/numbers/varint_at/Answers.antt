@@ -1,4 +1,4 @@
-use Rattle.pb_wire.proofs.Groups.{one_byte}
+use Rattle.pb_wire.proofs.Varints.{one_byte}
 use Rattle.pb_wire.proofs.numbers.varint_at.Goals as goal
 
 pub returns-in-len1-up : goal.returns-in-len1-up

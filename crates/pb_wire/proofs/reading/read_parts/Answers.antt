@@ -2,7 +2,9 @@ use Rattle.std.proofs.Common.{◌≡◌, ◌++◌, ◌∷◌, [], sym}
 use Rattle.std.proofs.lemmas.Bool.{eqb-true}
 use Rattle.std.proofs.lemmas.List.{map_push}
 use Rattle.wire_defs.proofs.Shorter.{field_shorter}
+use Rattle.wire_defs.specs.Reading.{field_at, fields_of}
 use Rattle.pb_wire.specs.Parts.{part_seen, parts_seen}
+use Rattle.pb_wire.proofs.Faults.{fails_on}
 use Rattle.pb_wire.proofs.Lists.{begins, goes_on, stops, ends, some_left, on_err}
 use Rattle.pb_wire.proofs.reading.read_parts.Goals as goal
 
@@ -23,7 +25,7 @@ fields-preserved c =
 
 pub returns-in-Err-clause-fault : goal.returns-in-Err-clause-fault
 returns-in-Err-clause-fault c =
-    stops (parts_seen c.args.parts.now.items) (parts_seen c.fields.parts.items) c.fields.rest.now c.args.bytes.now c.fields.invariant _ (some_left _ c.fields-test.ensures) c.in-Err.ensures
+    fails_on (Unit {0}) (field_at c.fields.rest.now) (fields_of c.args.bytes.now) c.in-Err.fault (λ told e. stops (parts_seen c.args.parts.now.items) (parts_seen c.fields.parts.items) c.fields.rest.now c.args.bytes.now c.fields.invariant told (some_left _ c.fields-test.ensures) e) c.in-Err.ensures
 
 pub returns-in-Err-clause-kept : goal.returns-in-Err-clause-kept
 returns-in-Err-clause-kept c = (c.fields.invariant.more, c.fields.invariant.kept)
