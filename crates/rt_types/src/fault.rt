@@ -6,6 +6,19 @@ pub enum Kind {
     FeedMessage,
     FeedHeader,
     FeedEntity,
+    TripUpdate,
+    StopTimeUpdate,
+    StopTimeEvent,
+    StopTimeProperties,
+    VehiclePosition,
+    Position,
+    VehicleDescriptor,
+    Alert,
+    TimeRange,
+    EntitySelector,
+    TranslatedString,
+    Translation,
+    TripDescriptor,
 }
 
 /// What is wrong in a message.
@@ -17,7 +30,7 @@ pub enum What {
     Varint,
     /// A tag names no field: it is 2^32 or more, its number is 0, or its wire type is none.
     Tag,
-    /// A group ends without its start, or is nested too deep.
+    /// A group ends that isn't open, or begins within 64 others.
     Group,
     /// A required field is missing.
     Missing,

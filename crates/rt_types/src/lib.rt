@@ -8,17 +8,31 @@
 //! The crate stands on nothing of this repository; the definitions of the crates above speak of its types.
 #![tactic(auto)]
 
+mod alert;
+mod boxed;
 mod copied;
+mod descriptor;
+mod enums;
 mod fault;
 mod items;
 mod message;
 #[cfg(test)]
 mod tests;
 mod text;
+mod trip_update;
+mod vehicle;
 
+pub use alert::{
+    Alert, Period, Periods, Selector, Selectors, Translated, Translation, Translations,
+};
+pub use boxed::Boxed;
 pub use copied::Copied;
+pub use descriptor::TripRef;
+pub use enums::{Cause, Effect, Incrementality, StopRelation, StopStatus, TripRelation};
 pub use fault::{Kind, What};
 pub use items::Items;
-pub use message::{Entities, Entity, FeedMessage, Header, Incrementality};
+pub use message::{Entities, Entity, FeedMessage, Header};
 pub use std::alloc::AllocError as NoMemory;
 pub use text::{Bytes, Text};
+pub use trip_update::{Event, StopProps, StopUpdate, StopUpdates, TripUpdate};
+pub use vehicle::{Degrees, Position, Vehicle, VehicleRef};

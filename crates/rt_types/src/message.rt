@@ -1,16 +1,14 @@
-// The messages of GTFS Realtime 2.0, each a struct. Field numbers and meanings are those of the reference.
+// What a feed sends (GTFS Realtime 2.0, FeedMessage).
 
+use crate::alert::Alert;
+use crate::boxed::Boxed;
 use crate::copied::Copied;
+use crate::enums::Incrementality;
 use crate::items::Items;
 use crate::text::{Bytes, Text};
+use crate::trip_update::TripUpdate;
+use crate::vehicle::Vehicle;
 use std::alloc::AllocError;
-
-/// Whether a message is the whole data set of its feed or a change to it (FeedHeader, `incrementality`).
-#[derive(Clone, Copy, PartialEq, Eq, Debug)]
-pub enum Incrementality {
-    FullDataset,
-    Differential,
-}
 
 /// A FeedHeader.
 #[derive(Drop)]
@@ -32,6 +30,12 @@ pub struct Entity {
     pub id: Text,
     /// Whether a differential message takes the entity away.
     pub is_deleted: Option<bool>,
+    /// What is known of a trip's times.
+    pub trip_update: Option<Boxed<TripUpdate>>,
+    /// Where a vehicle is.
+    pub vehicle: Option<Boxed<Vehicle>>,
+    /// What passengers are told.
+    pub alert: Option<Boxed<Alert>>,
     /// The fields that this profile does not know, as they came.
     pub unknown: Bytes,
 }
@@ -64,6 +68,9 @@ impl Copied for Entity {
         Ok(Entity {
             id: self.id.copy()?,
             is_deleted: self.is_deleted,
+            trip_update: self.trip_update.copy()?,
+            vehicle: self.vehicle.copy()?,
+            alert: self.alert.copy()?,
             unknown: self.unknown.copy()?,
         })
     }

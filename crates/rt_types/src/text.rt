@@ -3,22 +3,28 @@
 ghost use Rattle.std.specs.Prelude.{◌≡◌, IfOk};
 
 use crate::copied::Copied;
+use smallvec::SmallVec;
 use std::alloc::{AllocError, Global};
+use std::convert::AsStr;
 use std::marker::Model;
+use std::{fmt, str};
 
-/// A text of a message. A contract sees its bytes, in UTF-8.
-#[derive(Debug, Drop)]
+/// A text of a message. A contract sees its bytes, which are UTF-8.
+///
+/// Up to 22 bytes stand in place, so that ids and dates need no allocation.
+#[derive(Drop)]
 pub struct Text {
-    inner: String,
+    bytes: SmallVec<u8, 22>,
 }
 
 impl Model for Text {
-    ghost use Rattle.std.specs.Prelude.{ℕ, List};
-    ghost use Rattle.std.specs.String.{string_bytes};
+    ghost use Rattle.std.specs.Prelude.{ℕ, List, IsUtf8};
 
     ghost Value = { List ℕ };
 
-    ghost view = { λ text. string_bytes text.inner };
+    ghost view = { λ text. text.bytes.items };
+
+    ghost invariant = { λ text. IsUtf8 text.bytes.items };
 }
 
 impl Text {
@@ -27,7 +33,7 @@ impl Text {
         ensures { IfOk result (λ copy. copy ≡ text.now) }
     {
         Ok(Text {
-            inner: String::from_str(alloc, text)?,
+            bytes: SmallVec::from_slice(alloc, text.as_bytes())?,
         })
     }
 
@@ -35,15 +41,27 @@ impl Text {
     pub fn as_str(&self) -> &str
         ensures { result.now ≡ self.now }
     {
-        self.inner.as_str()
+        unsafe { str::from_utf8_unchecked(self.bytes.as_slice()) }
+    }
+}
+
+impl AsStr for Text {
+    ghost text = { λ text. text };
+
+    fn as_str(&self) -> &str {
+        Text::as_str(self)
     }
 }
 
 impl Copied for Text {
     fn copy(&self) -> Result<Self, AllocError> {
-        Ok(Text {
-            inner: self.inner.clone()?,
-        })
+        Text::new(*self.bytes.allocator(), self.as_str())
+    }
+}
+
+impl fmt::Debug for Text {
+    fn fmt<W: fmt::Write>(&self, f: &mut fmt::Formatter<W>) -> fmt::Result {
+        fmt::Debug::fmt(self.as_str(), f)
     }
 }
 
@@ -69,6 +87,13 @@ impl Bytes {
         Ok(Bytes {
             inner: Vec::from_slice(alloc, bytes)?,
         })
+    }
+
+    /// These bytes, with no copy.
+    pub fn from_vec(bytes: Vec<u8>) -> Bytes
+        ensures { result ≡ bytes.items }
+    {
+        Bytes { inner: bytes }
     }
 
     /// The bytes.
