@@ -1,19 +1,24 @@
 -- The kinds of fields: what each reads depends only on the fields that it takes, and reading gives back what was written.
-use Rattle.std.proofs.Common.{◌≡◌, ℕ, ◌%◌, ◌^◌, ◌<◌, Bool, true, false, cond, List, [], ◌∷◌, length, refl, ◌∙◌, ap, subst, arith}
+use Rattle.std.proofs.Common.{◌≡◌, ℕ, negsuc, suc, ◌-◌, ◌%◌, ◌^◌, ◌<◌, Bool, true, false, cond, List, [], ◌∷◌, length, refl, ◌∙◌, ap, subst, arith, inl, inr}
 use Rattle.std.specs.Prelude.{Option, Some, None, is_some, Result, Ok, filter, ◌==◌}
 use Rattle.std.specs.List.{filter_map, last_or, AllByRecursion}
 use Rattle.std.specs.Option.{option_and_then}
 use Rattle.std.specs.Str.{is_utf8}
-use Rattle.std.proofs.lemmas.Bool.{eqb-true, eq-eqb}
+use Rattle.std.specs.Int.{w32, w64, cast_signed, cast_unsigned}
+use Rattle.std.proofs.Math.Nat.{mod-eq_of_lt}
+use Rattle.std.proofs.lemmas.Int.{to_z_pos, of_z-to_z}
+use Rattle.std.proofs.Math.Facts.{to_z-neg}
+use Rattle.std.proofs.lemmas.Bool.{eqb-true, eq-eqb, cases_lt}
 use Rattle.std.proofs.lemmas.List.{length-append}
 use Rattle.rt_types.specs.declared.fault.Kind.{Kind}
+use Rattle.rt_types.specs.declared.vehicle.Degrees.{Degrees}
 use Rattle.wire_defs.specs.Field.{Payload, Field}
-use Rattle.wire_defs.specs.Field.Payload.{Varint, Eight, Span, Four}
+use Rattle.wire_defs.specs.Field.Payload.{Varint, Eight, Span, Four, Group}
 use Rattle.wire_defs.specs.Writing.{varint, payload_bytes}
 use Rattle.wire_defs.proofs.Bytes.{AreBytes}
 use Rattle.wire_defs.proofs.Steps.{bind_ok}
-use Rattle.wire_defs.proofs.Again.{IsInRange, CarriesBytes, WasRead}
-use Rattle.feed_defs.specs.Rows.{Fault, Message, FieldKind, at, occurring, last_of, varint_in, span_in, bool_in, bool_payload, scalar, u64, bool, choice, text, as_text, merged, embedded, value, written}
+use Rattle.wire_defs.proofs.Again.{IsInRange, WasInRange, CarriesBytes, WasRead}
+use Rattle.feed_defs.specs.Rows.{Fault, Message, FieldKind, at, occurring, last_of, varint_in, span_in, bool_in, bool_payload, degrees_in, degrees_payload, scalar, u64, u32, i32, i64, degrees, bool, choice, text, as_text, merged, embedded, value, written}
 use Rattle.feed_defs.proofs.Sifted.{said_same}
 
 -- a message that was read is read again from the bytes that are written of it
@@ -81,20 +86,20 @@ last_own : {A : Type 0} (says : Payload → Option A) (n : ℕ) (payload : Paylo
 unfolding last_of
 last_own says n payload raw x e = rw (at_own says n payload raw, e) refl
 
-last_fits : {A : Type 0} (says : Payload → Option A) (n : ℕ) (P : A → Type 0) → ((payload : Payload) (x : A) → IsInRange payload → says payload ≡ Some x → P x) → (fields : List Field) (x : A) → AllByRecursion WasRead fields → last_of says n fields ≡ Some x → P x
+last_fits : {A : Type 0} (says : Payload → Option A) (n : ℕ) (P : A → Type 0) → ((payload : Payload) (x : A) → WasInRange payload → says payload ≡ Some x → P x) → (fields : List Field) (x : A) → AllByRecursion WasRead fields → last_of says n fields ≡ Some x → P x
 unfolding last_of
 last_fits says n P holds fields x each e = last_holds says n P (λ field y was is. holds field.payload y was.fits is) fields None x (λ y none. absurd (cc)) each e
 
--- a number, if what it is written as says it again
-pub scalar_lawful : {A : Type 0} (n : ℕ) (says : Payload → Option A) (write : A → Payload) → ((payload : Payload) (x : A) → IsInRange payload → says payload ≡ Some x → IsInRange (write x)) → ((x : A) → says (write x) ≡ Some x) → IsLawfulKind n (scalar says write)
-scalar_lawful {A} n says write fits again =
+-- a number, if what it is written as is taken, and says it again where it was read
+pub scalar_lawful : {A : Type 0} (n : ℕ) (says : Payload → Option A) (write : A → Payload) → ((payload : Payload) (x : A) → WasInRange payload → says payload ≡ Some x → IsInRange (write x)) → ((x : A) → is_some (says (write x)) ≡ true) → ((payload : Payload) (x : A) → WasInRange payload → says payload ≡ Some x → says (write x) ≡ Some x) → IsLawfulKind n (scalar says write)
+scalar_lawful {A} n says write fits taken again =
     record {
       numbered = λ field h. at_number says n field h;
       same = λ name fields others e. ap Ok (last_same says n fields others e);
       none = λ name. ap Ok (last_none says n);
-      knows = λ x raw. rw (at_own says n (write x) raw, again x) refl;
+      knows = λ x raw. rw (at_own says n (write x) raw) (taken x);
       fits = λ name fields x each e small. last_fits says n (λ y. IsInRange (write y)) fits fields x each (given_is e);
-      back = λ name fields x raw each e small. ap Ok (last_own says n (write x) raw x (again x));
+      back = λ name fields x raw each e small. ap Ok (last_own says n (write x) raw x (last_fits says n (λ y. says (write y) ≡ Some y) again fields x each (given_is e)));
     }
   where
     given : Option A → Result (Option A) Fault
@@ -103,30 +108,108 @@ scalar_lawful {A} n says write fits again =
     given_is : {o p : Option A} → given o ≡ given p → o ≡ p
     given_is e = cc
 
-varint_is : (payload : Payload) (n : ℕ) → IsInRange payload → varint_in payload ≡ Some n → n < 2 ^ 64
-varint_is (Varint m) n fits e = let k : m ≡ n = cc in rw (← k) fits
-varint_is (Eight m) n fits e = absurd (cc)
-varint_is (Span bytes) n fits e = absurd (cc)
-varint_is (Four m) n fits e = absurd (cc)
+-- a number that is read of a varint by a rule, if its own varint gives it by that rule
+pub varint_lawful : {A : Type 0} (n : ℕ) (named : ℕ → Option A) (number : A → ℕ) → ((m : ℕ) (x : A) → m < 2 ^ 64 → named m ≡ Some x → number x < 2 ^ 64) → ((x : A) → is_some (named (number x)) ≡ true) → ((m : ℕ) (x : A) → m < 2 ^ 64 → named m ≡ Some x → named (number x) ≡ Some x) → IsLawfulKind n (scalar (λ payload. option_and_then named (varint_in payload)) (λ x. Varint (number x)))
+varint_lawful {A} n named number small taken again =
+    scalar_lawful n (λ payload. option_and_then named (varint_in payload)) (λ x. Varint (number x)) fits taken back
+  where
+    fits : (payload : Payload) (x : A) → WasInRange payload → option_and_then named (varint_in payload) ≡ Some x → number x < 2 ^ 64
+    fits (Varint m) x h e = small m x h e
+    fits (Eight m) x h e = absurd (cc)
+    fits (Span bytes) x h e = absurd (cc)
+    fits (Four m) x h e = absurd (cc)
+    fits Group x h e = absurd (cc)
+
+    back : (payload : Payload) (x : A) → WasInRange payload → option_and_then named (varint_in payload) ≡ Some x → named (number x) ≡ Some x
+    back (Varint m) x h e = again m x h e
+    back (Eight m) x h e = absurd (cc)
+    back (Span bytes) x h e = absurd (cc)
+    back (Four m) x h e = absurd (cc)
+    back Group x h e = absurd (cc)
 
 pub u64_lawful : (n : ℕ) → IsLawfulKind n u64
-u64_lawful n = scalar_lawful n varint_in Varint varint_is (λ x. refl)
+u64_lawful n = scalar_lawful n varint_in Varint is_small (λ x. refl) (λ payload x fits e. refl)
+  where
+    is_small : (payload : Payload) (x : ℕ) → WasInRange payload → varint_in payload ≡ Some x → x < 2 ^ 64
+    is_small (Varint m) x fits e = let k : m ≡ x = cc in rw (← k) fits
+    is_small (Eight m) x fits e = absurd (cc)
+    is_small (Span bytes) x fits e = absurd (cc)
+    is_small (Four m) x fits e = absurd (cc)
+    is_small Group x fits e = absurd (cc)
 
-bool_fits : (b : Bool) → IsInRange (bool_payload b)
-bool_fits true = omega arith
-bool_fits false = omega arith
+-- a value that is given by a function is its value
+given_by : {A B : Type 0} (f : A → B) (x : A) (y : B) → (let told : Option B = Some (f x) in told) ≡ Some y → f x ≡ y
+given_by f x y e = cc
 
-bool_again : (b : Bool) → bool_in (bool_payload b) ≡ Some b
-bool_again true = refl
-bool_again false = refl
+pub u32_lawful : (n : ℕ) → IsLawfulKind n u32
+u32_lawful n =
+    varint_lawful n (λ m. Some (m % 2 ^ 32)) (λ x. x)
+    (λ m x fits e. let is = given_by (λ k. k % 2 ^ 32) m x e in omega arith)
+    (λ x. refl)
+    (λ m x fits e. let is = given_by (λ k. k % 2 ^ 32) m x e in ap Some (mod-eq_of_lt (omega arith)))
+
+-- a signed number of 32 bits takes 64 on the wire, of which the low half is its own
+half_again : (k : ℕ) → k < 2 ^ 32 → (cast_unsigned w64 (cast_signed w32 k) < 2 ^ 64) × (cast_unsigned w64 (cast_signed w32 k) % 2 ^ 32 ≡ k)
+half_again k lt =
+    elim (cases_lt k (2 ^ 31)) [
+      | inl low ↦ rw (to_z_pos w32 k low) (omega arith, mod-eq_of_lt lt)
+      | inr high ↦
+          let j = 2 ^ 32 - suc k in
+          let is : 2 ^ 32 - suc j ≡ k = omega arith in
+          let signed : cast_signed w32 k ≡ negsuc j = subst (λ (m : ℕ). cast_signed w32 m ≡ negsuc j) is (to_z-neg w32 j (omega arith)) in
+          rw signed (omega arith, omega arith)
+    ]
+
+pub i32_lawful : (n : ℕ) → IsLawfulKind n i32
+i32_lawful n =
+    varint_lawful n (λ m. Some (cast_signed w32 (m % 2 ^ 32))) (λ z. cast_unsigned w64 z)
+    (λ m z fits e. let is = given_by (λ k. cast_signed w32 (k % 2 ^ 32)) m z e in rw (← is) (half_again (m % 2 ^ 32) (omega arith)).0)
+    (λ z. refl)
+    (λ m z fits e. let is = given_by (λ k. cast_signed w32 (k % 2 ^ 32)) m z e in rw (← is) (ap (λ (k : ℕ). Some (cast_signed w32 k)) (half_again (m % 2 ^ 32) (omega arith)).1))
+
+pub i64_lawful : (n : ℕ) → IsLawfulKind n i64
+i64_lawful n =
+    varint_lawful n (λ m. Some (cast_signed w64 m)) (λ z. cast_unsigned w64 z)
+    (λ m z fits e. let is = given_by (λ k. cast_signed w64 k) m z e in rw (← is, of_z-to_z w64 m fits) fits)
+    (λ z. refl)
+    (λ m z fits e. let is = given_by (λ k. cast_signed w64 k) m z e in rw (← is, of_z-to_z w64 m fits) refl)
+
+abbrev bits_of : Option Degrees → Option ℕ
+bits_of None = None
+bits_of (Some x) = Some x.bits
+
+pub degrees_lawful : (n : ℕ) → IsLawfulKind n degrees
+degrees_lawful n = scalar_lawful n degrees_in degrees_payload fits (λ x. refl) (λ payload x h e. refl)
+  where
+    fits : (payload : Payload) (x : Degrees) → WasInRange payload → degrees_in payload ≡ Some x → x.bits < 2 ^ 32
+    fits (Varint m) x h e = absurd (cc)
+    fits (Eight m) x h e = absurd (cc)
+    fits (Span bytes) x h e = absurd (cc)
+    fits (Four m) x h e = let k : m ≡ x.bits = given_by (λ (r : Degrees). r.bits) (record { bits = m }) x.bits (ap bits_of e) in rw (← k) h
+    fits Group x h e = absurd (cc)
 
 pub bool_lawful : (n : ℕ) → IsLawfulKind n bool
-bool_lawful n = scalar_lawful n bool_in bool_payload (λ payload b fits e. bool_fits b) bool_again
+bool_lawful n = scalar_lawful n bool_in bool_payload (λ payload b fits e. bool_fits b) taken (λ payload b fits e. bool_again b)
+  where
+    bool_fits : (b : Bool) → IsInRange (bool_payload b)
+    bool_fits true = omega arith
+    bool_fits false = omega arith
+
+    bool_again : (b : Bool) → bool_in (bool_payload b) ≡ Some b
+    bool_again true = refl
+    bool_again false = refl
+
+    taken : (b : Bool) → is_some (bool_in (bool_payload b)) ≡ true
+    taken true = refl
+    taken false = refl
 
 -- an enum, if the number of each value names it
-pub choice_lawful : {A : Type 0} (n : ℕ) (named : ℕ → Option A) (number : A → ℕ) → ((x : A) → number x < 2 ^ 64) → ((x : A) → named (number x % 2 ^ 32) ≡ Some x) → IsLawfulKind n (choice named number)
-choice_lawful n named number small again =
-    scalar_lawful n (λ payload. option_and_then (λ k. named (k % 2 ^ 32)) (varint_in payload)) (λ x. Varint (number x)) (λ payload x fits e. small x) again
+pub choice_lawful : {A : Type 0} (n : ℕ) (named : ℕ → Option A) (number : A → ℕ) → ((x : A) → number x < 2 ^ 32) → ((x : A) → named (number x) ≡ Some x) → IsLawfulKind n (choice named number)
+choice_lawful {A} n named number small again =
+    varint_lawful n (λ m. named (m % 2 ^ 32)) number (λ m x fits e. let lt = small x in omega (arith, lt)) (λ x. rw (own x) refl) (λ m x fits e. own x)
+  where
+    own : (x : A) → named (number x % 2 ^ 32) ≡ Some x
+    own x = ap named (mod-eq_of_lt (small x)) ∙ again x
 
 -- ---- runs of bytes
 
@@ -173,6 +256,7 @@ span_carries (Varint n) bytes h e = absurd (cc)
 span_carries (Eight n) bytes h e = absurd (cc)
 span_carries (Span content) bytes h e = let same : content ≡ bytes = cc in subst AreBytes same h
 span_carries (Four n) bytes h e = absurd (cc)
+span_carries Group bytes h e = absurd (cc)
 
 -- the runs of bytes that were read are bytes
 pub occurring_bytes : (n : ℕ) (fields : List Field) → AllByRecursion WasRead fields → AllByRecursion AreBytes (occurring span_in n fields)

@@ -17,7 +17,7 @@ use Rattle.feed_defs.specs.declared.history.Stored.{Stored}
 use Rattle.rt_types.specs.declared.message.FeedMessage.{FeedMessage}
 use Rattle.feed_defs.specs.History.{Change, is_kept, last_said, kept_of, entity_at, changes_of, listed, held}
 
-abbrev id_cmp : List ℕ → List ℕ → Ordering
+abbrev pub id_cmp : List ℕ → List ℕ → Ordering
 id_cmp = slice_cmp nat_cmp
 
 -- the first option that says something
@@ -72,11 +72,11 @@ found_last q (c ∷ cs) =
         by_last None = refl
         by_last (Some x) = refl
 
-left : (a b : Bool) → T (a && b) → T a
+pub left : (a b : Bool) → T (a && b) → T a
 left true b p = tt
 left false b p = p
 
-right : (a b : Bool) → T (a && b) → T b
+pub right : (a b : Bool) → T (a && b) → T b
 right true b p = p
 right false b p = absurd p
 
@@ -99,7 +99,8 @@ below_none p q (e ∷ es) h = by_test (p e) (below_none p q es (right _ _ h))
     by_test true rest = ap (λ b. cond b (Some e.1) (find id_cmp q (filter p es))) (less_not_equal _ (left _ _ h)) ∙ rest
     by_test false rest = rest
 
-abbrev kept_stored : Option Stored → Option Stored
+-- a stored entity, unless it says that it is deleted
+abbrev pub kept_stored : Option Stored → Option Stored
 kept_stored None = None
 kept_stored (Some s) = if is_kept ([], s) then Some s else None
 
@@ -108,7 +109,7 @@ equal Less e = cc
 equal Equal e = refl
 equal Greater e = cc
 
-find_kept : (q : List ℕ) (es : List Change) → T (is_sorted id_cmp es) → find id_cmp q (filter is_kept es) ≡ kept_stored (find id_cmp q es)
+pub find_kept : (q : List ℕ) (es : List Change) → T (is_sorted id_cmp es) → find id_cmp q (filter is_kept es) ≡ kept_stored (find id_cmp q es)
 find_kept q [] h = refl
 find_kept q (e ∷ es) h = by_tie (find_kept q es (right _ _ h)) (eq_by_cmp id_cmp q e.0) refl (is_kept e) refl
   where

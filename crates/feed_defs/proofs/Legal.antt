@@ -1,6 +1,6 @@
 -- Legal histories: the empty one, and one with a newer message at its end.
 use Rattle.std.proofs.Common.{◌≡◌, ◌≢◌, ◌⊎◌, inl, inr, ◌<◌, ℕ, length, List, [], ◌∷◌, ◌++◌, map, Bool, true, false, Option, Some, None, Result, Ok, Err, refl, sym, ap, ◌∙◌, subst, arith, append-nil}
-use Rattle.std.specs.Prelude.{nat_lt, nat_le, nat_eq, ◌&&◌, unwrap_or, if◌then◌else◌}
+use Rattle.std.specs.Prelude.{nat_lt, nat_eq, ◌&&◌, unwrap_or, if◌then◌else◌}
 use Rattle.std.specs.List.{last_or, filter_map, cons_option}
 use Rattle.std.proofs.lemmas.List.{map-append}
 use Rattle.std.proofs.lemmas.List.Elements.{filter_map-append}
@@ -8,8 +8,9 @@ use Rattle.std.proofs.lemmas.List.Folds.{list_all-append}
 use Rattle.std.proofs.lemmas.Bool.Decides.{nat_tests}
 use Rattle.rt_types.specs.declared.message.FeedMessage.{FeedMessage}
 use Rattle.feed_defs.specs.declared.history.Entry.{Entry}
-use Rattle.feed_defs.specs.History.{Refusal, message_of, messages_of, stamps_of, stamp_of, last_stamp, is_rising, is_sound, is_legal_entry, if_sound, well_formed, newer, judged, IsLegal, longest_message}
-use Rattle.feed_defs.specs.History.Refusal.{Stale}
+use Rattle.feed_defs.specs.History.{Refusal, message_of, messages_of, stamps_of, stamp_of, last_stamp, is_rising, has_version, has_moment, is_sound, sound, is_legal_entry, if_read, well_formed, newer, judged, IsLegal, longest_message}
+use Rattle.feed_defs.specs.History.Refusal.{TooLong, Stale}
+use Rattle.wire_defs.specs.Steps.{◌>>=◌}
 use Rattle.feed_defs.specs.Rows.{Fault}
 use Rattle.feed_defs.specs.Table.{read}
 
@@ -88,21 +89,22 @@ pub record IsNewer (last : ℕ) (m : FeedMessage) : Type 0 where
   pub sound : is_sound m ≡ true
   pub above : last < stamp_of m
 
-sound_only : (b : Bool) (x m : FeedMessage) → is_sound x ≡ b → (if b then Some x else None) ≡ Some m → is_sound m ≡ true
-sound_only true x m s e = let same : x ≡ m = cc in subst (λ y. is_sound y ≡ true) same s
-sound_only false x m s e = cc
+sound_only : (x m : FeedMessage) (v s : Bool) → has_version x ≡ v → has_moment x ≡ s → sound x ≡ Ok m → is_sound m ≡ true
+sound_only x m true true v s e = let t = rw (v, s) at e in let same : x ≡ m = cc in subst (λ y. is_sound y ≡ true) same (rw (v, s) refl)
+sound_only x m true false v s e = let t = rw (v, s) at e in cc
+sound_only x m false s v w e = let t = rw v at e in cc
 
-well_formed-sound : (bytes : List ℕ) (m : FeedMessage) → well_formed bytes ≡ Some m → is_sound m ≡ true
+well_formed-sound : (bytes : List ℕ) (m : FeedMessage) → well_formed bytes ≡ Ok m → is_sound m ≡ true
 unfolding well_formed
-well_formed-sound bytes m = by_length (nat_le (length bytes) longest_message) (read bytes)
+well_formed-sound bytes m = by_length (nat_lt longest_message (length bytes)) (read bytes)
   where
-    by_read : (r : Result FeedMessage Fault) → if_sound r ≡ Some m → is_sound m ≡ true
-    by_read (Ok x) e = sound_only (is_sound x) x m refl e
+    by_read : (r : Result FeedMessage Fault) → if_read r ≡ Ok m → is_sound m ≡ true
+    by_read (Ok x) e = sound_only x m (has_version x) (has_moment x) refl refl e
     by_read (Err f) e = cc
 
-    by_length : (b : Bool) (r : Result FeedMessage Fault) → (if b then if_sound r else None) ≡ Some m → is_sound m ≡ true
-    by_length true r e = by_read r e
-    by_length false r e = cc
+    by_length : (b : Bool) (r : Result FeedMessage Fault) → (if b then Err (TooLong (length bytes)) else if_read r) ≡ Ok m → is_sound m ≡ true
+    by_length true r e = cc
+    by_length false r e = by_read r e
 
 pub judged-newer : (last : ℕ) (bytes : List ℕ) (m : FeedMessage) → judged last bytes ≡ Ok m → IsNewer last m
 judged-newer last bytes m = by_form (well_formed bytes) refl
@@ -113,6 +115,6 @@ judged-newer last bytes m = by_form (well_formed bytes) refl
         subst (λ y. IsNewer last y) same (record { sound = sound; above = grind (arith, nat_tests) })
     by_stamp x false less sound e = cc
 
-    by_form : (o : Option FeedMessage) → well_formed bytes ≡ o → newer last o ≡ Ok m → IsNewer last m
-    by_form None f e = cc
-    by_form (Some x) f e = by_stamp x (nat_lt last (stamp_of x)) refl (well_formed-sound bytes x f) e
+    by_form : (r : Result FeedMessage Refusal) → well_formed bytes ≡ r → (r >>= newer last) ≡ Ok m → IsNewer last m
+    by_form (Err refusal) f e = cc
+    by_form (Ok x) f e = by_stamp x (nat_lt last (stamp_of x)) refl (well_formed-sound bytes x f) e

@@ -6,3 +6,4 @@ pub mod Legal
 pub mod WellFormed
 pub mod Held
 pub mod Kept
+pub mod Applied

@@ -1,7 +1,7 @@
 -- The one feed that a hub makes of what its feeds hold.
 use Rattle.std.specs.Prelude.{ℕ, zero, suc, List, [], ◌++◌, length, map, max, Some, codes}
 use Rattle.std.specs.List.{flat_map, enumerate_from}
-use Rattle.rt_types.specs.declared.message.Incrementality.TheVariants.{FullDataset}
+use Rattle.rt_types.specs.declared.enums.Incrementality.TheVariants.{FullDataset}
 use Rattle.rt_types.specs.declared.message.Entity.{Entity}
 use Rattle.rt_types.specs.declared.message.FeedMessage.{FeedMessage}
 use Rattle.feed_defs.specs.declared.history.Entry.{Entry}

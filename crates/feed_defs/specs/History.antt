@@ -1,12 +1,13 @@
 -- Which messages a hub accepts, and what it holds of the messages that it accepted.
-use Rattle.std.specs.Prelude.{◌≡◌, ℕ, ◌+◌, List, [], ◌∷◌, ◌++◌, length, map, reverse, filter, Option, Some, None, Result, Ok, Err, Bool, true, false, not, unwrap_or, nat_lt, nat_le, codes, ◌==◌, ◌&&◌, ◌||◌, if◌then◌else◌}
+use Rattle.std.specs.Prelude.{◌≡◌, ℕ, ◌+◌, List, [], ◌∷◌, ◌++◌, length, map, reverse, filter, Option, Some, None, Result, Ok, Err, Bool, true, false, not, unwrap_or, fold, nat_lt, nat_le, codes, ◌==◌, ◌&&◌, ◌||◌, if◌then◌else◌}
 use Rattle.std.specs.List.{filter_map, flat_map, last_or, list_any, list_all}
 use Rattle.std.specs.Str.{bytes_eq}
 use Rattle.std.specs.Ordering.{nat_cmp}
 use Rattle.std.specs.Cmp.Lexicographic.{slice_cmp}
 use Rattle.std.specs.FinMap.{put}
-use Rattle.rt_types.specs.declared.message.Incrementality.{Incrementality}
-use Rattle.rt_types.specs.declared.message.Incrementality.TheVariants.{FullDataset, Differential}
+use Rattle.wire_defs.specs.Steps.{◌>>=◌}
+use Rattle.rt_types.specs.declared.enums.Incrementality.{Incrementality}
+use Rattle.rt_types.specs.declared.enums.Incrementality.TheVariants.{FullDataset, Differential}
 use Rattle.rt_types.specs.declared.message.FeedMessage.{FeedMessage}
 use Rattle.feed_defs.specs.declared.history.Entry.{Entry}
 use Rattle.feed_defs.specs.declared.history.Stored.{Stored}
@@ -36,26 +37,38 @@ has_moment m = nat_le 1 (stamp_of m) && nat_le (stamp_of m) last_moment
 abbrev pub is_sound : FeedMessage → Bool
 is_sound m = has_version m && has_moment m
 
-abbrev pub if_sound : Result FeedMessage Fault → Option FeedMessage
-if_sound (Ok m) = if is_sound m then Some m else None
-if_sound (Err f) = None
-
--- the message of well-formed bytes
-unfoldable pub well_formed : List ℕ → Option FeedMessage
-well_formed bytes = if nat_le (length bytes) longest_message then if_sound (read bytes) else None
-
--- why an offered message is refused: its bytes aren't well-formed, or it isn't newer than its feed's last
+-- Why an offered message is refused, in the order of judging: it has too many bytes (how many), its bytes have a
+-- fault, its version isn't one that the hub takes, its stamp isn't a moment, or its stamp isn't above its feed's last
+-- (the last, and its own).
 pub data Refusal : Type 0 where
-  NotWellFormed : Refusal
+  TooLong : ℕ → Refusal
+  Malformed : Fault → Refusal
+  Version : List ℕ → Refusal
+  BadStamp : ℕ → Refusal
   Stale : ℕ → ℕ → Refusal
 
--- the message of the bytes, if it is well-formed and newer than the stamp
-abbrev pub newer : ℕ → Option FeedMessage → Result FeedMessage Refusal
-newer last None = Err NotWellFormed
-newer last (Some m) = if nat_lt last (stamp_of m) then Ok m else Err (Stale last (stamp_of m))
+-- the message, if it may stand in a history
+abbrev pub sound : FeedMessage → Result FeedMessage Refusal
+sound m =
+    if not (has_version m) then Err (Version m.header.version)
+    else if not (has_moment m) then Err (BadStamp (stamp_of m))
+    else Ok m
 
+abbrev pub if_read : Result FeedMessage Fault → Result FeedMessage Refusal
+if_read (Ok m) = sound m
+if_read (Err fault) = Err (Malformed fault)
+
+-- the message of well-formed bytes
+unfoldable pub well_formed : List ℕ → Result FeedMessage Refusal
+well_formed bytes = if nat_lt longest_message (length bytes) then Err (TooLong (length bytes)) else if_read (read bytes)
+
+-- the message, if it is newer than the stamp
+abbrev pub newer : ℕ → FeedMessage → Result FeedMessage Refusal
+newer last m = if nat_lt last (stamp_of m) then Ok m else Err (Stale last (stamp_of m))
+
+-- the message of the bytes, if it is well-formed and newer than the stamp
 abbrev pub judged : ℕ → List ℕ → Result FeedMessage Refusal
-judged last bytes = newer last (well_formed bytes)
+judged last bytes = well_formed bytes >>= newer last
 
 -- the messages of one feed, and their stamps
 abbrev pub message_of : ℕ → Entry → Option FeedMessage
@@ -145,3 +158,15 @@ listed (change ∷ earlier) = put (slice_cmp nat_cmp) change.0 change.1 (listed 
 -- What a feed holds, by rising bytes of the ids: under each id just what `entity_at` says.
 unfoldable pub held : List FeedMessage → List Change
 held ms = filter is_kept (listed (reverse (changes_of ms)))
+
+-- what is held under other ids
+abbrev pub without : List ℕ → List Change → List Change
+without id held = filter (λ change. not (bytes_eq id change.0)) held
+
+-- what is held under the ids, changed by one entity: it takes the place of what its id had, or takes that away
+abbrev pub changed : List Change → Change → List Change
+changed held change = if is_kept change then put (slice_cmp nat_cmp) change.0 change.1 held else without change.0 held
+
+-- What is held, changed by a message: a whole data set starts from nothing, and then its entities count in their order.
+unfoldable pub applied : FeedMessage → List Change → List Change
+applied m held = fold changed (if is_full m then [] else held) (changes_in m)

@@ -1,16 +1,18 @@
 -- How a message is made of fields: reading with its first fault, and writing, said once for all messages.
 -- A row of a message's table is a word, as `required 1 text`, and `⊕` puts rows under one another.
-use Rattle.std.specs.Prelude.{ℕ, ◌+◌, ◌%◌, ◌^◌, List, [], ◌∷◌, ◌++◌, Option, Some, None, Result, Ok, Err, Bool, not, is_some, min, filter, ◌==◌, ◌||◌, if◌then◌else◌}
+use Rattle.std.specs.Prelude.{ℕ, ℤ, ◌+◌, ◌%◌, ◌^◌, List, [], ◌∷◌, ◌++◌, Option, Some, None, Result, Ok, Err, Bool, not, is_some, min, filter, ◌==◌, ◌||◌, if◌then◌else◌}
+use Rattle.std.specs.Int.{w32, w64, cast_signed, cast_unsigned}
 use Rattle.std.specs.List.{filter_map, flat_map, last_or}
 use Rattle.std.specs.Option.{option_and_then}
 use Rattle.std.specs.Str.{is_utf8}
 use Rattle.rt_types.specs.declared.fault.Kind.{Kind}
 use Rattle.rt_types.specs.declared.fault.What.{What}
 use Rattle.rt_types.specs.declared.fault.What.TheVariants as what
+use Rattle.rt_types.specs.declared.vehicle.Degrees.{Degrees}
 use Rattle.wire_defs.specs.Steps.{◌>>=◌}
 use Rattle.wire_defs.specs.Field.{Payload, Field, Fault as WireFault}
-use Rattle.wire_defs.specs.Field.Payload.{Varint, Eight, Span, Four}
-use Rattle.wire_defs.specs.Field.Fault.{Cut, Overlong, BadTag}
+use Rattle.wire_defs.specs.Field.Payload.{Varint, Eight, Span, Four, Group}
+use Rattle.wire_defs.specs.Field.Fault.{Cut, Overlong, BadTag, BadGroup}
 use Rattle.wire_defs.specs.Reading.{fields_of}
 use Rattle.wire_defs.specs.Writing.{Written, spelled}
 
@@ -30,6 +32,7 @@ abbrev pub wire_what : WireFault → What
 wire_what Cut = what.Cut
 wire_what Overlong = what.Varint
 wire_what BadTag = what.Tag
+wire_what BadGroup = what.Group
 
 -- the fields of a message's bytes, or its wire fault, which belongs to no field
 abbrev pub fields_in : Kind → List ℕ → Result (List Field) Fault
@@ -41,12 +44,21 @@ varint_in (Varint n) = Some n
 varint_in (Eight n) = None
 varint_in (Span bytes) = None
 varint_in (Four n) = None
+varint_in Group = None
 
 abbrev pub span_in : Payload → Option (List ℕ)
 span_in (Varint n) = None
 span_in (Eight n) = None
 span_in (Span bytes) = Some bytes
 span_in (Four n) = None
+span_in Group = None
+
+abbrev pub four_in : Payload → Option ℕ
+four_in (Varint n) = None
+four_in (Eight n) = None
+four_in (Span bytes) = None
+four_in (Four n) = Some n
+four_in Group = None
 
 -- what a field says under a number, where it has that number and its payload says something
 abbrev pub at : {A : Type 0} → (Payload → Option A) → ℕ → Field → Option A
@@ -105,6 +117,30 @@ scalar says write = record {
 abbrev pub u64 : FieldKind ℕ
 u64 = scalar varint_in Varint
 
+-- the low 32 bits of the varint
+abbrev pub u32_in : Payload → Option ℕ
+u32_in payload = option_and_then (λ n. Some (n % 2 ^ 32)) (varint_in payload)
+
+abbrev pub u32 : FieldKind ℕ
+u32 = scalar u32_in Varint
+
+-- signed numbers are two's complement of 64 bits on the wire, so a negative one takes ten bytes
+abbrev pub signed_payload : ℤ → Payload
+signed_payload z = Varint (cast_unsigned w64 z)
+
+-- the low 32 bits of the varint, as a signed number
+abbrev pub i32_in : Payload → Option ℤ
+i32_in payload = option_and_then (λ n. Some (cast_signed w32 (n % 2 ^ 32))) (varint_in payload)
+
+abbrev pub i32 : FieldKind ℤ
+i32 = scalar i32_in signed_payload
+
+abbrev pub i64_in : Payload → Option ℤ
+i64_in payload = option_and_then (λ n. Some (cast_signed w64 n)) (varint_in payload)
+
+abbrev pub i64 : FieldKind ℤ
+i64 = scalar i64_in signed_payload
+
 -- true where the varint isn't 0
 abbrev pub bool_in : Payload → Option Bool
 bool_in payload = option_and_then (λ n. Some (not (n == 0))) (varint_in payload)
@@ -114,6 +150,16 @@ bool_payload b = Varint (if b then 1 else 0)
 
 abbrev pub bool : FieldKind Bool
 bool = scalar bool_in bool_payload
+
+-- degrees, as the four bytes of a float, of which only the bits are known
+abbrev pub degrees_in : Payload → Option Degrees
+degrees_in payload = option_and_then (λ n. Some (record { bits = n })) (four_in payload)
+
+abbrev pub degrees_payload : Degrees → Payload
+degrees_payload x = Four x.bits
+
+abbrev pub degrees : FieldKind Degrees
+degrees = scalar degrees_in degrees_payload
 
 -- an enum, by the low 32 bits of its number; a number that names no value is an unknown field
 abbrev pub choice : {A : Type 0} → (ℕ → Option A) → (A → ℕ) → FieldKind A
