@@ -1,4 +1,4 @@
--- What `hub` prints, and its status, for a list of words and an input.
+-- What the replay of a script prints, and its status.
 use Rattle.std.specs.Prelude.{ℕ, zero, suc, ◌+◌, ◌-◌, List, [], ◌∷◌, ◌++◌, length, take, Some, None, Bool, true, false, codes, if◌then◌else◌}
 use Rattle.std.specs.Str.{bytes_eq}
 use Rattle.std.specs.Fmt.{decimal}
@@ -36,9 +36,6 @@ pub record Output : Type 0 where
   pub written : List ℕ
   pub status : ℕ
 
-abbrev pub usage_line : List ℕ
-usage_line = codes "hub: usage" ++ line_feed
-
 -- a script is refused at the first byte of the record that isn't one
 abbrev pub refused_line : ℕ → List ℕ
 refused_line place = codes "hub: script refused at " ++ decimal place ++ line_feed
@@ -49,11 +46,6 @@ fault_line = codes "hub: input fault" ++ line_feed
 abbrev pub output_of : Run → Output
 output_of run = if run.ended then record { written = run.out; status = 0 } else record { written = run.out ++ refused_line run.taken; status = 7 }
 
--- the only command for now is the one word `replay`
-abbrev pub is_replay : List (List ℕ) → Bool
-is_replay [] = false
-is_replay (word ∷ []) = bytes_eq word (codes "replay")
-is_replay (word ∷ another ∷ more) = false
-
-unfoldable pub offline : List (List ℕ) → List ℕ → Output
-offline words input = if is_replay words then output_of (run start (take longest_script input)) else record { written = usage_line; status = 2 }
+-- what the replay of a script prints, and its status
+unfoldable pub replayed : List ℕ → Output
+replayed script = output_of (run start (take longest_script script))

@@ -5,8 +5,8 @@ use Rattle.std.specs.Str.{is_utf8, bytes_eq}
 use Rattle.std.specs.Fmt.{decimal}
 use Rattle.feed_defs.specs.declared.history.Entry.{Entry}
 use Rattle.feed_defs.specs.History.{Refusal, offered}
-use Rattle.feed_defs.specs.History.Refusal.{NotWellFormed, Stale}
 use Rattle.feed_defs.specs.Combined.{combined}
+use Rattle.script_defs.specs.Texts.{refusal_words}
 
 infixl 10 ◌>>=◌
 abbrev pub ◌>>=◌ : {A B : Type 0} → Option A → (A → Option B) → Option B
@@ -108,8 +108,7 @@ line_feed = 10 ∷ []
 -- the line that answers an offered message
 abbrev pub reply_line : Result ℕ Refusal → List ℕ
 reply_line (Ok count) = codes "accepted " ++ decimal count ++ line_feed
-reply_line (Err NotWellFormed) = codes "refused form" ++ line_feed
-reply_line (Err (Stale last got)) = codes "refused stale " ++ decimal last ++ codes " " ++ decimal got ++ line_feed
+reply_line (Err refusal) = refusal_words refusal ++ line_feed
 
 -- the combined feed of the schedule `plain`, the only one without a configuration
 abbrev pub feed_reply : Hub → List ℕ → List ℕ
