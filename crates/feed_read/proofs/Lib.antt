@@ -4,3 +4,4 @@ pub mod Numbers
 pub mod Texts
 pub mod Walks
 pub mod Wholes
+pub mod Worked

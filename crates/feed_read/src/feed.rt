@@ -4,12 +4,12 @@ ghost use Rattle.feed_defs.specs.Table.{header, entity, feed};
 
 use crate::fault::ReadFault;
 use crate::message::{Message, needed};
-use crate::nested::{embedded, numbered};
+use crate::nested::{boxed, embedded, numbered};
 use crate::payload::{is_span, text};
+use crate::reader::Reader;
 use crate::scalar::{is_scalar, last};
 use pb_wire::Part;
 use rt_types::{Bytes, Entity, FeedMessage, Header, Incrementality, Kind};
-use std::alloc::Global;
 
 impl Message for Header {
     ghost table = { header };
@@ -22,8 +22,12 @@ impl Message for Header {
         is_span(1, part) || (is_scalar::<Incrementality>(2, part) || is_scalar::<u64>(3, part))
     }
 
-    fn of_parts(alloc: Global, parts: &[Part<'_>], unknown: Bytes) -> Result<Header, ReadFault> {
-        let version = text(alloc, Kind::FeedHeader, 1, parts)?;
+    fn of_parts<'a>(
+        reader: &mut Reader<'a>,
+        parts: &[Part<'a>],
+        unknown: Bytes,
+    ) -> Result<Header, ReadFault> {
+        let version = text(reader.alloc, Kind::FeedHeader, 1, parts)?;
         Ok(Header {
             version: needed(Kind::FeedHeader, 1, version)?,
             incrementality: last(2, parts),
@@ -41,14 +45,26 @@ impl Message for Entity {
     }
 
     fn knows(part: &Part<'_>) -> bool {
-        is_span(1, part) || is_scalar::<bool>(2, part)
+        is_span(1, part)
+            || (is_scalar::<bool>(2, part)
+                || (is_span(3, part) || (is_span(4, part) || is_span(5, part))))
     }
 
-    fn of_parts(alloc: Global, parts: &[Part<'_>], unknown: Bytes) -> Result<Entity, ReadFault> {
-        let id = text(alloc, Kind::FeedEntity, 1, parts)?;
+    fn of_parts<'a>(
+        reader: &mut Reader<'a>,
+        parts: &[Part<'a>],
+        unknown: Bytes,
+    ) -> Result<Entity, ReadFault> {
+        let id = text(reader.alloc, Kind::FeedEntity, 1, parts)?;
+        let trip_update = boxed(reader, 3, parts)?;
+        let vehicle = boxed(reader, 4, parts)?;
+        let alert = boxed(reader, 5, parts)?;
         Ok(Entity {
             id: needed(Kind::FeedEntity, 1, id)?,
             is_deleted: last(2, parts),
+            trip_update,
+            vehicle,
+            alert,
             unknown,
         })
     }
@@ -65,13 +81,13 @@ impl Message for FeedMessage {
         is_span(1, part) || is_span(2, part)
     }
 
-    fn of_parts(
-        alloc: Global,
-        parts: &[Part<'_>],
+    fn of_parts<'a>(
+        reader: &mut Reader<'a>,
+        parts: &[Part<'a>],
         unknown: Bytes,
     ) -> Result<FeedMessage, ReadFault> {
-        let header = embedded(alloc, 1, parts)?;
-        let entity = numbered(alloc, 2, parts)?;
+        let header = embedded(reader, 1, parts)?;
+        let entity = numbered(reader, 2, parts)?;
         Ok(FeedMessage {
             header: needed(Kind::FeedMessage, 1, header)?,
             entity,

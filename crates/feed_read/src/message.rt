@@ -7,6 +7,7 @@ ghost use Rattle.feed_read.specs.Reads.{Reads};
 
 use crate::fault::ReadFault;
 use crate::payload::add_parts;
+use crate::reader::Reader;
 use pb_wire::Part;
 use rt_types::{Bytes, Kind, What};
 use std::alloc::{AllocError, Global};
@@ -24,7 +25,11 @@ pub trait Message: Drop {
         ensures { result ≡ table.is_known (part_seen part.now) };
 
     /// The message of these parts and of the bytes of those that it doesn't know, or the first fault.
-    fn of_parts(alloc: Global, parts: &[Part<'_>], unknown: Bytes) -> Result<Self, ReadFault>
+    fn of_parts<'a>(
+        reader: &mut Reader<'a>,
+        parts: &[Part<'a>],
+        unknown: Bytes,
+    ) -> Result<Self, ReadFault>
         requires { unknown ≡ others table.is_known (parts_seen parts.now) }
         ensures { Reads (table.of_fields (parts_seen parts.now)) result };
 }
@@ -39,24 +44,26 @@ fn unknown<M: Message>(alloc: Global, parts: &[Part<'_>]) -> Result<Bytes, Alloc
             bytes.extend_from_slice(part.raw)?;
         }
     }
-    Bytes::new(alloc, bytes.as_slice())
+    Ok(Bytes::from_vec(bytes))
 }
 
 /// The message of these parts, or the first fault in them.
-pub fn whole<M: Message>(alloc: Global, parts: &[Part<'_>]) -> Result<M, ReadFault>
+pub fn whole<'a, M: Message>(reader: &mut Reader<'a>, parts: &[Part<'a>]) -> Result<M, ReadFault>
     ensures { Reads (M.table.of_fields (parts_seen parts.now)) result }
 {
-    let unknown = unknown::<M>(alloc, parts)?;
-    M::of_parts(alloc, parts, unknown)
+    let unknown = unknown::<M>(reader.alloc, parts)?;
+    M::of_parts(reader, parts, unknown)
 }
 
 /// The message of these bytes, or the first fault in them.
-pub fn read_one<M: Message>(alloc: Global, bytes: &[u8]) -> Result<M, ReadFault>
+pub fn read_one<'a, M: Message>(reader: &mut Reader<'a>, bytes: &'a [u8]) -> Result<M, ReadFault>
     ensures { Reads (value M.table (bytes.now ∷ [])) result }
 {
-    let mut parts = Vec::new(alloc);
+    let mut parts = reader.take();
     add_parts(M::kind(), bytes, &mut parts)?;
-    whole(alloc, parts.as_slice())
+    let message = whole(reader, parts.as_slice());
+    reader.give(parts);
+    message
 }
 
 /// The value of a required field, or that it is missing.

@@ -8,10 +8,10 @@ ghost use Rattle.feed_read.specs.Grows.{Grows};
 
 use crate::fault::ReadFault;
 use crate::message::{Message, read_one, whole};
-use crate::payload::{add_parts, last_span, span_at};
+use crate::payload::{add_parts, count, last_span, span_at};
+use crate::reader::Reader;
 use pb_wire::Part;
-use rt_types::{Items, Kind};
-use std::alloc::Global;
+use rt_types::{Boxed, Items, Kind};
 
 /// Puts the fields of all payloads under this number behind the parts, in order.
 fn join_parts<'a>(
@@ -32,43 +32,63 @@ fn join_parts<'a>(
 }
 
 /// The singular message under this number, made of all its occurrences together.
-pub fn embedded<M: Message>(
-    alloc: Global,
+pub fn embedded<'a, M: Message>(
+    reader: &mut Reader<'a>,
     number: u32,
-    parts: &[Part<'_>],
+    parts: &[Part<'a>],
 ) -> Result<Option<M>, ReadFault>
     ensures { Reads (merged M.table (occurring span_in number (parts_seen parts.now))) result }
 {
     if last_span(number, parts).is_none() {
         return Ok(None);
     }
-    let mut inner = Vec::new(alloc);
+    let mut inner = reader.take();
     join_parts(M::kind(), number, parts, &mut inner)?;
-    Ok(Some(whole(alloc, inner.as_slice())?))
+    let message = whole(reader, inner.as_slice())?;
+    reader.give(inner);
+    Ok(Some(message))
+}
+
+/// The same, in a box.
+pub fn boxed<'a, M: Message>(
+    reader: &mut Reader<'a>,
+    number: u32,
+    parts: &[Part<'a>],
+) -> Result<Option<Boxed<M>>, ReadFault>
+    ensures { Reads (merged M.table (occurring span_in number (parts_seen parts.now))) result }
+{
+    match embedded(reader, number, parts)? {
+        Some(message) => Ok(Some(Boxed::new(reader.alloc, message)?)),
+        None => Ok(None),
+    }
 }
 
 /// The messages of the repeated field with this number, each of its own payload.
-pub fn all<M: Message>(
-    alloc: Global,
+pub fn all<'a, M: Message>(
+    reader: &mut Reader<'a>,
     number: u32,
-    parts: &[Part<'_>],
+    parts: &[Part<'a>],
 ) -> Result<Items<M>, ReadFault>
     ensures { Reads (values M.table (occurring span_in number (parts_seen parts.now))) result }
 {
-    let mut items = Vec::new(alloc);
+    let mut items = Vec::with_capacity(reader.alloc, count(number, parts))?;
     for part in parts {
         if let Some(bytes) = span_at(number, part) {
-            items.push(read_one(alloc, bytes)?)?;
+            items.push(read_one(reader, bytes)?)?;
         }
     }
     Ok(Items::new(items))
 }
 
 /// The message of these bytes, whose fault tells this entity.
-fn read_placed<M: Message>(alloc: Global, entity: u32, bytes: &[u8]) -> Result<M, ReadFault>
+fn read_placed<'a, M: Message>(
+    reader: &mut Reader<'a>,
+    entity: u32,
+    bytes: &'a [u8],
+) -> Result<M, ReadFault>
     ensures { Reads (placed entity (value M.table (bytes.now ∷ []))) result }
 {
-    match read_one(alloc, bytes) {
+    match read_one(reader, bytes) {
         Err(
             ReadFault::Malformed {
                 what,
@@ -87,19 +107,19 @@ fn read_placed<M: Message>(alloc: Global, entity: u32, bytes: &[u8]) -> Result<M
 }
 
 /// The messages of the repeated field with this number, whose faults tell which of them they are in.
-pub fn numbered<M: Message>(
-    alloc: Global,
+pub fn numbered<'a, M: Message>(
+    reader: &mut Reader<'a>,
     number: u32,
-    parts: &[Part<'_>],
+    parts: &[Part<'a>],
 ) -> Result<Items<M>, ReadFault>
     ensures { Reads (numbered_values M.table 0 (occurring span_in number (parts_seen parts.now))) result }
 {
-    let mut items = Vec::new(alloc);
+    let mut items = Vec::with_capacity(reader.alloc, count(number, parts))?;
     let mut entity = 0u32;
     for part in parts {
         if let Some(bytes) = span_at(number, part) {
             entity = entity.saturating_add(1);
-            items.push(read_placed(alloc, entity, bytes)?)?;
+            items.push(read_placed(reader, entity, bytes)?)?;
         }
     }
     Ok(Items::new(items))

@@ -1,14 +1,14 @@
 // The kinds of fields that are runs of bytes: the fields of a run, and texts.
 
-ghost use Rattle.std.specs.Prelude.{◌≡◌, is_some};
+ghost use Rattle.std.specs.Prelude.{◌≡◌, ◌≤◌, is_some, length};
 ghost use Rattle.std.specs.Option.{option_copied};
-ghost use Rattle.feed_defs.specs.Rows.{at, last_of, span_in, as_text, fields_in, wire_what};
-ghost use Rattle.pb_wire.specs.Parts.{part_seen, parts_seen, fault_seen};
+ghost use Rattle.feed_defs.specs.Rows.{at, last_of, span_in, as_text, fields_in};
+ghost use Rattle.pb_wire.specs.Parts.{part_seen, parts_seen};
 ghost use Rattle.feed_read.specs.Reads.{Reads};
 ghost use Rattle.feed_read.specs.Grows.{Grows};
 
 use crate::fault::ReadFault;
-use pb_wire::{Fault, Part, PartPayload, PartsFault, read_parts};
+use pb_wire::{Part, PartPayload, WireFault, read_parts};
 use rt_types::{Kind, Text, What};
 use std::alloc::Global;
 
@@ -44,6 +44,19 @@ pub fn last_span<'a>(number: u32, parts: &[Part<'a>]) -> Option<&'a [u8]>
     found
 }
 
+/// How many runs of bytes there are under this number.
+pub fn count(number: u32, parts: &[Part<'_>]) -> usize
+    ensures { result ≤ length parts.now }
+{
+    let mut found = 0;
+    for part in parts {
+        if is_span(number, part) {
+            found += 1;
+        }
+    }
+    found
+}
+
 /// The text under this number, of which the last counts and must be UTF-8.
 pub fn text(
     alloc: Global,
@@ -67,17 +80,6 @@ pub fn text(
     }
 }
 
-/// What a fault of the wire is called.
-fn what_of(fault: Fault) -> What
-    ensures { result ≡ wire_what (fault_seen fault) }
-{
-    match fault {
-        Fault::Cut => What::Cut,
-        Fault::Varint => What::Varint,
-        Fault::Tag => What::Tag,
-    }
-}
-
 /// Puts the fields of the bytes of a message of this kind behind the parts.
 pub fn add_parts<'a>(
     kind: Kind,
@@ -86,14 +88,18 @@ pub fn add_parts<'a>(
 ) -> Result<(), ReadFault>
     ensures { Grows (parts_seen parts.old.items) (parts_seen parts.new.items) (fields_in kind bytes.now) result }
 {
-    match read_parts(bytes, parts) {
-        Ok(()) => Ok(()),
-        Err(PartsFault::NoMemory) => Err(ReadFault::NoMemory),
-        Err(PartsFault::Wire(fault)) => Err(ReadFault::Malformed {
-            entity: 0,
-            what: what_of(fault),
-            kind,
-            field: 0,
-        }),
-    }
+    let what = match read_parts(bytes, parts) {
+        Ok(()) => return Ok(()),
+        Err(WireFault::Cut) => What::Cut,
+        Err(WireFault::Varint) => What::Varint,
+        Err(WireFault::Tag) => What::Tag,
+        Err(WireFault::Group) => What::Group,
+        Err(WireFault::NoMemory) => return Err(ReadFault::NoMemory),
+    };
+    Err(ReadFault::Malformed {
+        entity: 0,
+        what,
+        kind,
+        field: 0,
+    })
 }

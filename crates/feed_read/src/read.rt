@@ -5,6 +5,7 @@ ghost use Rattle.feed_read.specs.Reads.{Reads};
 
 use crate::fault::ReadFault;
 use crate::message::read_one;
+use crate::reader::Reader;
 use rt_types::FeedMessage;
 use std::alloc::Global;
 
@@ -13,5 +14,5 @@ use std::alloc::Global;
 pub fn read_message(alloc: Global, bytes: &[u8]) -> Result<FeedMessage, ReadFault>
     ensures { Reads (read bytes.now) result }
 {
-    read_one(alloc, bytes)
+    read_one(&mut Reader::new(alloc), bytes)
 }

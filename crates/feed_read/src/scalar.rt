@@ -3,12 +3,11 @@
 ghost use Rattle.std.specs.Prelude.{◌≡◌, ℕ, ◌%◌, ◌^◌, Option, is_some};
 ghost use Rattle.std.specs.Option.{option_and_then};
 ghost use Rattle.wire_defs.specs.Field.{Payload};
-ghost use Rattle.feed_defs.specs.Rows.{at, last_of, varint_in, bool_in};
-ghost use Rattle.feed_defs.specs.Table.{incrementality_named};
+ghost use Rattle.feed_defs.specs.Rows.{at, last_of, varint_in, four_in, u32_in, i32_in, i64_in, bool_in, degrees_in};
 ghost use Rattle.pb_wire.specs.Parts.{payload_seen, part_seen, parts_seen};
 
 use pb_wire::{Part, PartPayload};
-use rt_types::Incrementality;
+use rt_types::Degrees;
 
 /// A value that is a number on the wire.
 pub trait Scalar: Copy {
@@ -30,7 +29,7 @@ fn varint(payload: &PartPayload<'_>) -> Option<u64>
 }
 
 /// The low 32 bits of a varint, which number the values of an enum.
-fn low_bits(payload: &PartPayload<'_>) -> Option<u32>
+pub fn low_bits(payload: &PartPayload<'_>) -> Option<u32>
     ensures { result ≡ option_and_then (λ n. Some (n % 2 ^ 32)) (varint_in (payload_seen payload.now)) }
 {
     match varint(payload) {
@@ -47,6 +46,36 @@ impl Scalar for u64 {
     }
 }
 
+impl Scalar for u32 {
+    ghost says = { u32_in };
+
+    fn said(payload: &PartPayload<'_>) -> Option<u32> {
+        low_bits(payload)
+    }
+}
+
+impl Scalar for i32 {
+    ghost says = { i32_in };
+
+    fn said(payload: &PartPayload<'_>) -> Option<i32> {
+        match low_bits(payload) {
+            Some(number) => Some(number.cast_signed()),
+            None => None,
+        }
+    }
+}
+
+impl Scalar for i64 {
+    ghost says = { i64_in };
+
+    fn said(payload: &PartPayload<'_>) -> Option<i64> {
+        match varint(payload) {
+            Some(number) => Some(number.cast_signed()),
+            None => None,
+        }
+    }
+}
+
 impl Scalar for bool {
     ghost says = { bool_in };
 
@@ -58,13 +87,12 @@ impl Scalar for bool {
     }
 }
 
-impl Scalar for Incrementality {
-    ghost says = { λ payload. option_and_then (λ n. incrementality_named (n % 2 ^ 32)) (varint_in payload) };
+impl Scalar for Degrees {
+    ghost says = { degrees_in };
 
-    fn said(payload: &PartPayload<'_>) -> Option<Incrementality> {
-        match low_bits(payload)? {
-            0 => Some(Incrementality::FullDataset),
-            1 => Some(Incrementality::Differential),
+    fn said(payload: &PartPayload<'_>) -> Option<Degrees> {
+        match payload {
+            PartPayload::Four(bits) => Some(Degrees { bits: *bits }),
             _ => None,
         }
     }

@@ -8,4 +8,4 @@ returns-in_err-add_parts g c =
 
 pub returns : goal.returns
 returns g c =
-    reads_single g.M.Message.table _ _ _ _ _ _ c.kind.ensures c.new-parts.ensures.items c.as_slice.ensures.value c.in_ok-add_parts.ensures c.whole.ensures
+    reads_single g.M.Message.table _ _ _ _ _ _ c.kind.ensures c.take-parts.ensures c.as_slice.ensures.value c.in_ok-add_parts.ensures c.whole-message.ensures

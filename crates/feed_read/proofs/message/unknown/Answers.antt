@@ -13,4 +13,4 @@ loop-part-preserved g c =
     ]
 
 pub returns : goal.returns
-returns g c = rw (c.as_slice.ensures.value ∙ others_end _ _ _ _ c.loop-part-test.false ∙ c.loop-part.invariant) at c.new.ensures
+returns g c = c.from_vec.ensures ∙ others_end _ _ _ _ c.loop-part-test.false ∙ c.loop-part.invariant

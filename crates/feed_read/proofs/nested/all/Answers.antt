@@ -7,7 +7,7 @@ use Rattle.feed_read.proofs.nested.all.Goals.{in-Some+in_ok-read_one+in_ok-push,
 
 pub returns-in_err-read_one : goal.returns-in_err-read_one
 returns-in_err-read_one g c =
-    reads_passed _ _ _ c.from_residual.ensures.1
+    reads_passed _ _ _ c.from_residual-in_err-read_one.ensures.1
     (fails_whole _ _ _ (values_stop g.M.Message.table _ _ _ _ _ _ _ c.loop-part-test.true c.in-Some.ensures c.loop-part.invariant) c.in_err-read_one.ensures)
 
 pub loop-part-preserved : goal.loop-part-preserved

@@ -12,14 +12,14 @@ returns-in_err-join_parts g c =
     (merged_stops g.M.Message.table _ _ c.kind.ensures (present _ _ _ _ c.last_span.ensures c.is_none.ensures c.if-is_none.false))
     c.in_err-join_parts.ensures)
 
-pub returns-in_err-whole : goal.returns-in_err-whole
-returns-in_err-whole g c =
-    reads_passed _ _ _ c.from_residual-in_err-whole.ensures.1
+pub returns-in_err-message : goal.returns-in_err-message
+returns-in_err-message g c =
+    reads_passed _ _ _ c.from_residual-in_err-message.ensures.1
     (fails_whole _ _ _
-    (merged_fault g.M.Message.table _ _ _ _ _ c.kind.ensures (present _ _ _ _ c.last_span.ensures c.is_none.ensures c.if-is_none.false) c.new-inner.ensures.items c.as_slice.ensures.value c.in_ok-join_parts.ensures)
-    c.in_err-whole.ensures)
+    (merged_fault g.M.Message.table _ _ _ _ _ c.kind.ensures (present _ _ _ _ c.last_span.ensures c.is_none.ensures c.if-is_none.false) c.take-inner.ensures c.as_slice.ensures.value c.in_ok-join_parts.ensures)
+    c.in_err-message.ensures)
 
 pub returns : goal.returns
 returns g c =
-    merged_read g.M.Message.table _ _ _ _ _ _ c.kind.ensures (present _ _ _ _ c.last_span.ensures c.is_none.ensures c.if-is_none.false) c.new-inner.ensures.items c.as_slice.ensures.value c.in_ok-join_parts.ensures
-    c.in_ok-whole.ensures
+    merged_read g.M.Message.table _ _ _ _ _ _ c.kind.ensures (present _ _ _ _ c.last_span.ensures c.is_none.ensures c.if-is_none.false) c.take-inner.ensures c.as_slice.ensures.value c.in_ok-join_parts.ensures
+    c.in_ok-message.ensures

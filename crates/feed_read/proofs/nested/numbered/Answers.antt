@@ -7,7 +7,7 @@ use Rattle.feed_read.proofs.nested.numbered.Goals.{in-Some+in_ok-read_placed+in_
 
 pub returns-in_err-read_placed : goal.returns-in_err-read_placed
 returns-in_err-read_placed g c =
-    reads_passed _ _ _ c.from_residual.ensures.1
+    reads_passed _ _ _ c.from_residual-in_err-read_placed.ensures.1
     (fails_whole _ _ _
     (numbered_stops g.M.Message.table _ _ _ _ _ _ _ _ c.loop-part-test.true c.in-Some.ensures (counted _ _ _ c.loop-part.invariant.counted c.saturating_add-entity.ensures) c.loop-part.invariant.read)
     c.in_err-read_placed.ensures)
