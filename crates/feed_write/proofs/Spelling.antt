@@ -23,6 +23,25 @@ starts_with old new more e = record { more = more; whole = e }
 pub starts_on : (old mid new : List ℕ) → StartsWith old mid → StartsWith mid new → StartsWith old new
 starts_on old mid new a b = record { more = a.more ++ b.more; whole = b.whole ∙ ap (λ xs. xs ++ b.more) a.whole ∙ append_assoc old a.more b.more }
 
+-- the fields of the last row, and behind them what isn't known
+pub last_row : {A E : Type 0} (r : Result A E) (old mid new : List ℕ) (ws : List Written) (unknown : List ℕ) → mid ≡ old ++ flat_map spelled ws → OnOk r (new ≡ mid ++ unknown)
+    → OnOk r (new ≡ old ++ (flat_map spelled ws ++ unknown))
+last_row (Ok x) old mid new ws unknown here behind = behind ∙ ap (λ bs. bs ++ unknown) here ∙ append_assoc old (flat_map spelled ws) unknown
+last_row (Err e) old mid new ws unknown here behind = tt
+
+-- the fields of a row, and behind them those of the rows that follow
+pub row_then : {A E : Type 0} (r : Result A E) (old mid new : List ℕ) (ws vs : List Written) (unknown : List ℕ) → mid ≡ old ++ flat_map spelled ws → OnOk r (new ≡ mid ++ (flat_map spelled vs ++ unknown))
+    → OnOk r (new ≡ old ++ (flat_map spelled (ws ++ vs) ++ unknown))
+row_then (Ok x) old mid new ws vs unknown here behind =
+    behind ∙ ap (λ bs. bs ++ (flat_map spelled vs ++ unknown)) here ∙ append_assoc old (flat_map spelled ws) (flat_map spelled vs ++ unknown)
+    ∙ ap (λ bs. old ++ bs) (sym (append_assoc (flat_map spelled ws) (flat_map spelled vs) unknown) ∙ ap (λ bs. bs ++ unknown) (sym (spelled_both ws vs)))
+row_then (Err e) old mid new ws vs unknown here behind = tt
+
+-- the one field of a required row
+pub field_then : {A E : Type 0} (r : Result A E) (old mid new : List ℕ) (w : Written) (vs : List Written) (unknown : List ℕ) → mid ≡ old ++ spelled w → OnOk r (new ≡ mid ++ (flat_map spelled vs ++ unknown))
+    → OnOk r (new ≡ old ++ (flat_map spelled ((w ∷ []) ++ vs) ++ unknown))
+field_then r old mid new w vs unknown here behind = row_then r old mid new (w ∷ []) vs unknown (here ∙ ap (λ bs. old ++ bs) (sym (append-nil (spelled w)))) behind
+
 -- a message more of a repeated field
 all_append : {M : Type 0} (n : ℕ) (m : Message M) (xs : List M) (y : M) → flat_map spelled (write_all n m (xs ++ y ∷ [])) ≡ flat_map spelled (write_all n m xs) ++ spelled (record { number = n; payload = Span (written m y) })
 all_append n m [] y = append-nil _

@@ -1,8 +1,8 @@
-// The messages of GTFS Realtime 2.0, each a listing of its fields by rising number.
+// What a feed sends: its header and its entities (GTFS Realtime 2.0, FeedMessage).
 
-ghost use Rattle.feed_defs.specs.Table.{feed, header, entity};
+ghost use Rattle.feed_defs.specs.Table.{header, entity, feed};
 
-use crate::fields::{put_all, put_message, put_scalar, put_text, put_unknown};
+use crate::fields::{put_boxed, put_items, put_message, put_scalar, put_text, put_unknown};
 use crate::message::Message;
 use rt_types::{Entity, FeedMessage, Header};
 use std::alloc::AllocError;
@@ -26,6 +26,9 @@ impl Message for Entity {
     fn put(&self, out: &mut Vec<u8>) -> Result<(), AllocError> {
         put_text(1, &self.id, out)?;
         put_scalar(2, self.is_deleted, out)?;
+        put_boxed(3, &self.trip_update, out)?;
+        put_boxed(4, &self.vehicle, out)?;
+        put_boxed(5, &self.alert, out)?;
         put_unknown(&self.unknown, out)
     }
 }
@@ -36,7 +39,7 @@ impl Message for FeedMessage {
     #[tactic(auto, unfolding(feed_defs::specs::Rows::written), using(crate::proofs::Spelling::puts))]
     fn put(&self, out: &mut Vec<u8>) -> Result<(), AllocError> {
         put_message(1, &self.header, out)?;
-        put_all(2, self.entity.as_slice(), out)?;
+        put_items(2, &self.entity, out)?;
         put_unknown(&self.unknown, out)
     }
 }

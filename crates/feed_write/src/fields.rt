@@ -4,13 +4,13 @@ ghost use Rattle.std.specs.Prelude.{◌≡◌, ◌≤◌, ◌-◌, ◌++◌, tak
 ghost use Rattle.std.specs.List.{flat_map};
 ghost use Rattle.wire_defs.specs.Field.Payload.{Span};
 ghost use Rattle.wire_defs.specs.Writing.{spelled};
-ghost use Rattle.feed_defs.specs.Rows.{written, write_if, write_all};
+ghost use Rattle.feed_defs.specs.Rows.{written, write_if, write_all, degrees_payload};
 ghost use Rattle.feed_write.specs.Puts.{StartsWith};
 
 use crate::message::Message;
 use crate::scalar::Scalar;
-use pb_wire::{write_field, write_scalar, write_varint};
-use rt_types::{Bytes, Text};
+use pb_wire::{write_field, write_four, write_scalar, write_varint};
+use rt_types::{Boxed, Bytes, Degrees, Items, Text};
 use std::alloc::AllocError;
 
 /// Appends a number, where there is one.
@@ -40,6 +40,29 @@ pub fn put_text(number: u32, text: &Text, out: &mut Vec<u8>) -> Result<(), Alloc
     write_field(number, text.as_str().as_bytes(), out)
 }
 
+/// Appends a text, where there is one.
+pub fn put_text_if(number: u32, text: &Option<Text>, out: &mut Vec<u8>) -> Result<(), AllocError>
+    requires first { 1 ≤ number }
+    requires last { number ≤ 536870911 }
+    ensures written { OnOk result (out.new.items ≡ out.old.items ++ flat_map spelled (write_if number Span text.now)) }
+    ensures begins { StartsWith out.old.items out.new.items }
+{
+    match text {
+        Some(text) => put_text(number, text, out),
+        None => Ok(()),
+    }
+}
+
+/// Appends degrees, as the four bytes of their float.
+pub fn put_degrees(number: u32, value: Degrees, out: &mut Vec<u8>) -> Result<(), AllocError>
+    requires first { 1 ≤ number }
+    requires last { number ≤ 536870911 }
+    ensures written { OnOk result (out.new.items ≡ out.old.items ++ spelled (record { number = number; payload = degrees_payload value })) }
+    ensures begins { StartsWith out.old.items out.new.items }
+{
+    write_four(number, value.bits, out)
+}
+
 /// Appends a message, as its length and its bytes.
 pub fn put_message<M: Message>(
     number: u32,
@@ -61,8 +84,42 @@ pub fn put_message<M: Message>(
     Ok(())
 }
 
-/// Appends the messages, each as a field of that number.
-pub fn put_all<M: Message>(number: u32, messages: &[M], out: &mut Vec<u8>) -> Result<(), AllocError>
+/// Appends a message, where there is one.
+pub fn put_embedded<M: Message>(
+    number: u32,
+    message: &Option<M>,
+    out: &mut Vec<u8>,
+) -> Result<(), AllocError>
+    requires first { 1 ≤ number }
+    requires last { number ≤ 536870911 }
+    ensures written { OnOk result (out.new.items ≡ out.old.items ++ flat_map spelled (write_if number (λ x. Span (written M.table x)) message.now)) }
+    ensures begins { StartsWith out.old.items out.new.items }
+{
+    match message {
+        Some(message) => put_message(number, message, out),
+        None => Ok(()),
+    }
+}
+
+/// Appends a message that stands in a box, where there is one.
+pub fn put_boxed<M: Message>(
+    number: u32,
+    message: &Option<Boxed<M>>,
+    out: &mut Vec<u8>,
+) -> Result<(), AllocError>
+    requires first { 1 ≤ number }
+    requires last { number ≤ 536870911 }
+    ensures written { OnOk result (out.new.items ≡ out.old.items ++ flat_map spelled (write_if number (λ x. Span (written M.table x)) message.now)) }
+    ensures begins { StartsWith out.old.items out.new.items }
+{
+    match message {
+        Some(message) => put_message(number, message.get(), out),
+        None => Ok(()),
+    }
+}
+
+// Appends the messages, each as a field of that number.
+fn put_all<M: Message>(number: u32, messages: &[M], out: &mut Vec<u8>) -> Result<(), AllocError>
     requires first { 1 ≤ number }
     requires last { number ≤ 536870911 }
     ensures written { OnOk result (out.new.items ≡ out.old.items ++ flat_map spelled (write_all number M.table messages.now)) }
@@ -72,6 +129,20 @@ pub fn put_all<M: Message>(number: u32, messages: &[M], out: &mut Vec<u8>) -> Re
         put_message(number, message, out)?;
     }
     Ok(())
+}
+
+/// Appends the messages of a repeated field, each as a field of that number.
+pub fn put_items<M: Message>(
+    number: u32,
+    messages: &Items<M>,
+    out: &mut Vec<u8>,
+) -> Result<(), AllocError>
+    requires first { 1 ≤ number }
+    requires last { number ≤ 536870911 }
+    ensures written { OnOk result (out.new.items ≡ out.old.items ++ flat_map spelled (write_all number M.table messages.now)) }
+    ensures begins { StartsWith out.old.items out.new.items }
+{
+    put_all(number, messages.as_slice(), out)
 }
 
 /// Appends the fields that a message doesn't know, as they came.

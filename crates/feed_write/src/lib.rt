@@ -4,17 +4,27 @@
 //! number in shortest varints, and then the fields that it does not know, as they came. Reading them gives
 //! the message back. It stands on `pb_wire` for the spelling and on `rt_types` for the values.
 //!
-//! A message is one listing of its fields, in the order of their numbers (`feed`), over the functions for
-//! each kind of field (`fields`).
+//! `rename` puts a prefix before the timetable's ids within an entity, so that those of several timetables
+//! differ.
+//!
+//! A message is one listing of its fields, in the order of their numbers (`feed`, `trip_update`, `vehicle`,
+//! `alert`, `descriptor`), over the functions for each kind of field (`fields`).
 #![tactic(auto)]
 
+mod alert;
+mod descriptor;
+mod enums;
 mod feed;
 mod fields;
 mod message;
+mod renaming;
 mod scalar;
 #[cfg(test)]
 mod tests;
+mod trip_update;
+mod vehicle;
 mod write;
 
+pub use renaming::rename;
 pub use std::alloc::AllocError as NoMemory;
 pub use write::write_message;

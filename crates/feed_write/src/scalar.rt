@@ -3,10 +3,7 @@
 ghost use Rattle.std.specs.Prelude.{◌≡◌};
 ghost use Rattle.wire_defs.specs.Field.{Payload};
 ghost use Rattle.wire_defs.specs.Field.Payload.{Varint};
-ghost use Rattle.feed_defs.specs.Rows.{bool_payload};
-ghost use Rattle.feed_defs.specs.Table.{incrementality_number};
-
-use rt_types::Incrementality;
+ghost use Rattle.feed_defs.specs.Rows.{bool_payload, signed_payload};
 
 /// A value that is written as a varint.
 pub trait Scalar: Copy {
@@ -25,21 +22,35 @@ impl Scalar for u64 {
     }
 }
 
+impl Scalar for u32 {
+    ghost payload = { λ n. Varint n };
+
+    fn number(self) -> u64 {
+        u64::from(self)
+    }
+}
+
+impl Scalar for i64 {
+    ghost payload = { signed_payload };
+
+    fn number(self) -> u64 {
+        self.cast_unsigned()
+    }
+}
+
+// A negative number is spelled as one of 64 bits (Protocol Buffers, "Encoding", "Signed Integers").
+impl Scalar for i32 {
+    ghost payload = { signed_payload };
+
+    fn number(self) -> u64 {
+        i64::from(self).cast_unsigned()
+    }
+}
+
 impl Scalar for bool {
     ghost payload = { bool_payload };
 
     fn number(self) -> u64 {
         if self { 1 } else { 0 }
-    }
-}
-
-impl Scalar for Incrementality {
-    ghost payload = { λ x. Varint (incrementality_number x) };
-
-    fn number(self) -> u64 {
-        match self {
-            Incrementality::FullDataset => 0,
-            Incrementality::Differential => 1,
-        }
     }
 }
