@@ -1,0 +1,20 @@
+//! What a feed holds under each id, message by message.
+//!
+//! A contract sees a `Table` as the list of its ids in byte order, each with its entity and the stamp of the
+//! message that brought it: the list that `feed_defs` calls `held`. `apply` makes the table after one message
+//! more and leaves the given one; the two share every entity that the message does not touch, and what they
+//! take up together grows with the message and hardly with the table.
+//!
+//! It stands on `shared_list` for the order and the sharing, and on `feed_defs` for what a message changes.
+#![tactic(auto)]
+
+mod changes;
+mod stored;
+mod table;
+#[cfg(test)]
+mod tests;
+
+pub use changes::apply;
+pub use feed_defs::Stored;
+pub use std::alloc::AllocError as NoMemory;
+pub use table::{Table, TableIter};

@@ -1,0 +1,110 @@
+// The table of a feed.
+
+ghost use Rattle.std.specs.Prelude.{◌≡◌, List, [], length, map, T as IsSo};
+ghost use Rattle.std.specs.Cmp.Lexicographic.{slice_cmp};
+ghost use Rattle.std.specs.FinMap.{find, is_sorted};
+ghost use Rattle.std.specs.Iterator.{YieldsFirstRef, item_count};
+ghost use Rattle.std.specs.Option.{option_copied};
+ghost use Rattle.std.specs.Ordering.{nat_cmp};
+ghost use Rattle.rt_types.specs.declared.message.FeedMessage.{FeedMessage};
+ghost use Rattle.feed_defs.specs.History.{held, entity_at};
+
+use crate::stored::SharedStored;
+use feed_defs::Stored;
+use shared_list::{Iter, SharedList};
+use std::alloc::Global;
+use std::marker::Model;
+
+/// What a feed holds: under each id one entity, and the time of the message that brought it. A contract sees
+/// the list of pairs of id and stored entity, in byte order of the ids.
+#[derive(Drop)]
+pub struct Table {
+    pub(crate) list: SharedList<SharedStored>,
+}
+
+impl Model for Table {
+    ghost use Rattle.std.specs.Prelude.{List};
+    ghost use Rattle.feed_defs.specs.History.{Change};
+
+    ghost Value = { List Change };
+
+    ghost view = { λ table. table.list };
+}
+
+impl Table {
+    /// The table of a feed that has sent nothing. It takes no memory.
+    pub fn empty(alloc: Global) -> Table
+        ensures { result ≡ [] }
+    {
+        Table {
+            list: SharedList::empty(alloc),
+        }
+    }
+
+    /// What is held under the id; `None` exactly where nothing is.
+    pub fn get(&self, id: &str) -> Option<&Stored>
+        ensures found { option_copied result ≡ find (slice_cmp nat_cmp) id.now self.entry.now }
+        ensures said { (ms : List FeedMessage) → self.entry.now ≡ held ms → option_copied result ≡ entity_at ms id.now }
+    {
+        stored_in(&self.list, id)
+    }
+
+    /// All that is held, one entity for each id, in byte order of the ids.
+    pub fn iter(&self) -> TableIter<'_>
+        ensures { result ≡ map (λ change. change.1) self.entry.now }
+    {
+        TableIter {
+            inner: self.list.iter(),
+        }
+    }
+
+    /// How many ids there are.
+    pub fn len(&self) -> usize
+        ensures { result ≡ length self.now }
+    {
+        self.list.len()
+    }
+
+    /// What is true of every table: its ids strictly rise, and each is the id of its entity.
+    pub fn sound(&self)
+        ensures rising { IsSo (is_sorted (slice_cmp nat_cmp) self.now) }
+        ensures keyed { map (λ stored. (stored.entity.id, stored)) (map (λ change. change.1) self.now) ≡ self.now }
+    {
+        self.list.sound();
+    }
+}
+
+/// What the list has under the id.
+fn stored_in<'a>(list: &'a SharedList<SharedStored>, id: &str) -> Option<&'a Stored>
+    ensures { option_copied result ≡ find (slice_cmp nat_cmp) id.now list.entry.now }
+{
+    list.get(id).map(|shared| shared.get())
+}
+
+/// What a table holds, in byte order of the ids. A contract sees the list of what is left.
+#[derive(Drop)]
+pub struct TableIter<'a> {
+    inner: Iter<'a, SharedStored>,
+}
+
+impl<'a> Model for TableIter<'a> {
+    ghost use Rattle.std.specs.Prelude.{List};
+    ghost use Rattle.feed_defs.specs.declared.history.Stored.{Stored};
+
+    ghost Value = { List Stored };
+
+    ghost view = { λ left. left.inner };
+}
+
+impl<'a> Iterator for TableIter<'a> {
+    type Item = &'a Stored;
+
+    ghost next_gives = { YieldsFirstRef (λ left. left) };
+
+    ghost remaining = { item_count (λ left. left) };
+
+    fn next(&mut self) -> Option<&'a Stored> {
+        let shared = self.inner.next()?;
+        Some(shared.get())
+    }
+}

@@ -1,0 +1,5 @@
+pub mod Middle
+pub mod Places
+pub mod Homes
+pub mod ChunkLemmas
+pub mod ListLemmas

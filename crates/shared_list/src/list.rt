@@ -1,0 +1,127 @@
+// A list that shares its chunks with other versions of it.
+
+ghost use Rattle.std.specs.Prelude.{◌≡◌, ◌+◌, [], length, map, T as IsSo, if◌then◌else◌, IfOk};
+ghost use Rattle.std.specs.FinMap.{put, find, is_sorted};
+ghost use Rattle.std.specs.Option.{option_copied};
+ghost use Rattle.shared_list.specs.Order.{key_cmp, entries, without};
+
+use crate::chunks::{item_in, put_chunks, take_out};
+use crate::iter::Iter;
+use crate::keyed::Keyed;
+use std::alloc::{AllocError, Global};
+use std::marker::Model;
+use std::sync::Arc;
+
+/// Items in the byte order of their keys, each key once. A contract sees them as a list of pairs of key and item.
+#[derive(Drop)]
+pub struct SharedList<T: Keyed> {
+    // None of them is empty.
+    chunks: Vec<Arc<Vec<T>>>,
+    len: usize,
+}
+
+impl<T: Keyed> Model for SharedList<T> {
+    ghost use Rattle.std.specs.Prelude.{List, ℕ};
+
+    ghost Value = { List (List ℕ × T) };
+
+    ghost use Rattle.shared_list.specs.Order.{joined};
+    ghost use Rattle.shared_list.specs.Parts.{parts_of, AreChunks};
+
+    ghost view = { λ list. joined T.key_of (parts_of list.chunks.items) };
+
+    ghost invariant = { λ list. AreChunks T.key_of list.chunks.items list.len };
+}
+
+impl<T: Keyed> SharedList<T> {
+    /// A list of no items. It takes no memory until an item comes.
+    pub fn empty(alloc: Global) -> Self
+        ensures { result ≡ [] }
+    {
+        SharedList {
+            chunks: Vec::new(alloc),
+            len: 0,
+        }
+    }
+
+    /// The same list, with all its chunks shared, or want of memory.
+    pub fn share(&self) -> Result<Self, AllocError>
+        ensures { IfOk result (λ same. same ≡ self.now) }
+    {
+        let mut chunks = Vec::with_capacity(*self.chunks.allocator(), self.chunks.len())?;
+        for chunk in &self.chunks {
+            chunks.push(Arc::try_clone(chunk)?)?;
+        }
+        Ok(SharedList {
+            chunks,
+            len: self.len,
+        })
+    }
+
+    /// The list with the item in its place, which is that of the item with its key, if there is one; or want
+    /// of memory.
+    pub fn with(self, item: T) -> Result<Self, AllocError>
+        ensures { IfOk result (λ list. list ≡ put key_cmp (T.key_of item) item self) }
+    {
+        let is_new = self.get(item.key()).is_none();
+        let SharedList { mut chunks, len } = self;
+        let len = len_with(len, is_new)?;
+        put_chunks(&mut chunks, item)?;
+        Ok(SharedList { chunks, len })
+    }
+
+    /// The list without the item of that key, or want of memory.
+    pub fn without(self, key: &str) -> Result<Self, AllocError>
+        ensures { IfOk result (λ list. list ≡ without key.now self) }
+    {
+        if self.get(key).is_none() {
+            return Ok(self);
+        }
+        let SharedList { mut chunks, len } = self;
+        take_out(&mut chunks, key)?;
+        Ok(SharedList {
+            chunks,
+            len: len - 1,
+        })
+    }
+
+    /// The item with that key; `None` exactly where there is none.
+    pub fn get(&self, key: &str) -> Option<&T>
+        ensures { option_copied result ≡ find key_cmp key.now self.entry.now }
+    {
+        item_in(self.chunks.as_slice(), key)
+    }
+
+    /// The items in the order of their keys.
+    pub fn iter(&self) -> Iter<'_, T>
+        ensures { result ≡ map (λ entry. entry.1) self.entry.now }
+    {
+        Iter::over(self.chunks.as_slice())
+    }
+
+    /// How many items there are.
+    pub fn len(&self) -> usize
+        ensures { result ≡ length self.now }
+    {
+        self.len
+    }
+
+    /// What is true of every list: its keys strictly rise, and each is the key of its item.
+    pub fn sound(&self)
+        ensures rising { IsSo (is_sorted key_cmp self.now) }
+        ensures keyed { entries T.key_of (map (λ entry. entry.1) self.now) ≡ self.now }
+    {
+        let _chunks = &self.chunks;
+    }
+}
+
+/// How many items there are with one that may be new. More than can be counted are more than memory holds.
+fn len_with(len: usize, is_new: bool) -> Result<usize, AllocError>
+    ensures { IfOk result (λ count. count ≡ (if is_new then len + 1 else len)) }
+{
+    if is_new {
+        len.checked_add(1).ok_or(AllocError)
+    } else {
+        Ok(len)
+    }
+}
