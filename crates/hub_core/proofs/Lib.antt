@@ -1,3 +1,3 @@
 pub mod KeptLemmas
-pub mod LatestLemmas
 pub mod CombineLemmas
+pub mod JudgeLemmas

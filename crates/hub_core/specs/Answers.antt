@@ -1,24 +1,20 @@
 -- What the calls of the hub answer, by cases on the answer. Want of memory may come at any point.
-use Rattle.std.specs.Prelude.{◌≡◌, ℕ, List, Option, Some, None, Result, Ok, Err}
+use Rattle.std.specs.Prelude.{◌≡◌, ℕ, List, Result, Ok, Err}
 use Rattle.rt_types.specs.declared.message.FeedMessage.{FeedMessage}
 use Rattle.feed_defs.specs.History.{Refusal as Cause, offered}
-use Rattle.feed_defs.specs.History.Refusal.{NotWellFormed as BadForm, Stale as TooOld}
+use Rattle.feed_defs.specs.History.Refusal.{TooLong as LongCause, Malformed as FaultCause, Version as VersionCause, BadStamp as StampCause, Stale as StaleCause}
 use Rattle.hub_core.specs.declared.refusal.Refusal.{Refusal}
-use Rattle.hub_core.specs.declared.refusal.Refusal.TheVariants.{NotWellFormed, Stale, NoMemory}
+use Rattle.hub_core.specs.declared.refusal.Refusal.TheVariants.{TooLong, Malformed, Version, BadStamp, Stale, NoMemory}
 use Rattle.hub_core.specs.Hub.{Kept}
 
--- a refusal has its cause
+-- a refusal has its cause, and its values are the cause's
 abbrev pub Causes : {A : Type 0} → Result A Cause → Refusal → Type 0
-Causes told NotWellFormed = told ≡ Err BadForm
-Causes told (Stale last got) = told ≡ Err (TooOld last got)
+Causes told (TooLong len) = told ≡ Err (LongCause len)
+Causes told (Malformed entity what kind field) = told ≡ Err (FaultCause (record { entity = entity; what = what; kind = kind; field = field }))
+Causes told (Version version) = told ≡ Err (VersionCause version)
+Causes told (BadStamp got) = told ≡ Err (StampCause got)
+Causes told (Stale last got) = told ≡ Err (StaleCause last got)
 Causes told NoMemory = Unit {0}
-
--- the message of well-formed bytes, and that they have none
-abbrev pub Forms : Option FeedMessage → Result FeedMessage Refusal → Type 0
-Forms told (Ok m) = told ≡ Some m
-Forms told (Err NotWellFormed) = told ≡ None
-Forms told (Err (Stale last got)) = ⊥
-Forms told (Err NoMemory) = Unit {0}
 
 -- the judgement of a message
 abbrev pub Judges : Result FeedMessage Cause → Result FeedMessage Refusal → Type 0

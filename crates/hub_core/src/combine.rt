@@ -1,29 +1,25 @@
 // The one feed that the hub makes of what its feeds hold.
 
-ghost use Rattle.std.specs.Prelude.{◌≡◌, ◌++◌, map, filter, length, IfOk, OnOk};
+ghost use Rattle.std.specs.Prelude.{◌≡◌, ◌++◌, map, length, IfOk, OnOk};
 ghost use Rattle.std.specs.List.{flat_map, enumerate_from};
-ghost use Rattle.feed_defs.specs.Combined.{named, named_entities, combined_message};
-ghost use Rattle.feed_defs.specs.History.{is_kept};
-ghost use Rattle.hub_core.specs.Latest.{seen};
-ghost use Rattle.hub_core.specs.Hub.{IsKept, greatest};
+ghost use Rattle.feed_defs.specs.Combined.{named};
+ghost use Rattle.hub_core.specs.Hub.{greatest, tabled_entities, message_of};
 
-use crate::latest::{Latest, latest_of};
-use feed_defs::Entry;
+use entity_table::Table;
 use rt_types::{Bytes, Copied, Entities, Entity, FeedMessage, Header, Incrementality, Text};
 use std::alloc::{AllocError, Global};
-use std::collections::BTreeMap;
 
-/// The whole data set of these feeds, whose last stamps are given, in seconds since 1970.
+/// The whole data set of these feeds, whose last stamps, in seconds since 1970, and tables are given.
 pub fn combined_message(
     alloc: Global,
     names: &[Text],
-    history: &[Entry],
     stamps: &[u64],
+    tables: &[Table],
 ) -> Result<FeedMessage, AllocError>
-    requires { IsKept names.now history.now stamps.now }
-    ensures { IfOk result (λ message. message ≡ combined_message names.now history.now) }
+    requires { length tables.now ≡ length names.now }
+    ensures { IfOk result (λ message. message ≡ message_of names.now stamps.now tables.now) }
 {
-    let entities = named_entities(alloc, names, history)?;
+    let entities = named_entities(alloc, names, tables)?;
     Ok(FeedMessage {
         header: Header {
             version: Text::new(alloc, "2.0")?,
@@ -51,14 +47,14 @@ fn greatest(numbers: &[u64]) -> u64
 fn named_entities(
     alloc: Global,
     names: &[Text],
-    history: &[Entry],
+    tables: &[Table],
 ) -> Result<Vec<Entity>, AllocError>
-    ensures { IfOk result (λ entities. entities.items ≡ flat_map (named_entities history.now) (enumerate_from 0 names.now)) }
+    requires { length tables.now ≡ length names.now }
+    ensures { IfOk result (λ entities. entities.items ≡ flat_map (tabled_entities tables.now) (enumerate_from 0 names.now)) }
 {
     let mut entities = Vec::new(alloc);
     for (feed, name) in names.iter().enumerate() {
-        let latest = latest_of(alloc, history, feed)?;
-        push_named(alloc, name.as_str(), &latest, &mut entities)?;
+        push_named(alloc, name.as_str(), &tables[feed], &mut entities)?;
     }
     Ok(entities)
 }
@@ -67,15 +63,13 @@ fn named_entities(
 fn push_named(
     alloc: Global,
     feed: &str,
-    latest: &BTreeMap<&str, Latest<'_>>,
+    table: &Table,
     entities: &mut Vec<Entity>,
 ) -> Result<(), AllocError>
-    ensures { OnOk result (entities.new.items ≡ entities.old.items ++ map (λ change. named feed.now change.1.entity) (filter is_kept (seen latest.now.entries))) }
+    ensures { OnOk result (entities.new.items ≡ entities.old.items ++ map (λ change. named feed.now change.1.entity) table.now) }
 {
-    for (_, last) in latest {
-        if !last.entity.is_deleted.unwrap_or(false) {
-            entities.push(named(alloc, feed, last.entity)?)?;
-        }
+    for stored in table.iter() {
+        entities.push(named(alloc, feed, &stored.entity)?)?;
     }
     Ok(())
 }

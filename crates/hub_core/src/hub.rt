@@ -1,6 +1,6 @@
 // A hub that keeps its history.
 
-ghost use Rattle.std.specs.Prelude.{◌≡◌, ◌<◌, [], length, IfOk};
+ghost use Rattle.std.specs.Prelude.{◌≡◌, ◌<◌, [], length, replicate, IfOk};
 ghost use Rattle.feed_defs.specs.Combined.{combined};
 ghost use Rattle.feed_defs.specs.History.{IsLegal};
 ghost use Rattle.hub_core.specs.Answers.{Offers};
@@ -9,6 +9,7 @@ ghost use Rattle.hub_core.specs.Hub.{Kept};
 use crate::combine::combined_message;
 use crate::judge::{check, stamp};
 use crate::refusal::Refusal;
+use entity_table::{Table, apply};
 use feed_defs::Entry;
 use feed_write::write_message;
 use rt_types::Text;
@@ -22,6 +23,8 @@ pub struct ReplayHub {
     history: Vec<Entry>,
     // The stamp of each feed's last message, so that none is sought in the history.
     stamps: Vec<u64>,
+    // What each feed holds, so that no message is gone over again.
+    tables: Vec<Table>,
 }
 
 impl Model for ReplayHub {
@@ -31,7 +34,7 @@ impl Model for ReplayHub {
 
     ghost view = { λ hub. record { names = hub.names.items; history = hub.history.items } };
 
-    ghost invariant = { λ hub. IsKept hub.names.items hub.history.items hub.stamps.items };
+    ghost invariant = { λ hub. IsKept hub.names.items hub.history.items hub.stamps.items hub.tables.items };
 }
 
 impl ReplayHub {
@@ -40,10 +43,12 @@ impl ReplayHub {
         ensures { IfOk result (λ hub. hub ≡ record { names = names.items; history = [] }) }
     {
         let stamps = vec![in alloc; 0; names.len()]?;
+        let tables = empty_tables(alloc, names.len())?;
         Ok(ReplayHub {
             names,
             history: Vec::new(alloc),
             stamps,
+            tables,
         })
     }
 
@@ -59,8 +64,10 @@ impl ReplayHub {
         let last = self.stamps[feed as usize];
         let message = check(alloc, last, bytes)?;
         let newest = stamp(&message);
+        let table = apply(alloc, &self.tables[feed as usize], &message)?;
         self.history.push(Entry { feed, message })?;
         self.stamps[feed as usize] = newest;
+        self.tables[feed as usize] = table;
         Ok(self.history.len() as u64)
     }
 
@@ -72,11 +79,22 @@ impl ReplayHub {
         let message = combined_message(
             alloc,
             self.names.as_slice(),
-            self.history.as_slice(),
             self.stamps.as_slice(),
+            self.tables.as_slice(),
         )?;
         let mut bytes = Vec::new(alloc);
         write_message(alloc, &message, &mut bytes)?;
         Ok(bytes)
     }
+}
+
+/// The tables of so many feeds that have sent nothing.
+fn empty_tables(alloc: Global, count: usize) -> Result<Vec<Table>, AllocError>
+    ensures { IfOk result (λ tables. tables.items ≡ replicate count []) }
+{
+    let mut tables = Vec::with_capacity(alloc, count)?;
+    for _ in 0..count {
+        tables.push(Table::empty(alloc))?;
+    }
+    Ok(tables)
 }

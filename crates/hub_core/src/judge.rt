@@ -1,12 +1,12 @@
 // The judgement of an offered message.
 
 ghost use Rattle.std.specs.Prelude.{◌≡◌};
-ghost use Rattle.feed_defs.specs.History.{judged, well_formed, is_sound, stamp_of};
-ghost use Rattle.hub_core.specs.Answers.{Judges, Forms};
+ghost use Rattle.feed_defs.specs.History.{judged, well_formed, sound, has_version, has_moment, stamp_of};
+ghost use Rattle.hub_core.specs.Answers.{Judges};
 
 use crate::refusal::Refusal;
 use feed_read::{ReadFault, read_message};
-use rt_types::FeedMessage;
+use rt_types::{FeedMessage, Header};
 use std::alloc::Global;
 
 /// The most bytes that a message may have.
@@ -31,31 +31,69 @@ pub fn check(alloc: Global, last: u64, bytes: &[u8]) -> Result<FeedMessage, Refu
 /// The message of well-formed bytes: at most 16,777,216 of them, that read as a message of the versions
 /// 1.0 or 2.0 with a stamp up to the end of the year 9999.
 fn formed(alloc: Global, bytes: &[u8]) -> Result<FeedMessage, Refusal>
-    ensures { Forms (well_formed bytes.now) result }
+    ensures { Judges (well_formed bytes.now) result }
 {
     if bytes.len() > LONGEST_MESSAGE {
-        return Err(Refusal::NotWellFormed);
+        return Err(Refusal::TooLong {
+            len: bytes.len() as u64,
+        });
     }
     match read_message(alloc, bytes) {
-        Ok(message) => {
-            if is_sound(&message) {
-                Ok(message)
-            } else {
-                Err(Refusal::NotWellFormed)
-            }
-        }
-        Err(ReadFault::Malformed { .. }) => Err(Refusal::NotWellFormed),
+        Ok(message) => sound(message),
+        Err(
+            ReadFault::Malformed {
+                entity,
+                what,
+                kind,
+                field,
+            },
+        ) => Err(Refusal::Malformed {
+            entity,
+            what,
+            kind,
+            field,
+        }),
         Err(ReadFault::NoMemory) => Err(Refusal::NoMemory),
     }
 }
 
-/// Whether the message has a version and a stamp that a hub takes.
-fn is_sound(message: &FeedMessage) -> bool
-    ensures { result ≡ is_sound message.now }
+/// The message, where it has a version and a stamp that a hub takes.
+fn sound(message: FeedMessage) -> Result<FeedMessage, Refusal>
+    ensures { Judges (sound message) result }
+{
+    if !has_version(&message) {
+        return Err(other_version(message));
+    }
+    if !has_moment(&message) {
+        return Err(Refusal::BadStamp {
+            got: stamp(&message),
+        });
+    }
+    Ok(message)
+}
+
+/// That the message has a version which isn't known.
+fn other_version(message: FeedMessage) -> Refusal
+    ensures { result ≡ Refusal.Version message.header.version }
+{
+    let Header { version, .. } = message.header;
+    Refusal::Version(version)
+}
+
+/// Whether the message has a version that a hub takes.
+fn has_version(message: &FeedMessage) -> bool
+    ensures { result ≡ has_version message.now }
 {
     let version = message.header.version.as_str();
-    let moment = stamp(message);
-    (version == "1.0" || version == "2.0") && (1 <= moment && moment <= LAST_MOMENT)
+    version == "1.0" || version == "2.0"
+}
+
+/// Whether the message has a stamp that a hub takes.
+fn has_moment(message: &FeedMessage) -> bool
+    ensures { result ≡ has_moment message.now }
+{
+    let stamp = stamp(message);
+    1 <= stamp && stamp <= LAST_MOMENT
 }
 
 /// When the message was made, in seconds since 1970; 0 where it doesn't say.

@@ -3,7 +3,7 @@
 ghost use Rattle.std.specs.Prelude.{◌≡◌, length, IfOk};
 
 use crate::{Refusal, ReplayHub, check};
-use rt_types::Text;
+use rt_types::{FeedMessage, Kind, Text, What};
 use std::alloc::Global;
 use std::test::Fail;
 
@@ -90,10 +90,53 @@ fn a_message_is_taken_once(rt: HostRuntime) -> Result<(), Fail> {
     Ok(())
 }
 
+// Whether a message is refused for that version.
+fn is_version(checked: Result<FeedMessage, Refusal>, text: &str) -> bool {
+    match checked {
+        Err(Refusal::Version(version)) => version.as_str() == text,
+        _ => false,
+    }
+}
+
 #[test]
 fn another_version_is_refused(rt: HostRuntime) {
     let checked = check(rt.alloc(), 0, b"\x0a\x09\x0a\x033.0\x10\x00\x18\x05");
-    assert!(rt; matches!(checked, Err(Refusal::NotWellFormed)));
+    let refused = is_version(checked, "3.0");
+    assert!(rt; refused);
+}
+
+#[test]
+fn a_message_with_no_stamp_is_refused(rt: HostRuntime) {
+    let checked = check(rt.alloc(), 0, b"\x0a\x05\x0a\x032.0");
+    assert!(rt; matches!(checked, Err(Refusal::BadStamp { got: 0 })));
+}
+
+#[test]
+fn a_fault_is_told_with_its_place(rt: HostRuntime) {
+    let checked = check(
+        rt.alloc(),
+        0,
+        b"\x0a\x09\x0a\x032.0\x10\x00\x18\x05\x12\x00",
+    );
+    assert!(rt;
+        matches!(
+            checked,
+            Err(Refusal::Malformed {
+                entity: 1,
+                what: What::Missing,
+                kind: Kind::FeedEntity,
+                field: 1
+            })
+        )
+    );
+}
+
+#[test]
+fn a_message_of_too_many_bytes_is_refused(rt: HostRuntime) -> Result<(), Fail> {
+    let bytes = vec![in rt.alloc(); 0u8; 16_777_217]?;
+    let checked = check(rt.alloc(), 0, &bytes);
+    assert!(rt; matches!(checked, Err(Refusal::TooLong { len: 16_777_217 })));
+    Ok(())
 }
 
 #[test]
