@@ -51,7 +51,8 @@ is_less Less e = refl
 is_less Equal e = cc
 is_less Greater e = cc
 
-rises_by : {X : Type 0} (id : X → List ℕ) (xs : List X) → all_pairs (λ x y. is_lt (slice_cmp nat_cmp (id x) (id y))) xs ≡ true → RisesById id xs
+-- ids that rise by a test that computes
+pub rises_by : {X : Type 0} (id : X → List ℕ) (xs : List X) → all_pairs (λ x y. is_lt (slice_cmp nat_cmp (id x) (id y))) xs ≡ true → RisesById id xs
 rises_by id xs e = record { rise = λ i j x y h at then. is_less (slice_cmp nat_cmp (id x) (id y)) (pairs_at (λ x y. is_lt (slice_cmp nat_cmp (id x) (id y))) xs e i j x y h at then) }
 
 -- it is a timetable

@@ -7,3 +7,4 @@ pub mod ChildrenLemmas
 pub mod Checks
 pub mod CityLemmas
 pub mod TimetableLaws
+pub mod DepartureOrder

@@ -3,6 +3,7 @@ use Rattle.std.proofs.Common.{◌≡◌, [], refl, arith}
 use Rattle.service_day.specs.Calendar.{is_day}
 use Rattle.sched_types.specs.declared.plan.Plan.TheInside.{Inside}
 use Rattle.sched_types.specs.Timetable.{IsTimetable, no_timetable}
+use Rattle.sched_types.specs.Departures.{AreInOrder}
 use Rattle.sched_types.specs.Sound.{table_in, IsSound}
 
 pub plain_is : IsTimetable no_timetable
@@ -41,10 +42,14 @@ plain_is = record {
   bases_small = λ day seconds e. cc;
 }
 
+no_order : AreInOrder [] [] []
+no_order = record { sorted = λ k d low high. absurd (omega arith); same = λ wanted. refl }
+
 -- so is each plan whose lists are empty and whose window begins so
-pub plain_sound : (p : Inside) → p.agencies.items ≡ [] → p.stops.items ≡ [] → p.routes.items ≡ [] → p.trips.items ≡ [] → p.places.items ≡ [] → p.active.items ≡ [] → p.bases.items ≡ [] → p.first ≡ 19700101 → p.children.items ≡ [] → p.dates.items ≡ [] → IsSound p
-plain_sound p agencies stops routes trips places active bases first children dates = record {
+pub plain_sound : (p : Inside) → p.agencies.items ≡ [] → p.stops.items ≡ [] → p.routes.items ≡ [] → p.trips.items ≡ [] → p.places.items ≡ [] → p.active.items ≡ [] → p.bases.items ≡ [] → p.first ≡ 19700101 → p.children.items ≡ [] → p.dates.items ≡ [] → p.departures.items ≡ [] → IsSound p
+plain_sound p agencies stops routes trips places active bases first children dates departures = record {
   table = let same : table_in p ≡ no_timetable = rw (agencies, stops, routes, trips, places, active, bases, first) refl in rw same plain_is;
   children = rw (children, stops) refl;
   dates = rw (dates, bases) refl;
+  departures = rw (departures, trips, places) no_order;
 }

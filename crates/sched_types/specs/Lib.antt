@@ -1,4 +1,5 @@
 pub mod Timetable
+pub mod Departures
 pub mod Sound
 pub mod Parts
 pub mod Schedules

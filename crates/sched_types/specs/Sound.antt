@@ -3,6 +3,7 @@ use Rattle.std.specs.Prelude.{◌≡◌, ℕ, List, length, map}
 use Rattle.std.specs.List.{range_with_len}
 use Rattle.sched_types.specs.declared.rows.Stop.{Stop}
 use Rattle.sched_types.specs.declared.plan.Plan.TheInside.{Inside}
+use Rattle.sched_types.specs.Departures.{AreInOrder}
 use Rattle.sched_types.specs.Timetable.{Timetable, IsTimetable, children_of, dates_of}
 
 -- the timetable that the fields of a plan show
@@ -22,8 +23,9 @@ table_in p = record {
 abbrev pub all_children : List Stop → List (List ℕ)
 all_children stops = map (children_of stops) (range_with_len 0 (length stops))
 
--- a plan's lists are a timetable, and its lists of children and of dates are right
+-- a plan's lists are a timetable, and its lists of children, of dates and of trips by departure are right
 pub record IsSound (p : Inside) : Type 0 where
   pub table : IsTimetable (table_in p)
   pub children : map (λ v. v.items) p.children.items ≡ all_children p.stops.items
   pub dates : p.dates.items ≡ dates_of (table_in p)
+  pub departures : AreInOrder (table_in p).trips (table_in p).places p.departures.items

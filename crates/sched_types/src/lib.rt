@@ -13,6 +13,7 @@
 
 mod children;
 mod dates;
+mod departures;
 mod names;
 mod numbers;
 mod plan;

@@ -1,13 +1,16 @@
 //! One timetable and its look-ups.
-ghost use Rattle.std.specs.Prelude.{◌≡◌, ◌^◌, ◌<◌, ◌≤◌, length, map, sum_by, slice_get, IfOk, IfSome};
+ghost use Rattle.std.specs.Prelude.{◌≡◌, ◌^◌, ◌<◌, ◌≤◌, length, map, filter, sum_by, slice_get, IfOk, IfSome};
+ghost use Rattle.std.specs.List.{range_with_len};
 ghost use Rattle.std.specs.Bool.{OnTrue};
 ghost use Rattle.std.specs.Option.{ForSome};
 ghost use Rattle.service_day.specs.Calendar.{date_plus};
 ghost use Rattle.sched_types.specs.Timetable.{IsTimetable, IsSmall, number_of, places_of, is_run, children_of, day_with_date, counts_of, no_timetable};
+ghost use Rattle.sched_types.specs.Departures.{departs_so};
 ghost use Rattle.sched_types.specs.Parts.{table_of};
 
 use crate::children::children_lists;
 use crate::dates::dates_from;
+use crate::departures::{Departure, by_departure, departing};
 use crate::names::PlanName;
 use crate::numbers::number_by_id;
 use crate::rows::{Counts, Place, PlanParts, Route, Run, Stop, Trip};
@@ -33,6 +36,8 @@ pub struct Plan {
     children: Vec<Vec<u32>>,
     /// The dates of the window's days.
     dates: Vec<u32>,
+    /// The numbers of the trips by their departures.
+    departures: Vec<u32>,
 }
 
 impl Model for Plan {
@@ -55,6 +60,7 @@ impl Plan {
     {
         let children = children_lists(alloc, parts.stops.as_slice())?;
         let dates = dates_from(alloc, parts.first, parts.bases.len())?;
+        let departures = by_departure(alloc, parts.trips.as_slice(), parts.places.as_slice())?;
         let PlanParts {
             agencies,
             stops,
@@ -76,6 +82,7 @@ impl Plan {
             bases,
             children,
             dates,
+            departures,
         })
     }
 
@@ -94,6 +101,7 @@ impl Plan {
             bases: Vec::new(alloc),
             children: Vec::new(alloc),
             dates: Vec::new(alloc),
+            departures: Vec::new(alloc),
         }
     }
 
@@ -188,6 +196,21 @@ impl Plan {
         }
     }
 
+    /// The trips of that route and direction whose first place is left at that time, in seconds, by rising
+    /// numbers.
+    pub fn departing(&self, route: u32, direction: u32, departure: u32) -> &[u32]
+        ensures { result.now ≡ filter (departs_so self.now route direction departure) (range_with_len 0 (length self.now.trips)) }
+    {
+        let wanted = Departure {
+            route,
+            direction,
+            seconds: departure,
+        };
+        let trips = self.trips.as_slice();
+        let places = self.places.as_slice();
+        departing(self.departures.as_slice(), trips, places, wanted)
+    }
+
     /// How many trips there are.
     pub fn trips(&self) -> u32
         ensures { result ≡ length self.now.trips }
@@ -262,6 +285,15 @@ impl Plan {
         ensures { result ≡ length (places_of self.now trip) }
     {
         self.places[trip as usize].len() as u32
+    }
+
+    /// The places of a trip, in order of `stop_sequence`.
+    pub fn stop_times(&self, trip: u32) -> &[Place]
+        requires { trip < length self.now.trips }
+        ensures value { result.now ≡ places_of self.now trip }
+        ensures few { length result.now < 2 ^ 32 }
+    {
+        self.places[trip as usize].as_slice()
     }
 
     /// A place of a trip, by its number in order of `stop_sequence`, from 0.

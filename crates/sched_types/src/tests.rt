@@ -129,6 +129,7 @@ fn rows_are_read_by_their_numbers(rt: HostRuntime) -> Result<(), Fail> {
     assert_eq!(rt; plan.trip(1).id.as_str(), "T1");
     assert_eq!(rt; plan.route(0).short.as_str(), "7");
     assert_eq!(rt; plan.places(1), 4);
+    assert_eq!(rt; plan.stop_times(1).len(), 4);
     assert_eq!(rt; plan.place(1, 1), place(2, 2, 29400, 29400));
     let counts = Counts {
         agencies: 1,
@@ -153,6 +154,16 @@ fn days_and_runs_are_told(rt: HostRuntime) -> Result<(), Fail> {
     assert!(rt; plan.runs(Run { trip: 0, day: 2 }));
     assert!(rt; !plan.runs(Run { trip: 0, day: 3 }));
     assert!(rt; !plan.runs(Run { trip: 3, day: 0 }));
+    Ok(())
+}
+
+#[test]
+fn trips_are_found_by_their_departures(rt: HostRuntime) -> Result<(), Fail> {
+    let plan = city(rt.alloc())?;
+    assert_eq!(rt; plan.departing(0, 0, 28800), [1].as_slice());
+    assert_eq!(rt; plan.departing(0, 0, 90600), [0].as_slice());
+    assert_eq!(rt; plan.departing(0, 1, 28800), [].as_slice());
+    assert_eq!(rt; plan.departing(0, 0, 29400), [].as_slice());
     Ok(())
 }
 
