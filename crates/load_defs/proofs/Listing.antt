@@ -27,13 +27,13 @@ never_none : {A : Type 0} (x : A) → Some x ≡ None → ⊥
 unfolding IsThere
 never_none x e = subst IsThere e tt
 
-true_false : true ≡ false → ⊥
+pub true_false : true ≡ false → ⊥
 true_false e = subst T e tt
 
-less_equal : Less ≡ Equal → ⊥
+pub less_equal : Less ≡ Equal → ⊥
 less_equal e = subst (λ r. T (is_lt r)) e tt
 
-equal_is : (r : Ordering) → is_eq r ≡ true → r ≡ Equal
+pub equal_is : (r : Ordering) → is_eq r ≡ true → r ≡ Equal
 equal_is Equal e = refl
 equal_is Less e = absurd (true_false (sym e))
 equal_is Greater e = absurd (true_false (sym e))
@@ -90,7 +90,7 @@ find-permutation {X} test xs ys p unique = by (find test xs) (find test ys) refl
         ap (λ z. Some z) (unique x y (Contains-permutation xs ys x p left.0) right.0 left.1 right.1)
 
 -- an element by its place
-get_at : {X : Type 0} (xs : List X) (k : ℕ) (x : X) → k < length xs → slice_index_or xs k x ≡ x → slice_get xs k ≡ Some x
+pub get_at : {X : Type 0} (xs : List X) (k : ℕ) (x : X) → k < length xs → slice_index_or xs k x ≡ x → slice_get xs k ≡ Some x
 get_at [] k x l e = absurd (omega (arith, l))
 get_at (y ∷ ys) zero x l e = ap (λ z. Some z) e
 get_at (y ∷ ys) (suc k) x l e = get_at ys k x (omega (arith, l)) e
@@ -100,38 +100,34 @@ module _ {K R : Type 0} (order : K → K → Ordering) (o : IsTotalOrder order) 
   pub record Rises (rows : List R) : Type 0 where
     pub rise : (i j : ℕ) (x y : R) → i < j → slice_get rows i ≡ Some x → slice_get rows j ≡ Some y → order (key x) (key y) ≡ Less
 
-  paired : List R → List (K × R)
+  abbrev pub paired : List R → List (K × R)
   paired rows = map (λ row. (key row, row)) rows
 
   below_rest : (k : K) (rows : List R) → ((j : ℕ) (y : R) → slice_get rows j ≡ Some y → order k (key y) ≡ Less) → T (below_all order k (paired rows))
-  unfolding paired
   below_rest k [] h = tt
   below_rest k (row ∷ rows) h = both _ _ (less_is _ (h 0 row refl)) (below_rest k rows (λ j y e. h (suc j) y e))
 
   sorted_pairs : (rows : List R) → Rises rows → T (is_sorted order (paired rows))
-  unfolding paired
   sorted_pairs [] h = tt
   sorted_pairs (row ∷ rows) h =
       both _ _ (below_rest (key row) rows (λ j y e. h.rise 0 (suc j) row y (omega arith) refl e))
       (sorted_pairs rows (record { rise = λ i j x y l a b. h.rise (suc i) (suc j) x y (omega (arith, l)) a b }))
 
-  keyed_sorted : (rows : List R) → T (is_sorted order (keyed order key rows))
+  pub keyed_sorted : (rows : List R) → T (is_sorted order (keyed order key rows))
   keyed_sorted [] = tt
   keyed_sorted (row ∷ rows) = is_sorted-put order o (key row) row (keyed order key rows) (keyed_sorted rows)
 
-  find_keyed : (q : K) (rows : List R) → entries.find order q (keyed order key rows) ≡ find (λ row. eq_by_cmp order q (key row)) rows
+  pub find_keyed : (q : K) (rows : List R) → entries.find order q (keyed order key rows) ≡ find (λ row. eq_by_cmp order q (key row)) rows
   find_keyed q [] = refl
   find_keyed q (row ∷ rows) =
       find-put order o q (key row) row (keyed order key rows)
       ∙ ap (λ r. cond (eq_by_cmp order q (key row)) (Some row) r) (find_keyed q rows)
 
-  find_paired : (q : K) (rows : List R) → entries.find order q (paired rows) ≡ find (λ row. eq_by_cmp order q (key row)) rows
-  unfolding paired
+  pub find_paired : (q : K) (rows : List R) → entries.find order q (paired rows) ≡ find (λ row. eq_by_cmp order q (key row)) rows
   find_paired q [] = refl
   find_paired q (row ∷ rows) = ap (λ r. cond (eq_by_cmp order q (key row)) (Some row) r) (find_paired q rows)
 
   values_paired : (rows : List R) → map (λ entry. entry.1) (paired rows) ≡ rows
-  unfolding paired
   values_paired [] = refl
   values_paired (row ∷ rows) = ap (λ rest. row ∷ rest) (values_paired rows)
 

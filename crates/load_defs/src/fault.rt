@@ -4,6 +4,7 @@ ghost use Rattle.std.specs.Prelude.{◌≡◌, Some};
 ghost use Rattle.load_defs.specs.Files.{file_name};
 
 use gtfs_rows::{Column, RowFault};
+use std::alloc::{AllocError, AllocFailed};
 use std::fmt;
 use thiserror::Error;
 
@@ -94,4 +95,24 @@ pub enum LoadFault {
     /// No memory was to be had. This may come in place of any answer.
     #[error("out of memory")]
     NoMemory,
+}
+
+impl From<AllocError> for LoadFault {
+    ghost use Rattle.load_defs.specs.declared.fault.LoadFault.TheVariants.{NoMemory};
+
+    ghost from_gives = { λ _ fault. fault ≡ NoMemory };
+
+    fn from(_: AllocError) -> Self {
+        LoadFault::NoMemory
+    }
+}
+
+impl<T: Drop> From<AllocFailed<T>> for LoadFault {
+    ghost use Rattle.load_defs.specs.declared.fault.LoadFault.TheVariants.{NoMemory};
+
+    ghost from_gives = { λ _ fault. fault ≡ NoMemory };
+
+    fn from(_: AllocFailed<T>) -> Self {
+        LoadFault::NoMemory
+    }
 }

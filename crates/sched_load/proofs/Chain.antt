@@ -1,0 +1,168 @@
+-- Steps that may fail, one after another.
+use Rattle.std.proofs.Common.{◌≡◌, ℕ, ◌+◌, ◌≤◌, List, refl, sym, ap, ◌∙◌, subst, arith}
+use Rattle.std.specs.Prelude.{Option, Some, None, IfSome, Result, Ok, Err, IsErrAnd, ⊤}
+use Rattle.gtfs_rows.specs.declared.fault.RowFault.TheVariants as rows
+use Rattle.hub_outside.specs.Count.{Rose}
+use Rattle.load_defs.specs.declared.fault.LoadFault.{LoadFault}
+use Rattle.load_defs.specs.declared.fault.LoadFault.TheVariants as fault
+use Rattle.load_defs.specs.Files.{◌>>=◌}
+use Rattle.load_defs.specs.declared.conf.PlanConf.{PlanConf}
+use Rattle.load_defs.specs.Loading.{dataset_in, timetable, with_times, zone_of}
+use Rattle.load_defs.specs.Numbers.{Dataset, numbered}
+use Rattle.sched_types.specs.Timetable.{Timetable}
+use Rattle.sched_load.specs.Built.{IsBuilt}
+use Rattle.sched_load.specs.declared.tables.Tables.{Tables}
+use Rattle.sched_load.specs.Tables.{dataset_read}
+use Rattle.sched_load.specs.Answer.{Reads, Loads, Refuses, RefusesAlone, HasLoadCause, HasFaultCause, IsPlainAnswer, IsPlain}
+
+-- what is at fault in a step is at fault in the whole
+refuses_whole : {A B : Type 0} (one : Result A LoadFault) (whole : Result B LoadFault) (e : LoadFault) → ((f : LoadFault) → one ≡ Err f → whole ≡ Err f) → Refuses one e → Refuses whole e
+refuses_whole one whole fault.BadZone same x = same fault.BadZone x
+refuses_whole one whole (fault.MissingFile name) same x = same (fault.MissingFile name) x
+refuses_whole one whole (fault.TooLong name) same x = same (fault.TooLong name) x
+refuses_whole one whole (fault.Rows name e) same x = same (fault.Rows name e) x
+refuses_whole one whole (fault.UnknownRef name row column) same x = same (fault.UnknownRef name row column) x
+refuses_whole one whole (fault.Duplicate name row) same x = same (fault.Duplicate name row) x
+refuses_whole one whole (fault.TripTimes row) same x = same (fault.TripTimes row) x
+refuses_whole one whole fault.FileFault same x = tt
+refuses_whole one whole fault.NoMemory same x = tt
+
+-- a fault that is told is one
+refuses_told : {A : Type 0} (told : Result A LoadFault) (e : LoadFault) → RefusesAlone told e → Refuses told e
+refuses_told told fault.BadZone x = x
+refuses_told told (fault.MissingFile name) x = x
+refuses_told told (fault.TooLong name) x = x
+refuses_told told (fault.Rows name (rows.MissingColumn column)) x = x
+refuses_told told (fault.Rows name (rows.BadValue row column)) x = x
+refuses_told told (fault.Rows name (rows.NotText row column)) x = x
+refuses_told told (fault.Rows name rows.TooMany) x = x
+refuses_told told (fault.Rows name rows.NoMemory) x = absurd x
+refuses_told told (fault.UnknownRef name row column) x = x
+refuses_told told (fault.Duplicate name row) x = x
+refuses_told told (fault.TripTimes row) x = x
+refuses_told told fault.FileFault x = absurd x
+refuses_told told fault.NoMemory x = tt
+
+plain_told : {A : Type 0} (told : Result A LoadFault) (e : LoadFault) → RefusesAlone told e → IsPlain e
+plain_told told fault.BadZone x = tt
+plain_told told (fault.MissingFile name) x = tt
+plain_told told (fault.TooLong name) x = tt
+plain_told told (fault.Rows name (rows.MissingColumn column)) x = tt
+plain_told told (fault.Rows name (rows.BadValue row column)) x = tt
+plain_told told (fault.Rows name (rows.NotText row column)) x = tt
+plain_told told (fault.Rows name rows.TooMany) x = tt
+plain_told told (fault.Rows name rows.NoMemory) x = absurd x
+plain_told told (fault.UnknownRef name row column) x = tt
+plain_told told (fault.Duplicate name row) x = tt
+plain_told told (fault.TripTimes row) x = tt
+plain_told told fault.FileFault x = absurd x
+plain_told told fault.NoMemory x = tt
+
+cause_told : {A : Type 0} (told : Result A LoadFault) (e : LoadFault) (before after : ℕ) → RefusesAlone told e → HasFaultCause e before after
+cause_told told fault.BadZone before after x = tt
+cause_told told (fault.MissingFile name) before after x = tt
+cause_told told (fault.TooLong name) before after x = tt
+cause_told told (fault.Rows name (rows.MissingColumn column)) before after x = tt
+cause_told told (fault.Rows name (rows.BadValue row column)) before after x = tt
+cause_told told (fault.Rows name (rows.NotText row column)) before after x = tt
+cause_told told (fault.Rows name rows.TooMany) before after x = tt
+cause_told told (fault.Rows name rows.NoMemory) before after x = absurd x
+cause_told told (fault.UnknownRef name row column) before after x = tt
+cause_told told (fault.Duplicate name row) before after x = tt
+cause_told told (fault.TripTimes row) before after x = tt
+cause_told told fault.FileFault before after x = absurd x
+cause_told told fault.NoMemory before after x = tt
+
+rose : (before mid after : ℕ) → before ≤ mid → Rose mid after → Rose before after
+rose before mid after h x = omega (arith, h, x)
+
+-- a cause that came later is one from the start
+cause_later : (e : LoadFault) (before mid after : ℕ) → before ≤ mid → HasFaultCause e mid after → HasFaultCause e before after
+cause_later fault.BadZone before mid after h x = tt
+cause_later (fault.MissingFile name) before mid after h x = tt
+cause_later (fault.TooLong name) before mid after h x = tt
+cause_later (fault.Rows name e) before mid after h x = tt
+cause_later (fault.UnknownRef name row column) before mid after h x = tt
+cause_later (fault.Duplicate name row) before mid after h x = tt
+cause_later (fault.TripTimes row) before mid after h x = tt
+cause_later fault.FileFault before mid after h x = rose before mid after h x
+cause_later fault.NoMemory before mid after h x = tt
+
+bind_fails : {A B : Type 0} (told : Result A LoadFault) (next : A → Result B LoadFault) (f : LoadFault) → told ≡ Err f → (told >>= next) ≡ Err f
+bind_fails told next f e = ap (λ r. r >>= next) e
+
+pub bind_bind : {A B C : Type 0} (told : Result A LoadFault) (next : A → Result B LoadFault) (last : B → Result C LoadFault) → ((told >>= next) >>= last) ≡ (told >>= (λ x. next x >>= last))
+bind_bind (Ok x) next last = refl
+bind_bind (Err e) next last = refl
+
+module _ {A B : Type 0} (contents : Option (List (List ℕ × List ℕ))) (told : List (List ℕ × List ℕ) → Result A LoadFault) (next : List (List ℕ × List ℕ) → A → Result B LoadFault) where
+  -- a step that fails
+  pub step_fails : (before after : ℕ) (e : LoadFault) → Reads contents told before after (Err e) → Reads contents (λ fs. told fs >>= next fs) before after (Err e)
+  step_fails before after e r = record { loads = by contents r.loads; cause = r.cause; plain = r.plain }
+    where
+      by : (o : Option (List (List ℕ × List ℕ))) → IfSome o (λ fs. Refuses (told fs) e) → IfSome o (λ fs. Refuses (told fs >>= next fs) e)
+      by None h = tt
+      by (Some fs) h = refuses_whole (told fs) (told fs >>= next fs) e (λ f q. bind_fails (told fs) (next fs) f q) h
+
+  -- a step that is done, and what follows
+  pub step_done : (behind : Option (List (List ℕ × List ℕ))) (before mid after : ℕ) (x : A) (answer : Result B LoadFault) → behind ≡ contents → Reads contents told before mid (Ok x) → Reads behind (λ fs. next fs x) mid after answer → Reads contents (λ fs. told fs >>= next fs) before after answer
+  step_done behind before mid after x answer same first second = record {
+    loads = by contents first.loads (subst (λ o. IfSome o (λ fs. Loads (next fs x) answer)) same second.loads);
+    cause = later answer first.cause second.cause;
+    plain = second.plain;
+  }
+    where
+      by : (o : Option (List (List ℕ × List ℕ))) → IfSome o (λ fs. told fs ≡ Ok x) → IfSome o (λ fs. Loads (next fs x) answer) → IfSome o (λ fs. Loads (told fs >>= next fs) answer)
+      by None h k = tt
+      by (Some fs) h k = subst (λ r. Loads (r >>= next fs) answer) (sym h) k
+
+      later : (a : Result B LoadFault) → before ≤ mid → HasLoadCause a mid after → HasLoadCause a before after
+      later (Ok y) h k = omega (arith, h, k)
+      later (Err e) h k = (let c = k.0 in omega (arith, h, c), cause_later e before mid after h k.1)
+
+if_some : {X : Type 0} (o : Option X) (P : Type 0) → P → IfSome o (λ _. P)
+if_some None P p = tt
+if_some (Some x) P p = p
+
+-- a step that reads no file
+pub step_alone : {A : Type 0} (contents : Option (List (List ℕ × List ℕ))) (told : Result A LoadFault) (count : ℕ) (e : LoadFault) → RefusesAlone told e → Reads contents (λ _. told) count count (Err e)
+step_alone contents told count e h = record { loads = if_some contents _ (refuses_told told e h); cause = (omega arith, cause_told told e count count h); plain = plain_told told e h }
+
+pub step_value : {A : Type 0} (contents : Option (List (List ℕ × List ℕ))) (told : Result A LoadFault) (count : ℕ) (x : A) → told ≡ Ok x → Reads contents (λ _. told) count count (Ok x)
+step_value contents told count x h = record { loads = if_some contents _ h; cause = omega arith; plain = tt }
+
+-- the same told in other words
+pub told_same : {A : Type 0} (contents : Option (List (List ℕ × List ℕ))) (told other : List (List ℕ × List ℕ) → Result A LoadFault) (before after : ℕ) (answer : Result A LoadFault) → ((fs : List (List ℕ × List ℕ)) → told fs ≡ other fs) → Reads contents told before after answer → Reads contents other before after answer
+told_same contents told other before after answer same r = record { loads = by contents r.loads; cause = r.cause; plain = r.plain }
+  where
+    by : (o : Option (List (List ℕ × List ℕ))) → IfSome o (λ fs. Loads (told fs) answer) → IfSome o (λ fs. Loads (other fs) answer)
+    by None h = tt
+    by (Some fs) h = subst (λ t. Loads t answer) (same fs) h
+
+-- want of memory
+pub no_memory : {A : Type 0} (contents : Option (List (List ℕ × List ℕ))) (told : List (List ℕ × List ℕ) → Result A LoadFault) (count : ℕ) → Reads contents told count count (Err fault.NoMemory)
+no_memory contents told count = record { loads = by contents; cause = (omega arith, tt); plain = tt }
+  where
+    by : (o : Option (List (List ℕ × List ℕ))) → IfSome o (λ _. ⊤)
+    by None = tt
+    by (Some fs) = tt
+
+-- the fault that a `?` passes on
+pub passed : {A : Type 0} (contents : Option (List (List ℕ × List ℕ))) (told : List (List ℕ × List ℕ) → Result A LoadFault) (before after : ℕ) (r : Result A LoadFault) (e : LoadFault) → IsErrAnd r (λ x. x ≡ e) → Reads contents told before after (Err e) → Reads contents told before after r
+passed contents told before after (Ok x) e p h = absurd p
+passed contents told before after (Err y) e p h = rw p h
+
+-- the same of the rows that are read
+pub dataset_passed : (contents : Option (List (List ℕ × List ℕ))) (told : List (List ℕ × List ℕ) → Result Dataset LoadFault) (before after : ℕ) (r : Result Tables LoadFault) (e : LoadFault) → IsErrAnd r (λ x. x ≡ e) → Reads contents told before after (Err e) → Reads contents told before after (dataset_read r)
+dataset_passed contents told before after (Ok x) e p h = absurd p
+dataset_passed contents told before after (Err y) e p h = rw p h
+
+-- a plan that was built, or want of memory
+pub built : (contents : Option (List (List ℕ × List ℕ))) (t : Timetable) (count : ℕ) (r : Result Timetable LoadFault) → IsBuilt t r → Reads contents (λ _. Ok t) count count r
+built contents t count (Ok plan) h = record { loads = if_some contents _ (ap (λ x. Ok x) (sym h)); cause = omega arith; plain = tt }
+built contents t count (Err e) h = rw h (no_memory contents (λ _. Ok t) count)
+
+-- the timetable, step by step
+pub timetable_is : (folder : List ℕ) (conf : PlanConf) (fs : List (List ℕ × List ℕ)) → (zone_of conf.zone >>= (λ rule. dataset_in fs folder >>= (λ rows. with_times rows >>= (λ d. Ok (numbered rule conf.first conf.days d))))) ≡ timetable fs folder conf
+unfolding timetable
+timetable_is folder conf fs = refl

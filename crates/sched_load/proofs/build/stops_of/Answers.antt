@@ -1,0 +1,12 @@
+use Rattle.std.proofs.Common.{◌≤◌, length, subst}
+use Rattle.load_defs.specs.Numbers.{by_id}
+use Rattle.sched_load.specs.Built.{stop_in}
+use Rattle.sched_load.proofs.BuildLemmas.{made_all, made_more}
+use Rattle.sched_load.proofs.build.stops_of.Goals as goal
+
+pub loop-number-preserved : goal.loop-number-preserved
+loop-number-preserved c =
+    made_more (stop_in c.args.stops.now) (by_id (λ row. row.stop_id) c.args.stops.now) c.loop-number.number c.row.result.now c.in_ok-stop_of.field-0 c.loop-number.list.items c.push.new.self.items c.row.ensures c.in_ok-stop_of.ensures c.in_ok-push.ensures.items c.loop-number.invariant
+
+pub returns : goal.returns
+returns c = made_all (stop_in c.args.stops.now) (by_id (λ row. row.stop_id) c.args.stops.now) c.loop-number.number c.loop-number.list.items c.loop-number.invariant (subst (λ n. n ≤ c.loop-number.number) c.len-number-end.ensures c.loop-number-test.false)

@@ -1,0 +1,70 @@
+-- What the loader makes of the rows that it read.
+use Rattle.std.specs.Prelude.{◌≡◌, ℕ, ◌≤◌, ◌==◌, bytes_eq, List, [], length, map, slice_get, Option, Some, None, if◌then◌else◌, Result, Ok, Err}
+use Rattle.gtfs_rows.specs.declared.rows.AgencyRow.{AgencyRow}
+use Rattle.gtfs_rows.specs.declared.rows.StopRow.{StopRow}
+use Rattle.gtfs_rows.specs.declared.rows.RouteRow.{RouteRow}
+use Rattle.gtfs_rows.specs.declared.rows.TripRow.{TripRow}
+use Rattle.sched_types.specs.declared.rows.Stop.{Stop}
+use Rattle.sched_types.specs.declared.rows.Route.{Route}
+use Rattle.sched_types.specs.declared.rows.Trip.{Trip}
+use Rattle.sched_types.specs.declared.rows.Place.{Place}
+use Rattle.sched_load.specs.declared.visits.Visit.{Visit}
+use Rattle.sched_load.specs.Course.{AllFit, places_in}
+use Rattle.sched_load.specs.Listed.{most_rows}
+use Rattle.sched_types.specs.Timetable.{Timetable, number_of}
+use Rattle.load_defs.specs.declared.fault.LoadFault.{LoadFault}
+use Rattle.load_defs.specs.declared.fault.LoadFault.TheVariants as fault
+use Rattle.load_defs.specs.Loading.{with_times}
+use Rattle.load_defs.specs.Numbers.{Dataset, by_id, known_number}
+use Rattle.sched_load.specs.Answer.{RefusesAlone}
+
+-- the times of all trips are in order
+abbrev pub IsInOrder : Dataset → Type 0
+IsInOrder d = with_times d ≡ Ok d
+
+-- the same, or the fault of the first trip whose times are not
+abbrev pub TimesAre : Dataset → Result (Unit {0}) LoadFault → Type 0
+TimesAre d (Ok _) = with_times d ≡ Ok d
+TimesAre d (Err e) = RefusesAlone (with_times d) e
+
+-- a plan is that timetable; only want of memory may come in its place
+abbrev pub IsBuilt : Timetable → Result Timetable LoadFault → Type 0
+IsBuilt t (Ok plan) = plan ≡ t
+IsBuilt t (Err e) = e ≡ fault.NoMemory
+
+-- a stop, among the rows of stops.txt
+abbrev pub stop_in : List StopRow → StopRow → Stop
+stop_in stops row = record { id = row.stop_id; name = row.stop_name; parent = number_of (λ stop. stop.stop_id) (by_id (λ stop. stop.stop_id) stops) row.parent_station }
+
+-- the number of the agency with an id: an empty one is the only agency's, where there is one agency
+abbrev pub agency_in : List AgencyRow → List ℕ → Option ℕ
+agency_in agencies id =
+    if bytes_eq id [] then (if length agencies == 1 then Some 0 else None)
+    else number_of (λ row. row.agency_id) (by_id (λ row. row.agency_id) agencies) id
+
+-- a route, by the rows of agency.txt
+abbrev pub route_in : List AgencyRow → RouteRow → Route
+route_in agencies row = record { id = row.route_id; agency = agency_in agencies row.agency_id; short = row.route_short_name; long = row.route_long_name; kind = row.route_type }
+
+-- a trip, by the rows of routes.txt and the services
+abbrev pub trip_in : List RouteRow → List (List ℕ) → TripRow → Trip
+trip_in routes services row = record {
+  id = row.trip_id;
+  route = known_number (λ route. route.route_id) (by_id (λ route. route.route_id) routes) row.route_id;
+  service = known_number (λ id. id) services row.service_id;
+  headsign = row.trip_headsign;
+  direction = row.direction_id;
+}
+
+-- each group is no longer than a file, and its pickup_types are in range
+pub record AreSmall (groups : List (List (ℕ × Visit))) : Type 0 where
+  pub few : (i : ℕ) (group : List (ℕ × Visit)) → slice_get groups i ≡ Some group → length group ≤ most_rows
+  pub pickups : (i j : ℕ) (group : List (ℕ × Visit)) (entry : ℕ × Visit) → slice_get groups i ≡ Some group → slice_get group j ≡ Some entry → entry.1.pickup ≤ 3
+
+-- the places of a group
+abbrev pub listed_places : List (ℕ × Visit) → List Place
+listed_places group = places_in (map (λ entry. entry.1) group)
+
+-- the times of all places are 32 bits
+abbrev pub ListsFit : List (List Place) → Type 0
+ListsFit lists = (i : ℕ) (list : List Place) → slice_get lists i ≡ Some list → AllFit list

@@ -1,0 +1,32 @@
+-- Rows in groups, as the loader's contracts see them.
+use Rattle.std.specs.Prelude.{◌≡◌, ℕ, ◌&&◌, ◌==◌, bytes_eq, List, map, Result, Ok, Err, Vec}
+use Rattle.std.specs.declared.alloc.Global.{Global}
+use Rattle.std.specs.declared.collections.BTreeMap.{BTreeMap}
+use Rattle.gtfs_rows.specs.declared.rows.StopRow.{StopRow}
+use Rattle.gtfs_rows.specs.declared.rows.TripRow.{TripRow}
+use Rattle.gtfs_rows.specs.declared.rows.StopTimeRow.{StopTimeRow}
+use Rattle.gtfs_rows.specs.declared.rows.ExceptionRow.{ExceptionRow}
+use Rattle.service_day.specs.declared.services.Exception.{Exception}
+use Rattle.load_defs.specs.declared.fault.LoadFault.{LoadFault}
+use Rattle.load_defs.specs.Numbers.{by_id}
+use Rattle.sched_load.specs.declared.visits.Visit.{Visit}
+use Rattle.sched_load.specs.Answer.{RefusesAlone}
+use Rattle.sched_load.specs.Listed.{entries_of, group_of, visit_of}
+
+-- a file's rows that are consistent, with the entries of their groups, or the first fault
+abbrev pub Groups : {R V : Type 0} → Result (List R) LoadFault → List R → List (List (ℕ × V)) → Result (Vec (BTreeMap ℕ V Global) Global) LoadFault → Type 0
+Groups told rows groups (Ok maps) = (told ≡ Ok rows) × (entries_of maps.items ≡ groups)
+Groups told rows groups (Err e) = RefusesAlone told e
+
+-- the visits of each trip by rising stop_sequence
+abbrev pub visits_of : List TripRow → List StopRow → List StopTimeRow → List (List (ℕ × Visit))
+visits_of trips stops rows =
+    map (λ trip. group_of (λ row. row.trip_id) (λ visit. visit.sequence) (visit_of stops) rows trip.trip_id) (by_id (λ trip. trip.trip_id) trips)
+
+-- a row of calendar_dates.txt
+abbrev pub exception_of : ExceptionRow → Exception
+exception_of row = record { date = row.date; kind = row.exception_type }
+
+-- the exceptions of each service by rising dates
+abbrev pub exceptions_of : List (List ℕ) → List ExceptionRow → List (List (ℕ × Exception))
+exceptions_of services rows = map (λ id. group_of (λ row. row.service_id) (λ exception. exception.date) exception_of rows id) services

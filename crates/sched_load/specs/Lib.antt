@@ -1,0 +1,10 @@
+pub mod Answer
+pub mod Listed
+pub mod Groups
+pub mod Services
+pub mod Parents
+pub mod Course
+pub mod Days
+pub mod Built
+pub mod Tables
+pub mod Window

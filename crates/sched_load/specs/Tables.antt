@@ -1,0 +1,50 @@
+-- The rows of the seven files as the loader holds them.
+use Rattle.std.specs.Prelude.{◌≡◌, ℕ, Bool, true, false, List, map, slice_get, Option, Some, Result, Ok, Err}
+use Rattle.gtfs_rows.specs.Tables.{Columns, agency, stops, routes, trips, stop_times, calendar, exceptions}
+use Rattle.gtfs_rows.specs.declared.rows.ExceptionRow.{ExceptionRow}
+use Rattle.service_day.specs.declared.services.Exception.{Exception}
+use Rattle.load_defs.specs.declared.fault.File.{File}
+use Rattle.load_defs.specs.declared.fault.File.TheVariants as file
+use Rattle.load_defs.specs.declared.fault.LoadFault.{LoadFault}
+use Rattle.load_defs.specs.Numbers.{Dataset, service_ids}
+use Rattle.load_defs.specs.References.{consistent_agencies, consistent_stops, consistent_routes, consistent_trips, consistent_stop_times, consistent_calendar, consistent_exceptions}
+use Rattle.sched_load.specs.declared.tables.Tables.{Tables}
+use Rattle.sched_load.specs.Listed.{entries_of, file_rows}
+use Rattle.sched_load.specs.Groups.{visits_of, exceptions_of}
+
+-- the rows, file by file
+abbrev pub dataset_of : Tables → Dataset
+dataset_of t = record { agencies = t.agencies; stops = t.stops; routes = t.routes; trips = t.trips; stop_times = t.stop_times.items; calendar = t.calendar; exceptions = t.exceptions.items }
+
+-- rows are those of a file
+abbrev pub AreOf : {R : Type 0} → Bool → File → Columns R → List R → Type 0
+AreOf required name columns rows = (bytes : Option (List ℕ)) × (file_rows required name columns bytes ≡ Ok rows)
+
+-- rows of seven files that are consistent
+pub record IsConsistent (d : Dataset) : Type 0 where
+  pub agencies_of : AreOf true file.Agency agency d.agencies
+  pub stops_of : AreOf true file.Stops stops d.stops
+  pub routes_of : AreOf true file.Routes routes d.routes
+  pub trips_of : AreOf true file.Trips trips d.trips
+  pub stop_times_of : AreOf true file.StopTimes stop_times d.stop_times
+  pub calendar_of : AreOf false file.Calendar calendar d.calendar
+  pub exceptions_of : AreOf false file.CalendarDates exceptions d.exceptions
+  pub agencies : consistent_agencies d.agencies ≡ Ok d.agencies
+  pub stops : consistent_stops d.stops ≡ Ok d.stops
+  pub routes : consistent_routes d.agencies d.routes ≡ Ok d.routes
+  pub trips : consistent_trips d.routes d.trips ≡ Ok d.trips
+  pub stop_times : consistent_stop_times d.trips d.stops d.stop_times ≡ Ok d.stop_times
+  pub calendar : consistent_calendar d.calendar ≡ Ok d.calendar
+  pub exceptions : consistent_exceptions d.exceptions ≡ Ok d.exceptions
+
+-- the rows are consistent, and the groups are theirs
+pub record AreRead (t : Tables) : Type 0 where
+  pub sound : IsConsistent (dataset_of t)
+  pub visits : entries_of t.visits.items ≡ visits_of t.trips t.stops t.stop_times.items
+  pub services : t.services.items ≡ service_ids (dataset_of t)
+  pub exceptions : entries_of t.active.items ≡ exceptions_of t.services.items t.exceptions.items
+
+-- the rows that were read, or the fault
+abbrev pub dataset_read : Result Tables LoadFault → Result Dataset LoadFault
+dataset_read (Ok t) = Ok (dataset_of t)
+dataset_read (Err e) = Err e

@@ -1,0 +1,64 @@
+//! The rows of one file of a folder.
+
+ghost use Rattle.std.specs.Prelude.{◌≡◌, ◌≤◌, ℕ, List, Option, IfOk, length};
+ghost use Rattle.load_defs.specs.Files.{path_of};
+ghost use Rattle.hub_outside.specs.Files.{file_at};
+ghost use Rattle.sched_load.specs.Answer.{Reads, fault_of, items_in};
+ghost use Rattle.std.specs.String.{string_bytes};
+ghost use Rattle.sched_load.specs.Listed.{file_rows, most_rows};
+
+use crate::rows::FileRow;
+use gtfs_rows::RowFault;
+use hub_outside::{Buf, FileAnswer, Files};
+use load_defs::{File, LoadFault};
+use std::alloc::{AllocError, Global};
+
+/// The most bytes that a file may have.
+const LONGEST_FILE: u64 = 268_435_456;
+
+/// The path of a file in a folder.
+fn path_of(alloc: Global, folder: &str, file: File) -> Result<String, AllocError>
+    ensures { IfOk result (λ path. string_bytes path ≡ path_of folder.now file) }
+{
+    let mut path = String::from_str(alloc, folder)?;
+    path.push_str("/")?;
+    path.push_str(file.name())?;
+    Ok(path)
+}
+
+/// The fault of a file that its reader gave.
+fn rows_fault(file: File, fault: RowFault) -> LoadFault
+    ensures { result ≡ fault_of file fault }
+{
+    match fault {
+        RowFault::NoMemory => LoadFault::NoMemory,
+        other => LoadFault::Rows(file, other),
+    }
+}
+
+/// The rows of the file in the folder, or the fault that it has by itself. Its bytes are read into the
+/// buffer.
+pub(crate) fn read_rows<F: Files, R: FileRow>(
+    alloc: Global,
+    files: &mut F,
+    folder: &str,
+    buffer: &mut Buf,
+) -> Result<Vec<R>, LoadFault>
+    ensures reads { Reads (F.contents files.old) (λ fs. file_rows R.required R.name R.columns (file_at fs (path_of folder.now R.name))) (F.faults files.old) (F.faults files.new) (items_in result) }
+    ensures seen { IfOk result (λ rows. (bytes : Option (List ℕ)) × (file_rows R.required R.name R.columns bytes ≡ Ok rows.items)) }
+    ensures few { IfOk result (λ rows. length rows.items ≤ most_rows) }
+    ensures same { F.contents files.new ≡ F.contents files.old }
+{
+    let path = path_of(alloc, folder, R::file())?;
+    match files.read_file(path.as_str(), LONGEST_FILE, buffer) {
+        FileAnswer::Read => match R::read(alloc, buffer.as_slice()) {
+            Ok(rows) => Ok(rows),
+            Err(fault) => Err(rows_fault(R::file(), fault)),
+        },
+        FileAnswer::Absent if R::is_required() => Err(LoadFault::MissingFile(R::file())),
+        FileAnswer::Absent => Ok(Vec::new(alloc)),
+        FileAnswer::TooLong(_) => Err(LoadFault::TooLong(R::file())),
+        FileAnswer::Failed => Err(LoadFault::FileFault),
+        FileAnswer::NoMemory => Err(LoadFault::NoMemory),
+    }
+}

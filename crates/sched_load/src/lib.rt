@@ -1,0 +1,38 @@
+//! Loads a timetable from a folder of files.
+//!
+//! `load` reads the seven files of a GTFS dataset, one after another through one buffer, and gives the
+//! `Plan` of their rows, or the first fault. What it means is said in `load_defs`
+//! (`specs/Loading.antt`): each answer is what `timetable` tells of the files, the folder and the
+//! configuration, but for want of memory, and for a file that could not be read, which the count of
+//! faults of the files bears out.
+//!
+//! The steps stand by subject: `files` reads the rows of one file, `table` holds them with their order
+//! by id, `order` finds that order and the first row that is at fault, `groups` and `visits` put the
+//! stop times of each trip in order, `services` does so for exceptions, `tables` reads all seven files,
+//! `check` judges the times of trips by row of trips.txt, `times`, `days` and `build` make the lists of
+//! the plan. `specs/Answer.antt` has the word by which each step says what it told (`Reads`).
+//!
+//! The crate stands on `load_defs`, `gtfs_rows`, `service_day`, `sched_types` and `hub_outside`.
+#![tactic(auto)]
+
+mod build;
+mod check;
+mod days;
+mod files;
+#[cfg(test)]
+mod form_tests;
+mod groups;
+mod judges;
+mod loading;
+mod order;
+mod rows;
+mod services;
+mod table;
+mod tables;
+#[cfg(test)]
+mod tests;
+mod times;
+mod visits;
+
+pub use load_defs::{File, LoadFault, PlanConf};
+pub use loading::load;

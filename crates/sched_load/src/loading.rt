@@ -1,0 +1,54 @@
+//! A timetable of a folder of files.
+
+ghost use Rattle.std.specs.Prelude.{◌≡◌, ◌≤◌, IfSome, IfOk};
+ghost use Rattle.load_defs.specs.Loading.{timetable, with_times, zone_of};
+ghost use Rattle.load_defs.specs.Numbers.{numbered};
+ghost use Rattle.sched_load.specs.Answer.{HasLoadCause, IsPlainAnswer, Judges, Loads};
+ghost use Rattle.sched_load.specs.Built.{IsBuilt, IsInOrder};
+ghost use Rattle.sched_load.specs.Tables.{AreRead, dataset_of};
+ghost use Rattle.sched_load.specs.Window.{HasWindow};
+
+use crate::build::build_plan;
+use crate::check::check_times;
+use crate::tables::read_tables;
+use hub_outside::Files;
+use load_defs::{LoadFault, PlanConf};
+use sched_types::Plan;
+use service_day::{Zone, ZoneFault, read_zone};
+use std::alloc::Global;
+
+/// The zone of a rule.
+fn zone_of(rule: &str) -> Result<Zone, LoadFault>
+    ensures { Judges (zone_of rule.now) result }
+{
+    match read_zone(rule) {
+        Ok(zone) => Ok(zone),
+        Err(ZoneFault::BadZone) => Err(LoadFault::BadZone),
+        Err(ZoneFault::NoMemory) => Err(LoadFault::NoMemory),
+    }
+}
+
+/// The timetable of the files in the folder, for the zone and the window of days of the configuration, or
+/// the first fault: of the zone; then file by file (agency.txt, stops.txt, routes.txt, trips.txt,
+/// stop_times.txt, calendar.txt, calendar_dates.txt), of each file by itself before it is compared with
+/// itself and with the files before it; then of the trips' times, by row of trips.txt (GTFS Schedule
+/// Reference). `FileFault` says that a file could not be read, and `NoMemory`, that memory ran out.
+///
+/// The paths are the folder's, a slash and the file's name.
+pub fn load<F: Files>(
+    alloc: Global,
+    files: &mut F,
+    folder: &str,
+    conf: &PlanConf,
+) -> Result<Plan, LoadFault>
+    requires { HasWindow conf.now }
+    ensures loads { IfSome (F.contents files.old) (λ fs. Loads (timetable fs folder.now conf.now) result) }
+    ensures cause { HasLoadCause result (F.faults files.old) (F.faults files.new) }
+    ensures plain { IsPlainAnswer result }
+    ensures same { F.contents files.new ≡ F.contents files.old }
+{
+    let zone = zone_of(conf.zone.as_str())?;
+    let tables = read_tables(alloc, files, folder)?;
+    check_times(alloc, &tables)?;
+    build_plan(alloc, &zone, conf.first, conf.days, &tables)
+}

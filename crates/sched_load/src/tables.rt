@@ -1,0 +1,150 @@
+//! The rows of the seven files of a folder.
+
+ghost use Rattle.std.specs.Prelude.{◌≡◌, ◌≤◌, ℕ, List, Option, IfOk, Ok, length, true, [], ◌||◌, bytes_eq};
+ghost use Rattle.hub_outside.specs.Files.{file_at};
+ghost use Rattle.load_defs.specs.Files.{path_of};
+ghost use Rattle.load_defs.specs.Loading.{dataset_in};
+ghost use Rattle.load_defs.specs.References.{consistent, consistent_stops, has_id, with_parents};
+ghost use Rattle.sched_load.specs.Answer.{Reads, and_next};
+ghost use Rattle.sched_load.specs.Listed.{file_rows, most_rows, same_id};
+ghost use Rattle.sched_load.specs.Parents.{Checks};
+ghost use Rattle.sched_load.specs.Tables.{AreRead, dataset_read};
+ghost use Rattle.gtfs_rows.specs.Tables.{stops};
+ghost use Rattle.load_defs.specs.declared.fault.File.TheVariants as file;
+
+use crate::files::read_rows;
+use crate::judges::{Judge, KnownAgencies, KnownRoutes, NoReference};
+use crate::order::{order_of, row_number};
+use crate::rows::IdRow;
+use crate::services::{group_exceptions, service_ids};
+use crate::table::Table;
+use crate::visits::{Visit, group_visits};
+use gtfs_rows::{
+    AgencyRow, CalendarRow, Column, ExceptionRow, RouteRow, StopRow, StopTimeRow, TripRow,
+};
+use hub_outside::{Buf, Files};
+use load_defs::{File, LoadFault};
+use sched_types::PlanName;
+use service_day::Exception;
+use std::alloc::Global;
+use std::collections::BTreeMap;
+
+/// The rows of the seven files, with those of stop_times.txt and calendar_dates.txt in their groups.
+#[derive(Drop)]
+pub(crate) struct Tables {
+    pub(crate) agencies: Table<AgencyRow>,
+    pub(crate) stops: Table<StopRow>,
+    pub(crate) routes: Table<RouteRow>,
+    pub(crate) trips: Table<TripRow>,
+    pub(crate) stop_times: Vec<StopTimeRow>,
+    /// For each trip by rising ids its stop times by rising stop_sequence.
+    pub(crate) visits: Vec<BTreeMap<u32, Visit>>,
+    pub(crate) calendar: Table<CalendarRow>,
+    pub(crate) exceptions: Vec<ExceptionRow>,
+    /// The ids of the services, rising.
+    pub(crate) services: Vec<PlanName>,
+    /// For each service its exceptions by rising dates.
+    pub(crate) active: Vec<BTreeMap<u32, Exception>>,
+}
+
+/// The rows of a file that has ids, or its first fault.
+fn read_table<F: Files, R: IdRow, J: Judge<R>>(
+    alloc: Global,
+    files: &mut F,
+    folder: &str,
+    buffer: &mut Buf,
+    judge: &J,
+) -> Result<Table<R>, LoadFault>
+    ensures reads { Reads (F.contents files.old) (λ fs. and_next (file_rows R.required R.name R.columns (file_at fs (path_of folder.now R.name))) (consistent R.name (J.unknown_of judge.now) (same_id R.id_of))) (F.faults files.old) (F.faults files.new) result }
+    ensures seen { IfOk result (λ rows. (bytes : Option (List ℕ)) × (file_rows R.required R.name R.columns bytes ≡ Ok rows)) }
+    ensures consistent { IfOk result (λ rows. consistent R.name (J.unknown_of judge.now) (same_id R.id_of) rows ≡ Ok rows) }
+    ensures few { IfOk result (λ rows. length rows ≤ most_rows) }
+    ensures same { F.contents files.new ≡ F.contents files.old }
+{
+    let rows: Vec<R> = read_rows(alloc, files, folder, buffer)?;
+    let order = order_of(alloc, rows.as_slice(), judge)?;
+    Ok(Table::new(rows, order))
+}
+
+/// Whether the stop's `parent_station` is a stop, where it has one.
+fn has_parent(stops: &Table<StopRow>, row: &StopRow) -> bool
+    ensures { result ≡ (bytes_eq row.now.parent_station [] || has_id (λ stop. stop.stop_id) stops.now row.now.parent_station) }
+{
+    let parent = row.parent_station.as_str();
+    parent.is_empty() || stops.has(parent)
+}
+
+/// Whether each `parent_station` is a stop, or the first row whose is not.
+fn check_parents(stops: &Table<StopRow>) -> Result<(), LoadFault>
+    requires { length stops.now ≤ most_rows }
+    ensures { Checks (with_parents stops.now) stops.now result }
+{
+    for (place, row) in stops.rows().iter().enumerate() {
+        if !has_parent(stops, row) {
+            return Err(LoadFault::UnknownRef {
+                file: File::Stops,
+                row: row_number(place),
+                column: Column::ParentStation,
+            });
+        }
+    }
+    Ok(())
+}
+
+/// The rows of stops.txt, or its first fault.
+fn read_stops<F: Files>(
+    alloc: Global,
+    files: &mut F,
+    folder: &str,
+    buffer: &mut Buf,
+) -> Result<Table<StopRow>, LoadFault>
+    ensures reads { Reads (F.contents files.old) (λ fs. and_next (file_rows true file.Stops stops (file_at fs (path_of folder.now file.Stops))) consistent_stops) (F.faults files.old) (F.faults files.new) result }
+    ensures seen { IfOk result (λ rows. (bytes : Option (List ℕ)) × (file_rows true file.Stops stops bytes ≡ Ok rows)) }
+    ensures consistent { IfOk result (λ rows. consistent_stops rows ≡ Ok rows) }
+    ensures few { IfOk result (λ rows. length rows ≤ most_rows) }
+    ensures same { F.contents files.new ≡ F.contents files.old }
+{
+    let stops: Table<StopRow> = read_table(alloc, files, folder, buffer, &NoReference)?;
+    check_parents(&stops)?;
+    Ok(stops)
+}
+
+/// The rows of the seven files of the folder, or the first fault, file by file.
+pub(crate) fn read_tables<F: Files>(
+    alloc: Global,
+    files: &mut F,
+    folder: &str,
+) -> Result<Tables, LoadFault>
+    ensures reads { Reads (F.contents files.old) (λ fs. dataset_in fs folder.now) (F.faults files.old) (F.faults files.new) (dataset_read result) }
+    ensures read { IfOk result AreRead }
+    ensures same { F.contents files.new ≡ F.contents files.old }
+{
+    let mut buffer = Buf::new(alloc);
+    let buffer = &mut buffer;
+    let agencies: Table<AgencyRow> = read_table(alloc, files, folder, buffer, &NoReference)?;
+    let stops = read_stops(alloc, files, folder, buffer)?;
+    let known = KnownAgencies {
+        agencies: &agencies,
+    };
+    let routes: Table<RouteRow> = read_table(alloc, files, folder, buffer, &known)?;
+    let known = KnownRoutes { routes: &routes };
+    let trips: Table<TripRow> = read_table(alloc, files, folder, buffer, &known)?;
+    let stop_times: Vec<StopTimeRow> = read_rows(alloc, files, folder, buffer)?;
+    let visits = group_visits(alloc, stop_times.as_slice(), &trips, &stops)?;
+    let calendar: Table<CalendarRow> = read_table(alloc, files, folder, buffer, &NoReference)?;
+    let exceptions: Vec<ExceptionRow> = read_rows(alloc, files, folder, buffer)?;
+    let services = service_ids(alloc, trips.rows(), calendar.rows(), &exceptions)?;
+    let active = group_exceptions(alloc, &exceptions, &services)?;
+    Ok(Tables {
+        agencies,
+        stops,
+        routes,
+        trips,
+        stop_times,
+        visits,
+        calendar,
+        exceptions,
+        services,
+        active,
+    })
+}
