@@ -1,0 +1,11 @@
+// What is known of a place of a run.
+
+/// How a place of a run stands to its timetable. Delays are seconds behind it, negative where before it;
+/// `None` is unknown.
+#[derive(Clone, Copy, Debug, PartialEq, Eq)]
+pub struct StopState {
+    /// The vehicle doesn't stop there.
+    pub skipped: bool,
+    pub arrival: Option<i64>,
+    pub departure: Option<i64>,
+}

@@ -1,0 +1,5 @@
+pub mod Search
+pub mod Ranges
+pub mod PassLaw
+pub mod StepLaw
+pub mod LineLemmas

@@ -1,0 +1,75 @@
+// What an update tells of the place that it takes.
+ghost use Rattle.std.specs.Prelude.{◌≡◌, pos, ◌+ℤ◌};
+ghost use Rattle.sched_types.specs.Timetable.{IsSmall};
+ghost use Rattle.delay_defs.specs.Delays as rule;
+ghost use Rattle.delay_defs.specs.Delays.{is_instant, relation_of, state_by};
+ghost use Rattle.delay_rule.specs.Pass.{told_by};
+
+use delay_defs::StopState;
+use rt_types::{Event, StopRelation, StopUpdate};
+use sched_types::Place;
+
+/// The last second of the year 9999, in seconds since 1970.
+const LAST_INSTANT: i64 = 253_402_300_799;
+
+/// Whether a time counts: from the first second of 1970 on, up to the end of the year 9999.
+fn is_instant(time: i64) -> bool
+    ensures { result ≡ is_instant time }
+{
+    1 <= time && time <= LAST_INSTANT
+}
+
+/// The delay that an event tells, if it tells one, of what is scheduled so many seconds after `base`.
+fn event_delay(event: &Option<Event>, base: i64, seconds: u32) -> Option<i64>
+    requires { IsSmall base }
+    ensures { result ≡ rule.event_delay (base +ℤ pos seconds) event.now }
+{
+    match event {
+        Some(event) => match event.time {
+            Some(time) if is_instant(time) => Some(time - (base + i64::from(seconds))),
+            _ => event.delay.map(i64::from),
+        },
+        None => None,
+    }
+}
+
+/// A place of which no update says anything.
+pub(crate) fn plain(carry: Option<i64>) -> StopState
+    ensures { result ≡ rule.plain carry }
+{
+    StopState {
+        skipped: false,
+        arrival: carry,
+        departure: carry,
+    }
+}
+
+/// The state of a place that an update takes, with the delay that is carried to it. The departure's delay
+/// is what is carried on.
+pub(crate) fn state_of(
+    update: &StopUpdate,
+    place: Place,
+    base: i64,
+    carry: Option<i64>,
+) -> StopState
+    requires { IsSmall base }
+    ensures { result ≡ state_by (relation_of update.now) (told_by base place update.now) carry }
+{
+    match update.relation.unwrap_or(StopRelation::Scheduled) {
+        StopRelation::Skipped => StopState {
+            skipped: true,
+            arrival: carry,
+            departure: carry,
+        },
+        StopRelation::NoData | StopRelation::Unscheduled => plain(None),
+        StopRelation::Scheduled => {
+            let arrival = event_delay(&update.arrival, base, place.arrival).or(carry);
+            let departure = event_delay(&update.departure, base, place.departure).or(arrival);
+            StopState {
+                skipped: false,
+                arrival,
+                departure,
+            }
+        }
+    }
+}
