@@ -1,0 +1,84 @@
+// The rules in their order.
+ghost use Rattle.std.specs.Prelude.{◌≡◌, None, Option, List, ℕ, pos, if◌then◌else◌};
+ghost use Rattle.match_defs.specs.Matching as rule;
+ghost use Rattle.match_defs.specs.Matching.{first_rule, matched, no_match, rule_1, rule_3, rule_4, rule_5, rule_6};
+ghost use Rattle.match_defs.specs.Texts as text;
+ghost use Rattle.trip_match.specs.Reading.{IsRead};
+
+use crate::ids::by_id;
+use crate::routes::by_departure;
+use crate::texts::{date_of, given};
+use match_defs::{Found, Why};
+use rt_types::{TripRef, TripRelation};
+use sched_types::Plan;
+
+/// Whether trips of that relation are about no run of a timetable.
+fn has_no_run(relation: TripRelation) -> bool
+    ensures { rule_1 relation ≡ (if result then no_match Why.Relation else None) }
+{
+    matches!(
+        relation,
+        TripRelation::Unscheduled | TripRelation::Replacement | TripRelation::Duplicated
+    )
+}
+
+fn is_added(relation: TripRelation) -> bool
+    ensures { (id : Option (List ℕ)) → rule_3 relation id ≡ (if result then rule.added id else None) }
+{
+    matches!(relation, TripRelation::Added)
+}
+
+/// The date that the start_date writes, if it is given; `BadText` where it writes none.
+fn start_day(trip: &TripRef) -> Result<Option<u32>, Why>
+    ensures { IsRead trip.now result }
+{
+    match given(&trip.start_date) {
+        Some(date) => match date_of(date) {
+            Some(date) => Ok(Some(date)),
+            None => Err(Why::BadText),
+        },
+        None => Ok(None),
+    }
+}
+
+/// What is known of an ADDED trip.
+fn added(trip: &TripRef) -> Found
+    ensures { (later : Found) → result ≡ first_rule (rule.added (text.given trip.now.trip_id)) later }
+{
+    match given(&trip.trip_id) {
+        Some(_) => Found::Added,
+        None => Found::NoMatch(Why::NoTrip),
+    }
+}
+
+/// What the descriptor of a trip of the timetable is about.
+fn scheduled(plan: &Plan, trip: &TripRef, date: Option<u32>, stamp: u64) -> Found
+    ensures { result ≡ first_rule (rule_4 plan.now (text.given trip.now.trip_id) date) (first_rule (rule_5 plan.now (pos stamp) (text.given trip.now.trip_id)) (rule_6 plan.now (text.given trip.now.route_id) trip.now.direction_id date (text.given trip.now.start_time))) }
+{
+    match given(&trip.trip_id) {
+        Some(id) => by_id(plan, id, date, stamp),
+        None => by_departure(plan, trip, date),
+    }
+}
+
+/// What a trip descriptor is about at an instant, in seconds since 1970: that of the update or message in which
+/// it stands (GTFS Realtime, TripDescriptor).
+#[tactic(auto, unfolding(match_defs::specs::Matching::matched))]
+pub fn find(plan: &Plan, trip: &TripRef, stamp: u64) -> Found
+    ensures { result ≡ matched plan.now trip.now stamp }
+{
+    let relation = trip.relation.unwrap_or(TripRelation::Scheduled);
+    if has_no_run(relation) {
+        return Found::NoMatch(Why::Relation);
+    }
+    match start_day(trip) {
+        Ok(date) => {
+            if is_added(relation) {
+                added(trip)
+            } else {
+                scheduled(plan, trip, date, stamp)
+            }
+        }
+        Err(why) => Found::NoMatch(why),
+    }
+}
