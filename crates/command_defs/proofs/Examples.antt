@@ -1,0 +1,53 @@
+-- Commands on small folders of files, computed by the definitions.
+use Rattle.std.specs.Prelude.{◌≡◌, refl, [], ◌∷◌, ◌++◌, Some, None, Ok, Err, codes}
+use Rattle.std.specs.Fmt.{digits}
+use Rattle.wire_defs.specs.Steps.{◌>>=◌}
+use Rattle.load_defs.specs.CityFiles.{city_folder, stops_txt, trips_txt, stop_times_txt, files_with, behind_agency}
+use Rattle.load_defs.proofs.OnFiles.{loading_on_files}
+use Rattle.hub_config.specs.declared.conf.ScheduleConf.{ScheduleConf}
+use Rattle.script_defs.specs.Record.{line_feed}
+use Rattle.command_defs.specs.Words.{command_of}
+use Rattle.command_defs.specs.Words.Command.{Replay, Check}
+use Rattle.command_defs.specs.Checks.{timetables, counts_lines, conf_in}
+use Rattle.command_defs.specs.Commands.{offline, usage_line}
+
+-- commands and other words
+pub replay_alone : command_of (codes "replay" ∷ []) ≡ Some Replay
+unfolding command_of
+replay_alone = refl
+
+pub check_one : command_of (codes "check" ∷ codes "hub.toml" ∷ []) ≡ Some (Check (codes "hub.toml"))
+unfolding command_of
+check_one = refl
+
+pub check_none : command_of (codes "check" ∷ []) ≡ None
+unfolding command_of
+check_none = refl
+
+pub check_an_option : command_of (codes "check" ∷ codes "-v" ∷ []) ≡ None
+unfolding command_of
+check_an_option = refl
+
+pub no_words : command_of [] ≡ None
+unfolding command_of
+no_words = refl
+
+pub usage_is_said : offline [] [] [] ≡ record { written = usage_line; status = 2 }
+unfolding offline command_of
+usage_is_said = refl
+
+-- the example timetable under the name `city`
+abbrev city_schedule : ScheduleConf
+city_schedule = record { name = codes "city"; folder = city_folder; zone = codes "CET-1CEST,M3.5.0,M10.5.0/3"; first = 20250329; days = 3; prefix = [] }
+
+pub city_is_counted : (timetables (files_with stops_txt trips_txt stop_times_txt) (city_schedule ∷ []) >>= λ ts. Ok (counts_lines (city_schedule ∷ []) ts))
+    ≡ Ok (codes "city agencies 1 stops 5 routes 1 trips 3 times 8 days 3" ++ line_feed)
+unfolding loading_on_files timetables digits
+city_is_counted = refl
+
+pub missing_is_told : timetables (behind_agency stops_txt trips_txt stop_times_txt) (city_schedule ∷ []) ≡ Err (codes "hub: load city missing agency.txt")
+unfolding loading_on_files timetables digits
+missing_is_told = refl
+
+pub absent_is_told : conf_in None ≡ Err (codes "hub: config absent")
+absent_is_told = refl

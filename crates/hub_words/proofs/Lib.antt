@@ -1,0 +1,3 @@
+pub mod Leaves
+pub mod Commands
+pub mod Told

@@ -1,0 +1,127 @@
+// The command of a list of words.
+ghost use Rattle.std.specs.Prelude.{◌≡◌, false, codes};
+ghost use Rattle.std.specs.Option.{option_map};
+ghost use Rattle.std.specs.List.{list_any};
+ghost use Rattle.clap.specs.Words.{first_of, found_of, kind_of, rows_of, subcommand_rows_of};
+ghost use Rattle.command_defs.specs.Words.{command_of, is_option};
+ghost use Rattle.command_defs.specs.Words.Command.{Check};
+ghost use Rattle.hub_words.specs.Forms.{command_in, named};
+ghost use Rattle.hub_words.specs.Answer.{Blames, Reads, Parses, seen};
+
+use crate::parser::parser;
+use clap::error::ErrorKind;
+use clap::{ArgMatches, Error};
+use rt_types::Text;
+use std::alloc::{AllocError, Global};
+
+/// What `hub` is asked to do.
+#[derive(Clone, Copy, Debug, PartialEq, Eq)]
+pub enum Command<'a> {
+    /// Does the records of a script on the input.
+    Replay,
+    /// Checks the configuration at that path, and its timetables.
+    Check(&'a str),
+}
+
+/// Why words are no command.
+#[derive(Clone, Copy, Debug, PartialEq, Eq, Drop, thiserror::Error)]
+pub enum WordsFault {
+    /// They aren't words of the commands.
+    #[error("the words are no command")]
+    Usage,
+    /// Memory ran out.
+    #[error("out of memory")]
+    NoMemory,
+}
+
+impl From<AllocError> for WordsFault {
+    ghost use Rattle.hub_words.specs.declared.read.WordsFault.TheVariants.{NoMemory};
+
+    ghost from_gives = { λ _ fault. fault ≡ NoMemory };
+
+    fn from(_: AllocError) -> Self {
+        WordsFault::NoMemory
+    }
+}
+
+/// The command of the words, which are those behind the program's name. A word that begins with a hyphen is
+/// of no command. Any other word counts, the empty one too, where a command wants one.
+pub fn read_words<'a>(alloc: Global, words: &'a [Text]) -> Result<Command<'a>, WordsFault>
+    ensures { Reads (command_of words.entry.now) result }
+{
+    if has_option(words) {
+        return Err(WordsFault::Usage);
+    }
+    let matches = matches_of(alloc, words)?;
+    match command_in(&matches) {
+        Some(command) => Ok(command),
+        None => Err(WordsFault::Usage),
+    }
+}
+
+// Whether a word begins with a hyphen.
+fn has_option(words: &[Text]) -> bool
+    ensures { result ≡ list_any is_option words.now }
+{
+    words.iter().any(|word| is_option(word.as_str()))
+}
+
+fn is_option(word: &str) -> bool
+    ensures { result ≡ is_option word.now }
+{
+    word.as_bytes().first() == Some(&b'-')
+}
+
+// What clap makes of words that are no options.
+fn matches_of<'a>(alloc: Global, words: &'a [Text]) -> Result<ArgMatches<'a>, WordsFault>
+    requires { list_any is_option words.now ≡ false }
+    ensures { Parses (command_of words.entry.now) result }
+{
+    match parser(alloc)?.try_get_matches_from(words) {
+        Ok(matches) => Ok(matches),
+        Err(error) => Err(fault_of(&error)),
+    }
+}
+
+// Why clap refuses the words.
+fn fault_of(error: &Error) -> WordsFault
+    ensures { Blames (kind_of error.now) result }
+{
+    match error.kind() {
+        ErrorKind::OutOfMemory => WordsFault::NoMemory,
+        _ => WordsFault::Usage,
+    }
+}
+
+// The command of clap's matches.
+fn command_in<'a>(matches: &ArgMatches<'a>) -> Option<Command<'a>>
+    ensures { option_map seen result ≡ command_in (subcommand_rows_of matches.now) }
+{
+    match matches.subcommand() {
+        Some((name, words)) => named_command(name, words),
+        None => None,
+    }
+}
+
+// The command of that name, with its words.
+fn named_command<'a>(name: &str, words: &ArgMatches<'a>) -> Option<Command<'a>>
+    ensures { option_map seen result ≡ named name.now (rows_of (found_of words.now)) }
+{
+    if name == "replay" {
+        Some(Command::Replay)
+    } else if name == "check" {
+        check_of(words)
+    } else {
+        None
+    }
+}
+
+// `check` of the word that it has.
+fn check_of<'a>(words: &ArgMatches<'a>) -> Option<Command<'a>>
+    ensures { option_map seen result ≡ option_map Check (first_of (codes "config") (rows_of (found_of words.now))) }
+{
+    match words.get_str("config") {
+        Some(path) => Some(Command::Check(path)),
+        None => None,
+    }
+}
