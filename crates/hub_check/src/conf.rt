@@ -1,0 +1,84 @@
+// The configuration in a file.
+ghost use Rattle.std.specs.Prelude.{◌≡◌, ◌++◌, IfOk, IfSome, true};
+ghost use Rattle.std.specs.List.{list_all};
+ghost use Rattle.hub_outside.specs.Files.{file_at};
+ghost use Rattle.hub_config.specs.Conf.{conf_of};
+ghost use Rattle.hub_config.specs.Lines.{line_of};
+ghost use Rattle.script_defs.specs.Record.{line_feed};
+ghost use Rattle.hub_config.specs.Right.{has_window};
+ghost use Rattle.command_defs.specs.Checks.{conf_in, named_conf};
+ghost use Rattle.hub_check.specs.Told.{HasCheckCause, IsLine, NamesConf, NeedsNoFile, Tells};
+
+use crate::fault::CheckFault;
+use hub_config::{ConfFault, HubConf, fault_line, read_conf};
+use hub_outside::{Buf, FileAnswer, Files};
+use std::alloc::{AllocError, Global};
+
+/// The most bytes of a configuration.
+const LONGEST_CONF: u64 = 1_048_576;
+
+/// The configuration in the file at the path, or the line that tells why there is none. Each schedule has a
+/// window of days for which a timetable can be loaded.
+pub(crate) fn conf_at<F: Files>(
+    alloc: Global,
+    files: &mut F,
+    path: &str,
+) -> Result<HubConf, CheckFault>
+    ensures told { IfSome (F.contents files.old) (λ fs. Tells (λ conf. conf) (conf_in (file_at fs path.now)) result) }
+    ensures windows { IfOk result (λ conf. list_all has_window conf.schedules ≡ true) }
+    ensures cause { HasCheckCause result (F.faults files.old) (F.faults files.new) }
+    ensures same { F.contents files.new ≡ F.contents files.old }
+{
+    let mut bytes = Buf::new(alloc);
+    match files.read_file(path, LONGEST_CONF, &mut bytes) {
+        FileAnswer::Read => conf_in(alloc, bytes.as_slice()),
+        FileAnswer::Absent => Err(refused(alloc, b"hub: config absent\n")),
+        FileAnswer::TooLong(_) => Err(refused(alloc, b"hub: config long\n")),
+        FileAnswer::Failed => Err(CheckFault::FileFault),
+        FileAnswer::NoMemory => Err(CheckFault::NoMemory),
+    }
+}
+
+// The configuration of the bytes, or the line of its fault.
+fn conf_in(alloc: Global, bytes: &[u8]) -> Result<HubConf, CheckFault>
+    ensures told { Tells (λ conf. conf) (named_conf (conf_of bytes.now)) result }
+    ensures windows { IfOk result (λ conf. list_all has_window conf.schedules ≡ true) }
+    ensures files { NeedsNoFile result }
+{
+    match read_conf(alloc, bytes) {
+        Ok(conf) => Ok(conf),
+        Err(fault) => Err(conf_fault(alloc, &fault)),
+    }
+}
+
+// What a fault of a configuration comes to.
+fn conf_fault(alloc: Global, fault: &ConfFault) -> CheckFault
+    ensures { NamesConf fault.now result }
+{
+    match fault {
+        ConfFault::NoMemory => CheckFault::NoMemory,
+        _ => match conf_line(alloc, fault) {
+            Ok(line) => CheckFault::Refused(line),
+            Err(_) => CheckFault::NoMemory,
+        },
+    }
+}
+
+// The line of a fault, with LF.
+fn conf_line(alloc: Global, fault: &ConfFault) -> Result<Vec<u8>, AllocError>
+    ensures { IfOk result (λ line. line.items ≡ line_of fault.now ++ line_feed) }
+{
+    let mut line = fault_line(alloc, fault)?;
+    line.push(b'\n')?;
+    Ok(line)
+}
+
+// A refusal with that line.
+fn refused(alloc: Global, line: &[u8]) -> CheckFault
+    ensures { IsLine line.now result }
+{
+    match Vec::from_slice(alloc, line) {
+        Ok(line) => CheckFault::Refused(line),
+        Err(_) => CheckFault::NoMemory,
+    }
+}
