@@ -15,7 +15,7 @@ pub does_same : (f g : List ℕ → Option Turn) → ((more : List ℕ) → f mo
 does_same f g same (Whole size) old new bytes said said' h = record { reply = h.reply; says = h.says; within = h.within; is = λ more. same more ∙ h.is more }
 does_same f g same Ends old new bytes said said' h = record { says = h.says; rest = h.rest; is = λ more. same more ∙ h.is more }
 does_same f g same Short old new bytes said said' h = (h.0, same [] ∙ h.1)
-does_same f g same (Long end) old new bytes said said' h = (h.0, λ more. same more ∙ h.1 more)
+does_same f g same (Long end count) old new bytes said said' h = (h.0, λ more. same more ∙ h.1 more)
 does_same f g same Refused old new bytes said said' h = (h.0, λ more. same more ∙ h.1 more)
 does_same f g same NoMemory old new bytes said said' h = h
 

@@ -7,7 +7,7 @@ use Rattle.std.proofs.KnownBytes.{Consumes-nil, Consumes-trans, Appends-nil, App
 use Rattle.std.proofs.lemmas.Option.{slice_get_past}
 use Rattle.std.proofs.lemmas.List.{drop-append-le}
 use Rattle.std.proofs.Math.Seq.{drop-append-add, take-append_seam}
-use Rattle.feed_defs.specs.History.Refusal.{NotWellFormed}
+use Rattle.feed_defs.specs.History.Refusal.{TooLong}
 use Rattle.script_defs.specs.Record.{Hub, turn, reply_line, only_if}
 use Rattle.script_defs.specs.Output.{Run, run, behind}
 use Rattle.script_defs.proofs.Turns.{turn_rest}
@@ -146,21 +146,21 @@ pub none_in_hand : (old : At) → turn old.hub old.held ≡ None → turn old.hu
 none_in_hand old h = rw (append-nil old.held) h
 
 -- a message too long to be looked at, which isn't whole
-long_short : (end : ℕ) (hub : Hub) (bytes : List ℕ) → length bytes ≤ end → long_turn end hub bytes ≡ None
-long_short end hub bytes h = rw (slice_get_past bytes end h) refl
+long_short : (end count : ℕ) (hub : Hub) (bytes : List ℕ) → length bytes ≤ end → long_turn end count hub bytes ≡ None
+long_short end count hub bytes h = rw (slice_get_past bytes end h) refl
 
-abbrev pub IsLong : At → ℕ → Type 0
-IsLong old end = (more : List ℕ) → turn old.hub (old.held ++ more) ≡ long_turn end old.hub (old.held ++ more)
+abbrev pub IsLong : At → ℕ → ℕ → Type 0
+IsLong old end count = (more : List ℕ) → turn old.hub (old.held ++ more) ≡ long_turn end count old.hub (old.held ++ more)
 
-pub long_told : (old : At) (end : ℕ) (more : List ℕ) → IsLong old end → length (old.held ++ more) ≤ end → turn old.hub (old.held ++ more) ≡ None
-long_told old end more long short = long more ∙ long_short end old.hub (old.held ++ more) short
+pub long_told : (old : At) (end count : ℕ) (more : List ℕ) → IsLong old end count → length (old.held ++ more) ≤ end → turn old.hub (old.held ++ more) ≡ None
+long_told old end count more long short = long more ∙ long_short end count old.hub (old.held ++ more) short
 
-pub long_end_refused : (old : At) (end : ℕ) (more : List ℕ) (left' : Option (List ℕ)) (allowed : ℕ) → IsLong old end → length (old.held ++ more) ≤ end → allowed + length more ≡ old.allowed
+pub long_end_refused : (old : At) (end count : ℕ) (more : List ℕ) (left' : Option (List ℕ)) (allowed : ℕ) → IsLong old end count → length (old.held ++ more) ≤ end → allowed + length more ≡ old.allowed
     → remaining left' allowed ≡ [] → EndsAs (Refused old.place) old more [] left'
-long_end_refused old end more left' allowed long short sum nothing =
+long_end_refused old end count more left' allowed long short sum nothing =
     let all : old.allowed - length more ≡ allowed = omega arith in
     let rest : remaining left' (old.allowed - length more) ≡ [] = ap (remaining left') all ∙ nothing in
-    refused_here old more left' (rw (rest, append-nil more) (long_told old end more long short))
+    refused_here old more left' (rw (rest, append-nil more) (long_told old end count more long short))
 
 -- the bytes behind those that were let go, and what follows them
 passed_all : (held more gone now rest : List ℕ) → held ++ more ≡ gone ++ now → held ++ (more ++ rest) ≡ gone ++ (now ++ rest)
@@ -182,17 +182,17 @@ abbrev window_at : Windowed → Hub → List ℕ → ℕ → At
 window_at w hub said place = record { held = w.held; allowed = w.allowed; hub = hub; said = said; place = place }
 
 -- what the record of a passed message is, whatever follows
-long_is : (w w' : Windowed) (hub : Hub) (said more gone rest : List ℕ) (place end : ℕ) (first : Option ℕ) → IsLong (window_at w hub said place) end → w.held ++ more ≡ gone ++ w'.held → length gone ≡ end
+long_is : (w w' : Windowed) (hub : Hub) (said more gone rest : List ℕ) (place end count : ℕ) (first : Option ℕ) → IsLong (window_at w hub said place) end count → w.held ++ more ≡ gone ++ w'.held → length gone ≡ end
     → 0 < length w'.held → slice_get w'.held 0 ≡ first
     → turn hub (w.held ++ (more ++ rest))
-    ≡ only_if (is_fed first) (record { said = reply_line (Err NotWellFormed); hub = record hub { begun = true }; rest = drop 1 w'.held ++ rest; ended = false })
-long_is w w' hub said more gone rest place end first long all size some is =
+    ≡ only_if (is_fed first) (record { said = reply_line (Err (TooLong count)); hub = record hub { begun = true }; rest = drop 1 w'.held ++ rest; ended = false })
+long_is w w' hub said more gone rest place end count first long all size some is =
     let xs = passed_all w.held more gone w'.held rest all in
     long (more ++ rest) ∙ rw (xs, get_first gone w'.held rest end size some, drop_first gone w'.held rest end size some, is) refl
 
-long_goes : (w w' : Windowed) (hub : Hub) (said : List ℕ) (new : At) (place end : ℕ) (left left' written written' : Option (List ℕ)) → IsLong (window_at w hub said place) end → Passes w w' left left' end
-    → Appends written written' said → RefusesLong None end (window_at w' hub [] place) new → Advances None (window_at w hub said place) new left left' written written'
-long_goes w w' hub said new place end left left' written written' long p wrote (first, says, hub_is, held, allowed, place_is) =
+long_goes : (w w' : Windowed) (hub : Hub) (said : List ℕ) (new : At) (place end count : ℕ) (left left' written written' : Option (List ℕ)) → IsLong (window_at w hub said place) end count → Passes w w' left left' end
+    → Appends written written' said → RefusesLong None end count (window_at w' hub [] place) new → Advances None (window_at w hub said place) new left left' written written'
+long_goes w w' hub said new place end count left left' written written' long p wrote (first, says, hub_is, held, allowed, place_is) =
     let joined = length-append w.held p.more in
     let both = length-append p.gone w'.held in
     let same = ap length p.all in
@@ -203,51 +203,51 @@ long_goes w w' hub said new place end left left' written written' long p wrote (
     let short = ap length held in
     let size : new.place - place ≡ end + 1 = omega arith in
     let is : (rest : List ℕ) → turn hub (w.held ++ (p.more ++ rest))
-    ≡ Some (record { said = reply_line (Err NotWellFormed); hub = record hub { begun = true }; rest = drop 1 w'.held ++ rest; ended = false }) =
-    λ rest. long_is w w' hub said p.more p.gone rest place end (Some 10) long p.all p.size p.some first in
-    let count : (rest : List ℕ) → length (w.held ++ (p.more ++ rest)) - length (drop 1 w'.held ++ rest) ≡ end + 1 =
+    ≡ Some (record { said = reply_line (Err (TooLong count)); hub = record hub { begun = true }; rest = drop 1 w'.held ++ rest; ended = false }) =
+    λ rest. long_is w w' hub said p.more p.gone rest place end count (Some 10) long p.all p.size p.some first in
+    let taken : (rest : List ℕ) → length (w.held ++ (p.more ++ rest)) - length (drop 1 w'.held ++ rest) ≡ end + 1 =
     λ rest. let a = length-append w.held (p.more ++ rest) in let b = length-append p.more rest in let c = length-append (drop 1 w'.held) rest in omega arith in
     let goes : Goes (window_at w hub said place) new left left' written written' = record {
       more = p.more;
       sent = said;
-      told = reply_line (Err NotWellFormed);
+      told = reply_line (Err (TooLong count));
       read = p.read;
       wrote = wrote;
       said = ap (λ s. said ++ s) (sym says);
       allowed = omega arith;
       rises = omega arith;
       size = omega arith;
-      runs = λ rest. run_step hub (w.held ++ (p.more ++ rest)) _ (is rest) refl ∙ rw (count rest, size, hub_is, held) refl;
+      runs = λ rest. run_step hub (w.held ++ (p.more ++ rest)) _ (is rest) refl ∙ rw (taken rest, size, hub_is, held) refl;
     } in
     (goes, omega arith)
 
-long_refused : (w w' : Windowed) (hub : Hub) (said said' : List ℕ) (place end : ℕ) (left left' written written' : Option (List ℕ)) → IsLong (window_at w hub said place) end → Passes w w' left left' end
+long_refused : (w w' : Windowed) (hub : Hub) (said said' : List ℕ) (place end count : ℕ) (left left' written written' : Option (List ℕ)) → IsLong (window_at w hub said place) end count → Passes w w' left left' end
     → Appends written written' said → said' ≡ [] → is_fed (slice_get w'.held 0) ≡ false → Leaves (Refused place) (window_at w hub said place) said' left left' written written'
-long_refused w w' hub said said' place end left left' written written' long p wrote empty other =
+long_refused w w' hub said said' place end count left left' written written' long p wrote empty other =
     let sum = p.allowed in
     let none : turn hub (w.held ++ (p.more ++ remaining left' (w.allowed - length p.more))) ≡ None =
-    long_is w w' hub said p.more p.gone (remaining left' (w.allowed - length p.more)) place end (slice_get w'.held 0) long p.all p.size p.some refl ∙ rw other refl in
+    long_is w w' hub said p.more p.gone (remaining left' (w.allowed - length p.more)) place end count (slice_get w'.held 0) long p.all p.size p.some refl ∙ rw other refl in
     leave_here (Refused place) (window_at w hub said place) p.more said [] said' left left' written written' p.read wrote (sym (append-nil said)) (sym empty) (omega arith)
     (refused_here (window_at w hub said place) p.more left' none)
 
 -- a message that was passed is refused, or it is no record
-pub long_advances : (r : Option HowEnded) (w w' : Windowed) (hub : Hub) (said : List ℕ) (new : At) (place end : ℕ) (left left' written written' : Option (List ℕ)) → IsLong (window_at w hub said place) end
-    → Passes w w' left left' end → Appends written written' said → RefusesLong r end (window_at w' hub [] place) new → Advances r (window_at w hub said place) new left left' written written'
-long_advances None w w' hub said new place end left left' written written' long p wrote h = long_goes w w' hub said new place end left left' written written' long p wrote h
-long_advances (Some Ended) w w' hub said new place end left left' written written' long p wrote h = absurd h
-long_advances (Some (Refused at)) w w' hub said new place end left left' written written' long p wrote (place_is, says, allowed, other) =
+pub long_advances : (r : Option HowEnded) (w w' : Windowed) (hub : Hub) (said : List ℕ) (new : At) (place end count : ℕ) (left left' written written' : Option (List ℕ)) → IsLong (window_at w hub said place) end count
+    → Passes w w' left left' end → Appends written written' said → RefusesLong r end count (window_at w' hub [] place) new → Advances r (window_at w hub said place) new left left' written written'
+long_advances None w w' hub said new place end count left left' written written' long p wrote h = long_goes w w' hub said new place end count left left' written written' long p wrote h
+long_advances (Some Ended) w w' hub said new place end count left left' written written' long p wrote h = absurd h
+long_advances (Some (Refused at)) w w' hub said new place end count left left' written written' long p wrote (place_is, says, allowed, other) =
     subst (λ n. Leaves (Refused n) (window_at w hub said place) new.said left left' written written') (sym place_is)
-    (long_refused w w' hub said new.said place end left left' written written' long p wrote says other)
-long_advances (Some InputFault) w w' hub said new place end left left' written written' long p wrote h = absurd h
-long_advances (Some OutputFault) w w' hub said new place end left left' written written' long p wrote h = absurd h
-long_advances (Some NoMemory) w w' hub said new place end left left' written written' long p wrote (says, allowed) =
+    (long_refused w w' hub said new.said place end count left left' written written' long p wrote says other)
+long_advances (Some InputFault) w w' hub said new place end count left left' written written' long p wrote h = absurd h
+long_advances (Some OutputFault) w w' hub said new place end count left left' written written' long p wrote h = absurd h
+long_advances (Some NoMemory) w w' hub said new place end count left left' written written' long p wrote (says, allowed) =
     let sum = p.allowed in
     leave_here NoMemory (window_at w hub said place) p.more said [] new.said left left' written written' p.read wrote (sym (append-nil said)) (sym says) (omega arith) tt
 
-pub long_advances_from : (r : Option HowEnded) (w w' : Windowed) (hub : Hub) (said emptied : List ℕ) (new : At) (place end : ℕ) (left left' written written' : Option (List ℕ)) → IsLong (window_at w hub said place) end
-    → Passes w w' left left' end → Appends written written' said → emptied ≡ [] → RefusesLong r end (window_at w' hub emptied place) new → Advances r (window_at w hub said place) new left left' written written'
-long_advances_from r w w' hub said emptied new place end left left' written written' long p wrote none h =
-    long_advances r w w' hub said new place end left left' written written' long p wrote (subst (λ (s : List ℕ). RefusesLong r end (window_at w' hub s place) new) none h)
+pub long_advances_from : (r : Option HowEnded) (w w' : Windowed) (hub : Hub) (said emptied : List ℕ) (new : At) (place end count : ℕ) (left left' written written' : Option (List ℕ)) → IsLong (window_at w hub said place) end count
+    → Passes w w' left left' end → Appends written written' said → emptied ≡ [] → RefusesLong r end count (window_at w' hub emptied place) new → Advances r (window_at w hub said place) new left left' written written'
+long_advances_from r w w' hub said emptied new place end count left left' written written' long p wrote none h =
+    long_advances r w w' hub said new place end count left left' written written' long p wrote (subst (λ (s : List ℕ). RefusesLong r end count (window_at w' hub s place) new) none h)
 
 -- a step from a replay that is as before is a step from it
 pub advances_same : (r : Option HowEnded) (w : Windowed) (hub hub' : Hub) (said said' : List ℕ) (place : ℕ) (new : At) (left left' written written' : Option (List ℕ)) → hub' ≡ hub → said' ≡ said

@@ -9,3 +9,4 @@ pub mod Offering
 pub mod Skipping
 pub mod Going
 pub mod Outcomes
+pub mod Commands

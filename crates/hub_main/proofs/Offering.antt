@@ -1,12 +1,13 @@
 -- A message for a feed, by its payload.
 use Rattle.std.proofs.Common.{◌≡◌, ◌≢◌, ℕ, zero, suc, ◌+◌, ◌≤◌, ◌<◌, List, [], ◌∷◌, ◌++◌, length, take, drop, Option, Some, None, Bool, true, false, refl, sym, ap, ◌∙◌, arith, append-nil, length-drop}
-use Rattle.std.specs.Prelude.{slice_get, ◌==◌, Err, nat_le}
+use Rattle.std.specs.Prelude.{slice_get, ◌==◌, Err}
 use Rattle.std.proofs.lemmas.Bool.Decides.{nat_tests}
 use Rattle.std.proofs.lemmas.List.{take-append-le, drop-append-le, drop-drop, length-take-le}
 use Rattle.std.proofs.lemmas.Option.{slice_get_past, slice_get_within}
 use Rattle.feed_defs.specs.declared.history.Entry.{Entry}
-use Rattle.feed_defs.specs.History.{offered, well_formed, longest_message}
-use Rattle.feed_defs.specs.History.Refusal.{NotWellFormed}
+use Rattle.feed_defs.specs.History.{offered, longest_message}
+use Rattle.feed_defs.specs.History.Refusal.{TooLong}
+use Rattle.feed_defs.proofs.WellFormed.{too_long}
 use Rattle.script_defs.specs.Record.{Hub, only_if, payload_at, reply_line}
 use Rattle.script_defs.proofs.Payloads.{payload_is, get_more, no_payload, fed_within, is_fed as is_line_end}
 use Rattle.hub_main.specs.Records.{Did, numbered_turn, long_turn, is_fed}
@@ -25,10 +26,9 @@ get_behind (suc at) n (x ∷ xs) = let e : suc at + n ≡ suc (at + n) = omega a
 further : (n at : ℕ) (xs : List ℕ) → drop (n + 1) (drop at xs) ≡ drop (at + n + 1) xs
 further n at xs = let sum : at + (n + 1) ≡ at + n + 1 = omega arith in drop-drop (n + 1) at xs ∙ ap (λ k. drop k xs) sum
 
--- a message longer than any may be is not well-formed
-too_long : (feed : ℕ) (bytes : List ℕ) (history : List Entry) → longest_message < length bytes → offered feed bytes history ≡ record { reply = Err NotWellFormed; history = history }
-unfolding well_formed
-too_long feed bytes history long = let no : nat_le (length bytes) longest_message ≡ false = grind (arith, nat_tests) in rw (well_formed, no) refl
+-- a message longer than any may be is refused for its length alone
+refused_long : (feed : ℕ) (bytes : List ℕ) (history : List Entry) → longest_message < length bytes → offered feed bytes history ≡ record { reply = Err (TooLong (length bytes)); history = history }
+refused_long feed bytes history long = rw (too_long bytes long) refl
 
 abbrev found_in : ℕ → List ℕ → Option (List ℕ × List ℕ)
 found_in n xs = only_if (is_fed (slice_get xs n)) (take n xs, drop (n + 1) xs)
@@ -38,18 +38,18 @@ payload_in n xs = payload_is n xs ∙ ap (λ test. only_if test (take n xs, drop
 
 long_from : (hub : Hub) (feed n : ℕ) (xs : List ℕ) (test : Bool) → is_line_end (slice_get xs n) ≡ test → longest_message < n
     → numbered_turn hub feed (only_if test (take n xs, drop (n + 1) xs))
-    ≡ only_if test (record { said = reply_line (Err NotWellFormed); hub = record hub { begun = true }; rest = drop (n + 1) xs; ended = false })
+    ≡ only_if test (record { said = reply_line (Err (TooLong n)); hub = record hub { begun = true }; rest = drop (n + 1) xs; ended = false })
 long_from hub feed n xs true fed long =
     let within = fed_within xs n fed in
     let front : n ≤ length xs = omega arith in
     let size = length-take-le n xs front in
     let more : longest_message < length (take n xs) = omega arith in
-    rw (too_long feed (take n xs) hub.history more) refl
+    rw (refused_long feed (take n xs) hub.history more, size) refl
 long_from hub feed n xs false fed long = refl
 
 -- a message too long to be looked at
 pub long_message : (hub : Hub) (feed n behind : ℕ) (bytes more : List ℕ) → behind ≤ length bytes → longest_message < n
-    → numbered_turn hub feed (payload_at n (drop behind bytes ++ more)) ≡ long_turn (behind + n) hub (bytes ++ more)
+    → numbered_turn hub feed (payload_at n (drop behind bytes ++ more)) ≡ long_turn (behind + n) n hub (bytes ++ more)
 long_message hub feed n behind bytes more within long =
     let xs = drop behind (bytes ++ more) in
     let same : drop behind bytes ++ more ≡ xs = sym (drop-append-le behind bytes more within) in

@@ -7,7 +7,7 @@ use Rattle.std.proofs.lemmas.List.{take-append-le, take_min}
 use Rattle.std.proofs.Math.Seq.{take-append-add, take-append_seam, take-nil}
 use Rattle.hub_outside.specs.Count.{Rose}
 use Rattle.script_defs.specs.Record.{start}
-use Rattle.script_defs.specs.Output.{Run, Output, run, output_of, offline, is_replay, longest_script, refused_line, fault_line, usage_line}
+use Rattle.script_defs.specs.Output.{Run, Output, run, output_of, longest_script, refused_line, fault_line}
 use Rattle.hub_main.specs.declared.steps.Ending.{Ending}
 use Rattle.hub_main.specs.declared.steps.Ending.TheVariants.{Ended, Refused, InputFault, OutputFault, NoMemory}
 use Rattle.hub_main.specs.Window.{remaining}
@@ -254,11 +254,6 @@ finishes_count InputFault result said written written' out out' h = h.0
 finishes_count OutputFault result said written written' out out' h = h.1
 finishes_count NoMemory result said written written' out out' h = h.0
 
--- the command `replay` is defined by its script
-pub replay_output : (words : List (List ℕ)) → is_replay words ≡ true → (script : List ℕ) → output_of_script script ≡ offline words script
-unfolding offline
-replay_output words h script = rw (h, offline) refl
-
 whole_given : (f g : List ℕ → Output) → ((script : List ℕ) → f script ≡ g script) → (status : ℕ) (left written written' : Option (List ℕ)) → Whole f status left written written' → Whole g status left written written'
 whole_given f g same status None written written' h = h
 whole_given f g same status (Some xs) written written' h = λ which. rw (← same xs) (h which)
@@ -275,57 +270,4 @@ outcome_given f g same status left left' written written' input input' out out' 
   no_memory = λ e. let h = o.no_memory e in (h.0, h.1, h.2, rw (← same h.0) h.3);
   input_count = o.input_count;
   output_count = o.output_count;
-}
-
--- words that aren't a command
-pub usage_output : (words : List (List ℕ)) → is_replay words ≡ false → (script : List ℕ) → offline words script ≡ record { written = usage_line; status = 2 }
-unfolding offline
-usage_output words h script = rw (h, offline) refl
-
-if_some : (left : Option (List ℕ)) (P : List ℕ → Type 0) → ((script : List ℕ) → P script) → IfSome left P
-if_some None P h = tt
-if_some (Some xs) P h = h xs
-
-pub usage_whole : (words : List (List ℕ)) (status : ℕ) (left written written' : Option (List ℕ)) → is_replay words ≡ false → status ≡ 2 → Appends written written' usage_line → Whole (offline words) status left written written'
-usage_whole words status left written written' h e wrote = λ which. if_some left _ (λ script. rw (usage_output words h script) (wrote, e))
-
--- the usage line was written in part
-pub usage_cut : (words : List (List ℕ)) (left written written' : Option (List ℕ)) (n out out' : ℕ) → is_replay words ≡ false → Rose out out' → Appends written written' (take n usage_line)
-    → Rose out out' × (script : List ℕ) × IsScript left left script × (m : ℕ) × (k : ℕ) × Appends written written' (take m (offline words script).written ++ take k fault_line)
-usage_cut words left written written' n out out' h rose wrote =
-    let script = unwrap_or left [] in
-    (rose, script, record { taken = []; read = Consumes-nil left; within = omega arith; all = refl }, n, 0, rw (usage_output words h script) (subst (Appends written written') (sym (append-nil (take n usage_line))) wrote))
-
-pub not_both : (test : Bool) → test ≡ true → test ≡ false → ⊥
-not_both test h e = let both : true ≡ false = sym h ∙ e in cc
-
--- what running words that aren't a command comes to
-pub record Used (words : List (List ℕ)) (result : ℕ) (left written written' : Option (List ℕ)) (input out out' : ℕ) : Type 0 where
-  pub is_status : IsStatus result
-  pub whole : Whole (offline words) result left written written'
-  pub input_fault : InputFailed result left left written written' input input
-  pub output_fault : OutputFailed (offline words) result left left written written' out out'
-  pub no_memory : RanOut (offline words) result left left written written'
-  pub answer : (result ≡ 2) × Appends written written' usage_line ⊎ (result ≡ 5)
-  pub output_count : out ≤ out'
-
-pub used : (words : List (List ℕ)) (result : ℕ) (left written written' : Option (List ℕ)) (input out out' : ℕ) → is_replay words ≡ false → Last 2 usage_line result written written' out out'
-    → Used words result left written written' input out out'
-used words result left written written' input out out' h (count, inl (e, wrote)) = record {
-  is_status = inr (inl e);
-  whole = usage_whole words result left written written' h e wrote;
-  input_fault = λ x. absurd (omega arith);
-  output_fault = λ x. absurd (omega arith);
-  no_memory = λ x. absurd (omega arith);
-  answer = inl (e, wrote);
-  output_count = count;
-}
-used words result left written written' input out out' h (count, inr (e, rose, (n, wrote))) = record {
-  is_status = inr (inr (inr (inl e)));
-  whole = elim [ inl x ↦ absurd (omega arith) | inr (inl x) ↦ absurd (omega arith) | inr (inr x) ↦ absurd (omega arith) ];
-  input_fault = λ x. absurd (omega arith);
-  output_fault = λ _. usage_cut words left written written' n out out' h rose wrote;
-  no_memory = λ x. absurd (omega arith);
-  answer = inr e;
-  output_count = count;
 }

@@ -5,3 +5,4 @@ pub mod Feeds
 pub mod Records
 pub mod Steps
 pub mod Outcome
+pub mod Offline

@@ -1,9 +1,9 @@
 -- What doing a record comes to.
 use Rattle.std.specs.Prelude.{◌≡◌, ℕ, ◌+◌, ◌≤◌, ◌==◌, List, [], ◌++◌, length, drop, Option, Some, None, Result, Ok, Err, Bool, true, false, slice_get}
 use Rattle.feed_defs.specs.History.{offered}
-use Rattle.feed_defs.specs.History.Refusal.{NotWellFormed as BadForm, Stale as TooOld}
+use Rattle.feed_defs.specs.History.Refusal.{TooLong as LongCause, Malformed as FaultCause, Version as VersionCause, BadStamp as StampCause, Stale as StaleCause}
 use Rattle.hub_core.specs.declared.refusal.Refusal.{Refusal}
-use Rattle.hub_core.specs.declared.refusal.Refusal.TheVariants.{NotWellFormed, Stale, NoMemory as NoRoom}
+use Rattle.hub_core.specs.declared.refusal.Refusal.TheVariants.{TooLong, Malformed, Version, BadStamp, Stale, NoMemory as NoRoom}
 use Rattle.script_defs.specs.Record.{Head, Hub, Turn, turn, act, reply_line, only_if, payload_at, offered_turn}
 use Rattle.hub_main.specs.declared.records.Step.{Step}
 use Rattle.hub_main.specs.declared.records.Step.TheVariants.{Whole, Ends, Short, Long, Refused, NoMemory}
@@ -13,10 +13,10 @@ abbrev pub is_fed : Option ℕ → Bool
 is_fed None = false
 is_fed (Some b) = b == 10
 
--- a message too long to be looked at, whose payload ends at a place: it is refused where LF stands there
-abbrev pub long_turn : ℕ → Hub → List ℕ → Option Turn
-long_turn end hub bytes = only_if (is_fed (slice_get bytes end))
-    (record { said = reply_line (Err BadForm); hub = record hub { begun = true }; rest = drop (end + 1) bytes; ended = false })
+-- a message too long to be looked at, whose payload ends at a place and has so many bytes: it is refused where LF stands there
+abbrev pub long_turn : ℕ → ℕ → Hub → List ℕ → Option Turn
+long_turn end count hub bytes = only_if (is_fed (slice_get bytes end))
+    (record { said = reply_line (Err (LongCause count)); hub = record hub { begun = true }; rest = drop (end + 1) bytes; ended = false })
 
 -- the record of a message for a feed, once its payload is there
 abbrev pub numbered_turn : Hub → ℕ → Option (List ℕ × List ℕ) → Option Turn
@@ -46,7 +46,7 @@ abbrev pub Does : (List ℕ → Option Turn) → Step → Hub → Hub → List �
 Does turned (Whole size) old new bytes said said' = Did turned new bytes said said' size
 Does turned Ends old new bytes said said' = Ended turned old new said said'
 Does turned Short old new bytes said said' = Waits old new said said' × (turned [] ≡ None)
-Does turned (Long end) old new bytes said said' = Waits old new said said' × ((more : List ℕ) → turned more ≡ long_turn end old (bytes ++ more))
+Does turned (Long end count) old new bytes said said' = Waits old new said said' × ((more : List ℕ) → turned more ≡ long_turn end count old (bytes ++ more))
 Does turned Refused old new bytes said said' = (said' ≡ said) × ((more : List ℕ) → turned more ≡ None)
 Does turned NoMemory old new bytes said said' = (extra : List ℕ) × (said' ≡ said ++ extra)
 
@@ -65,8 +65,11 @@ Numbered feed size behind step old new bytes said said' = Does (λ more. numbere
 -- the line of an answer
 abbrev pub Tells : Result ℕ Refusal → List ℕ → Type 0
 Tells (Ok count) text = text ≡ reply_line (Ok count)
-Tells (Err NotWellFormed) text = text ≡ reply_line (Err BadForm)
-Tells (Err (Stale last got)) text = text ≡ reply_line (Err (TooOld last got))
+Tells (Err (TooLong len)) text = text ≡ reply_line (Err (LongCause len))
+Tells (Err (Malformed entity what kind field)) text = text ≡ reply_line (Err (FaultCause (record { entity = entity; what = what; kind = kind; field = field })))
+Tells (Err (Version version)) text = text ≡ reply_line (Err (VersionCause version))
+Tells (Err (BadStamp got)) text = text ≡ reply_line (Err (StampCause got))
+Tells (Err (Stale last got)) text = text ≡ reply_line (Err (StaleCause last got))
 Tells (Err NoRoom) text = ⊥
 
 -- what is to be printed grew by a text, or by something where memory ran out

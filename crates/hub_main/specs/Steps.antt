@@ -1,6 +1,6 @@
 -- The steps of a replay, and how one ends.
 use Rattle.std.specs.Prelude.{◌≡◌, ℕ, ◌+◌, ◌-◌, ◌*◌, ◌≤◌, ◌<◌, List, [], ◌++◌, length, take, Option, Some, None, Result, Ok, Err, true, false, slice_get, drop}
-use Rattle.feed_defs.specs.History.Refusal.{NotWellFormed}
+use Rattle.feed_defs.specs.History.Refusal.{TooLong}
 use Rattle.std.specs.Io.KnownBytes.{Appends, Consumes}
 use Rattle.hub_outside.specs.Count.{Rose}
 use Rattle.script_defs.specs.Record.{Hub, start, reply_line}
@@ -126,17 +126,17 @@ Flushes (Ok x) said said' written written' = (sent : List ℕ) × (said ≡ sent
 Flushes (Err e) said said' written written' = (n : ℕ) × Appends written written' (take n said)
 
 -- a message too long to be looked at, behind whose payload LF stands, is refused and passed; else it is no record
-abbrev pub RefusesLong : Option HowEnded → ℕ → At → At → Type 0
-RefusesLong None end old new =
+abbrev pub RefusesLong : Option HowEnded → ℕ → ℕ → At → At → Type 0
+RefusesLong None end count old new =
     (slice_get old.held 0 ≡ Some 10)
-    × (new.said ≡ reply_line (Err NotWellFormed))
+    × (new.said ≡ reply_line (Err (TooLong count)))
     × (new.hub ≡ record old.hub { begun = true })
     × (new.held ≡ drop 1 old.held)
     × (new.allowed ≡ old.allowed)
     × (new.place ≡ old.place + end + 1)
-RefusesLong (Some Ended) end old new = ⊥
-RefusesLong (Some (Refused place)) end old new =
+RefusesLong (Some Ended) end count old new = ⊥
+RefusesLong (Some (Refused place)) end count old new =
     (place ≡ old.place) × (new.said ≡ old.said) × (new.allowed ≡ old.allowed) × (is_fed (slice_get old.held 0) ≡ false)
-RefusesLong (Some InputFault) end old new = ⊥
-RefusesLong (Some OutputFault) end old new = ⊥
-RefusesLong (Some NoMemory) end old new = (new.said ≡ []) × (new.allowed ≡ old.allowed)
+RefusesLong (Some InputFault) end count old new = ⊥
+RefusesLong (Some OutputFault) end count old new = ⊥
+RefusesLong (Some NoMemory) end count old new = (new.said ≡ []) × (new.allowed ≡ old.allowed)

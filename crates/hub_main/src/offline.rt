@@ -1,22 +1,29 @@
 // The commands that run once and end.
-ghost use Rattle.std.specs.Prelude.{◌≡◌, ◌≤◌, ◌⊎◌, ◌++◌, IfOk, false};
+ghost use Rattle.std.specs.Prelude.{◌≡◌, ◌≤◌, ◌⊎◌, ◌++◌, IfOk};
 ghost use Rattle.std.specs.String.{string_bytes};
-ghost use Rattle.std.specs.Io.KnownBytes.{Appends};
-ghost use Rattle.script_defs.specs.Output.{is_replay, offline, usage_line, refused_line};
-ghost use Rattle.hub_main.specs.Outcome.{IsStatus, Whole, InputFailed, OutputFailed, RanOut, Outcome, output_of_script, Last, Finishes};
+ghost use Rattle.script_defs.specs.Output.{refused_line};
+ghost use Rattle.command_defs.specs.Words.{command_of};
+ghost use Rattle.command_defs.specs.Commands.{told_by};
+ghost use Rattle.hub_main.specs.Outcome.{Outcome, output_of_script, Last, Finishes};
+ghost use Rattle.hub_main.specs.Offline.{CheckOutcome, FileFaultOf, InputFaultOf, IsCheck, IsExitStatus, IsReplay, NoMemoryOf, OutputFaultOf, Wholly};
 
 use crate::replay::do_all;
 use crate::steps::{Ending, Replay};
-use crate::words::is_replay_alone;
 use crate::writing::{OutputFault, write_all};
+use hub_check::{CheckFault, check};
 use hub_outside::{Clock, Files, Sink, Source};
+use hub_words::{Command, WordsFault, read_words};
 use rt_types::Text;
 use std::alloc::{AllocError, Global};
 
 /// The input was read to the end of the script, or the command is done.
 const DONE: u8 = 0;
-/// The words aren't a command.
+/// The words are no command.
 const USAGE: u8 = 2;
+/// A configuration or a timetable is refused.
+const REFUSED_CONF: u8 = 3;
+/// A file could not be read.
+const FILE_FAULT: u8 = 4;
 /// The input failed.
 const INPUT_FAULT: u8 = 4;
 /// The output failed.
@@ -27,10 +34,12 @@ const NO_MEMORY: u8 = 6;
 const REFUSED: u8 = 7;
 
 /// Runs the command of the words, which are those behind the program's name, and gives the exit status:
-/// 0 where it was done, 2 where the words aren't a command, 4 and 5 where the input or the output failed,
-/// 6 where memory ran out, and 7 where the script is refused. For now the one command is `replay`.
+/// 0 where it was done, 2 where the words are no command, 3 where a configuration or a timetable is refused,
+/// 4 where the input or a file failed, 5 where the output did, 6 where memory ran out, and 7 where a script
+/// is refused. The commands are `replay`, which reads a script on the input and asks for no file, and
+/// `check CONFIG`, which reads files and no input.
 ///
-/// It always returns. It reads no clock and asks for no file.
+/// It always returns, and reads no clock.
 pub fn run_offline<F: Files, S: Source, K: Sink, C: Clock>(
     alloc: Global,
     words: &[Text],
@@ -39,22 +48,40 @@ pub fn run_offline<F: Files, S: Source, K: Sink, C: Clock>(
     out: &mut K,
     clock: &mut C,
 ) -> u8
-    ensures status { IsStatus result }
-    ensures whole { Whole (offline words.now) result (S.left input.old) (K.written out.old) (K.written out.new) }
-    ensures input_fault { InputFailed result (S.left input.old) (S.left input.new) (K.written out.old) (K.written out.new) (S.faults input.old) (S.faults input.new) }
-    ensures output_fault { OutputFailed (offline words.now) result (S.left input.old) (S.left input.new) (K.written out.old) (K.written out.new) (K.faults out.old) (K.faults out.new) }
-    ensures no_memory { RanOut (offline words.now) result (S.left input.old) (S.left input.new) (K.written out.old) (K.written out.new) }
-    ensures usage { result ≡ 2 → is_replay words.now ≡ false }
-    ensures no_command { is_replay words.now ≡ false → (input.new ≡ input.old) × ((result ≡ 2) × Appends (K.written out.old) (K.written out.new) usage_line ⊎ (result ≡ 5)) }
+    ensures status { IsExitStatus result }
+    ensures whole { Wholly (told_by (command_of words.now) (F.contents files.old) (S.left input.old)) result (K.written out.old) (K.written out.new) }
+    ensures usage { result ≡ 2 → command_of words.now ≡ None }
+    ensures no_command { command_of words.now ≡ None → (result ≡ 2) ⊎ (result ≡ 5) ⊎ (result ≡ 6) }
+    ensures input_fault { InputFaultOf (command_of words.now) result (S.left input.old) (S.left input.new) (K.written out.old) (K.written out.new) (S.faults input.old) (S.faults input.new) }
+    ensures file_fault { FileFaultOf (command_of words.now) result (K.written out.old) (K.written out.new) (F.faults files.old) (F.faults files.new) }
+    ensures output_fault { OutputFaultOf (command_of words.now) result (F.contents files.old) (S.left input.old) (S.left input.new) (K.written out.old) (K.written out.new) (F.faults files.old) (F.faults files.new) (K.faults out.old) (K.faults out.new) }
+    ensures no_memory { NoMemoryOf (command_of words.now) result (S.left input.old) (S.left input.new) (K.written out.old) (K.written out.new) }
     ensures input_count { S.faults input.old ≤ S.faults input.new }
     ensures output_count { K.faults out.old ≤ K.faults out.new }
-    ensures files { files.new ≡ files.old }
+    ensures files_count { F.faults files.old ≤ F.faults files.new }
+    ensures files { F.contents files.new ≡ F.contents files.old }
+    ensures no_files { IsCheck (command_of words.now) ⊎ (files.new ≡ files.old) }
+    ensures no_input { IsReplay (command_of words.now) ⊎ (input.new ≡ input.old) }
     ensures clock { clock.new ≡ clock.old }
 {
-    if is_replay_alone(words) {
-        run_replay(alloc, input, out)
-    } else {
-        show_usage(out)
+    match read_words(alloc, words) {
+        Ok(Command::Replay) => run_replay(alloc, input, out),
+        Ok(Command::Check(path)) => run_check(alloc, files, path, out),
+        Err(WordsFault::Usage) => write_line(b"hub: usage\n", USAGE, out),
+        Err(WordsFault::NoMemory) => NO_MEMORY,
+    }
+}
+
+// `check`: the configuration at the path, and its timetables.
+fn run_check<F: Files, K: Sink>(alloc: Global, files: &mut F, path: &str, out: &mut K) -> u8
+    ensures outcome { CheckOutcome path.now result (F.contents files.old) (K.written out.old) (K.written out.new) (F.faults files.old) (F.faults files.new) (K.faults out.old) (K.faults out.new) }
+    ensures same { F.contents files.new ≡ F.contents files.old }
+{
+    match check(alloc, files, path) {
+        Ok(lines) => write_line(&lines, DONE, out),
+        Err(CheckFault::Refused(line)) => write_line(&line, REFUSED_CONF, out),
+        Err(CheckFault::FileFault) => write_line(b"hub: file fault\n", FILE_FAULT, out),
+        Err(CheckFault::NoMemory) => NO_MEMORY,
     }
 }
 
@@ -103,12 +130,12 @@ fn write_last<K: Sink>(said: &[u8], line: &[u8], status: u8, out: &mut K) -> u8
     }
 }
 
-// Words that aren't a command.
-fn show_usage<K: Sink>(out: &mut K) -> u8
-    ensures { Last 2 usage_line result (K.written out.old) (K.written out.new) (K.faults out.old) (K.faults out.new) }
+// Writes lines, and nothing else. The status is the given one, unless the output fails.
+fn write_line<K: Sink>(line: &[u8], status: u8, out: &mut K) -> u8
+    ensures { Last status line.now result (K.written out.old) (K.written out.new) (K.faults out.old) (K.faults out.new) }
 {
-    match write_all(out, b"hub: usage\n") {
-        Ok(()) => USAGE,
+    match write_all(out, line) {
+        Ok(()) => status,
         Err(OutputFault) => OUTPUT_FAULT,
     }
 }

@@ -1,15 +1,14 @@
 // One whole record: what it prints, and what it does to the hub.
-ghost use Rattle.std.specs.Prelude.{◌≡◌, ◌<◌, ◌≤◌, ◌+◌, ◌++◌, length, codes, slice_get, IfOk};
-ghost use Rattle.std.specs.String.{string_bytes};
+ghost use Rattle.std.specs.Prelude.{◌≡◌, ◌<◌, ◌≤◌, ◌+◌, ◌++◌, length, codes, slice_get};
 ghost use Rattle.std.specs.Fmt.{decimal};
 ghost use Rattle.script_defs.specs.Record.{line_feed};
 ghost use Rattle.script_defs.specs.Record.Head.{Feed, Message, Combined};
 ghost use Rattle.hub_main.specs.Lines.{head_seen};
-ghost use Rattle.hub_main.specs.Records.{Turns, Acts, Numbered, Tells, Says, OffersTo};
+ghost use Rattle.hub_main.specs.Records.{Turns, Acts, Numbered, Says, OffersTo};
 
 use crate::feeds::ScriptHub;
 use crate::lines::{Head, LONGEST_LINE, line_end, line_head};
-use hub_core::Refusal;
+use crate::replies::reply_line;
 use std::alloc::{AllocError, Global};
 
 /// The most bytes of a message that is looked at; a longer one is refused unseen.
@@ -23,8 +22,9 @@ pub(crate) enum Step {
     Ends,
     /// No whole record; there is one perhaps once more bytes follow.
     Short,
-    /// A message too long to be looked at: it is refused if LF stands at this place, behind its last byte.
-    Long(usize),
+    /// A message of so many bytes, too long to be looked at: it is refused if LF stands at the place `end`,
+    /// behind its last byte.
+    Long { end: usize, size: u32 },
     /// No record, whatever follows.
     Refused,
     /// Memory ran out. What was printed of the record has no meaning.
@@ -132,7 +132,7 @@ fn do_offer(
 {
     let end = behind + size as usize;
     if size > LONGEST_MESSAGE {
-        return Step::Long(end);
+        return Step::Long { end, size };
     }
     match byte_at(bytes, end) {
         Some(b'\n') => match offer(alloc, hub, feed, &bytes[behind..end], said) {
@@ -194,27 +194,8 @@ fn offer(
     ensures { OffersTo result feed bytes.now hub.old hub.new said.old.items said.new.items }
 {
     let reply = hub.offer(alloc, feed, bytes);
-    let line = reply_text(alloc, reply)?;
-    say(line.as_bytes(), said)
-}
-
-// The line that answers an offered message.
-fn reply_text(alloc: Global, reply: Result<u64, Refusal>) -> Result<String, AllocError>
-    ensures { IfOk result (λ text. Tells reply (string_bytes text)) }
-{
-    match reply {
-        Ok(count) => format!(in alloc; "accepted {count}\n"),
-        Err(Refusal::NotWellFormed) => String::from_str(alloc, "refused form\n"),
-        Err(Refusal::Stale { last, got }) => stale_text(alloc, last, got),
-        Err(Refusal::NoMemory) => Err(AllocError),
-    }
-}
-
-// The line that refuses a message no newer than its feed's last; both stamps are in seconds since 1970.
-fn stale_text(alloc: Global, last: u64, got: u64) -> Result<String, AllocError>
-    ensures { IfOk result (λ text. string_bytes text ≡ codes "refused stale " ++ decimal last ++ codes " " ++ decimal got ++ line_feed) }
-{
-    format!(in alloc; "refused stale {last} {got}\n")
+    let line = reply_line(alloc, reply)?;
+    say(&line, said)
 }
 
 // A feed, with its length before it and LF behind it.

@@ -1,6 +1,7 @@
 // One step of a replay: a record, or more of the input.
-ghost use Rattle.std.specs.Prelude.{◌≡◌, ◌≤◌, ◌<◌, ◌+◌, length, ℕ, List, [], ◌++◌, OnOk, OnErr, None};
-ghost use Rattle.script_defs.specs.Record.{turn};
+ghost use Rattle.std.specs.Prelude.{◌≡◌, ◌≤◌, ◌<◌, ◌+◌, length, ℕ, List, [], ◌++◌, OnOk, OnErr, None, Err};
+ghost use Rattle.feed_defs.specs.History.Refusal.{TooLong};
+ghost use Rattle.script_defs.specs.Record.{turn, reply_line};
 ghost use Rattle.script_defs.specs.Output.{longest_script};
 ghost use Rattle.hub_main.specs.Writing.{Writes, HasWritingCause};
 ghost use Rattle.hub_main.specs.Window.{HasRefillCause};
@@ -9,10 +10,11 @@ ghost use Rattle.hub_main.specs.Steps.{at, at_start, place_sum, Advances, HasCau
 
 use crate::feeds::ScriptHub;
 use crate::records::{Step, byte_at, do_record, say};
+use crate::replies::too_long_line;
 use crate::window::{Refill, Window};
 use crate::writing::{OutputFault, write_all};
 use hub_outside::{Sink, Source};
-use std::alloc::Global;
+use std::alloc::{AllocError, Global};
 
 /// So many bytes are written at once where more wait.
 const MOST_WAITING: usize = 65_536;
@@ -81,7 +83,7 @@ pub(crate) fn advance<S: Source, K: Sink>(
         }
         Step::Ends => Some(Ending::Ended),
         Step::Short => fetch(run, input, out),
-        Step::Long(end) => pass_message(alloc, run, end, input, out),
+        Step::Long { end, size } => pass_message(alloc, run, end, size, input, out),
         Step::Refused => Some(Ending::Refused(run.place)),
         Step::NoMemory => {
             run.said.truncate(before);
@@ -134,17 +136,18 @@ fn pass_message<S: Source, K: Sink>(
     alloc: Global,
     run: &mut Replay,
     end: usize,
+    size: u32,
     input: &mut S,
     out: &mut K,
 ) -> Option<Ending>
-    requires record { (more : List ℕ) → turn run.old.hub (run.old.window.held ++ more) ≡ long_turn end run.old.hub (run.old.window.held ++ more) }
+    requires record { (more : List ℕ) → turn run.old.hub (run.old.window.held ++ more) ≡ long_turn end size run.old.hub (run.old.window.held ++ more) }
     requires place { place_sum (at run.old) ≤ longest_script }
     ensures step { Advances result (at run.old) (at run.new) (S.left input.old) (S.left input.new) (K.written out.old) (K.written out.new) }
     ensures cause { HasCause result (S.faults input.old) (S.faults input.new) (K.faults out.old) (K.faults out.new) }
 {
     match flush(&mut run.said, out) {
         Ok(()) => match skip(&mut run.window, end, input) {
-            Refill::More => refuse_message(alloc, run, end),
+            Refill::More => refuse_message(alloc, run, end, size),
             Refill::End => Some(Ending::Refused(run.place)),
             Refill::Failed => Some(Ending::InputFault),
             Refill::NoMemory => Some(Ending::NoMemory),
@@ -154,11 +157,11 @@ fn pass_message<S: Source, K: Sink>(
 }
 
 // Refuses a message whose payload was passed, if LF stands behind it.
-fn refuse_message(alloc: Global, run: &mut Replay, end: usize) -> Option<Ending>
+fn refuse_message(alloc: Global, run: &mut Replay, end: usize, size: u32) -> Option<Ending>
     requires some { 0 < length run.old.window.held }
     requires said { run.old.said.items ≡ [] }
     requires place { run.old.place + end + length run.old.window.held ≤ longest_script }
-    ensures { RefusesLong result end (at run.old) (at run.new) }
+    ensures { RefusesLong result end size (at run.old) (at run.new) }
 {
     if byte_at(run.window.held(), 0) != Some(b'\n') {
         return Some(Ending::Refused(run.place));
@@ -166,13 +169,21 @@ fn refuse_message(alloc: Global, run: &mut Replay, end: usize) -> Option<Ending>
     if run.hub.begin(alloc).is_err() {
         return Some(Ending::NoMemory);
     }
-    if say(b"refused form\n", &mut run.said).is_err() {
+    if say_too_long(alloc, size, &mut run.said).is_err() {
         run.said.clear();
         return Some(Ending::NoMemory);
     }
     run.window.pass(1);
     run.place += end as u64 + 1;
     None
+}
+
+// Says that a message has too many bytes, and how many.
+fn say_too_long(alloc: Global, size: u32, said: &mut Vec<u8>) -> Result<(), AllocError>
+    ensures { Says result said.old.items said.new.items (reply_line (Err (TooLong size))) }
+{
+    let line = too_long_line(alloc, u64::from(size))?;
+    say(line.as_bytes(), said)
 }
 
 // Lets go of so many bytes of the script, so that one at least stands behind them.

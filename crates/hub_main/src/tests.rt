@@ -10,9 +10,9 @@ const FIVE: &[u8] = b"\n\t\n\x032.0\x10\x00\x18\x05";
 
 // What came of a replay: its status, and what it wrote.
 #[derive(Debug, PartialEq, Drop)]
-struct Ran {
-    status: u8,
-    written: Vec<u8>,
+pub(crate) struct Ran {
+    pub(crate) status: u8,
+    pub(crate) written: Vec<u8>,
 }
 
 // Runs the words on the script, read in pieces of those sizes; the calls of those numbers fail.
@@ -36,7 +36,7 @@ fn run_words(
 }
 
 // Replays a script, read at once and with no fault.
-fn replayed(alloc: Global, script: &[u8]) -> Result<Ran, Fail> {
+pub(crate) fn replayed(alloc: Global, script: &[u8]) -> Result<Ran, Fail> {
     let words = vec![in alloc; Text::new(alloc, "replay")?]?;
     run_words(
         alloc,
@@ -114,7 +114,7 @@ fn another_version(rt: HostRuntime) -> Result<(), Fail> {
         b"F a\nM a 11\n\n\t\n\x033.0\x10\x00\x18\x05\nE\n",
     )?;
     assert_eq!(rt; got.status, 0);
-    assert_eq!(rt; got.written.as_slice(), b"refused form\n".as_slice());
+    assert_eq!(rt; got.written.as_slice(), b"refused version 3.0\n".as_slice());
     Ok(())
 }
 

@@ -1,41 +1,24 @@
-use Rattle.std.proofs.Common.{refl, sym, ◌∙◌, arith}
-use Rattle.hub_main.specs.Outcome.{output_of_script}
-use Rattle.script_defs.specs.Output.{offline, is_replay}
-use Rattle.hub_main.proofs.Outcomes.{replay_output, outcome_given, not_both, used}
+-- The replay's outcome, the line for words that are no command, and nothing where memory ran out.
+use Rattle.std.proofs.Common.{◌∙◌, ap, Some}
+use Rattle.hub_words.specs.Answer.{seen}
+use Rattle.hub_main.proofs.Commands.{replay_memory, replay_output, replay_whole, short, usage_whole}
 use Rattle.hub_main.proofs.offline.run_offline.Goals as goal
 
-pub returns-then-is_replay_alone : goal.returns-then-is_replay_alone
-returns-then-is_replay_alone g c =
-    let replay = sym c.is_replay_alone.ensures ∙ c.if-is_replay_alone.true in
-    let o = outcome_given output_of_script (offline c.args.words.now) (replay_output c.args.words.now replay) c.run_replay.result _ _ _ _ _ _ _ _ c.run_replay.ensures in
-    record {
-      status = o.is_status;
-      whole = o.whole;
-      input_fault = o.input_fault;
-      output_fault = o.output_fault;
-      no_memory = o.no_memory;
-      usage = λ e. absurd (o.not_usage e);
-      no_command = λ e. absurd (not_both (is_replay c.args.words.now) replay e);
-      input_count = o.input_count;
-      output_count = o.output_count;
-      files = refl;
-      clock = refl;
-    }
+pub returns-in-Ok-Replay-clause-whole : goal.returns-in-Ok-Replay-clause-whole
+returns-in-Ok-Replay-clause-whole g c =
+    replay_whole _ (c.in-Ok-Replay.ensures ∙ ap (λ command. Some (seen command)) c.in-Ok-Replay.field-0-is) c.run_replay.result _ _ _ _ _ 0 0 _ _ _ _ c.run_replay.ensures
 
-pub returns-else-is_replay_alone : goal.returns-else-is_replay_alone
-returns-else-is_replay_alone g c =
-    let other = sym c.is_replay_alone.ensures ∙ c.if-is_replay_alone.false in
-    let u = used c.args.words.now c.show_usage.result (g.S.Source.left c.args.input.now) _ _ (g.S.Source.faults c.args.input.now) _ _ other c.show_usage.ensures in
-    record {
-      status = u.is_status;
-      whole = u.whole;
-      input_fault = u.input_fault;
-      output_fault = u.output_fault;
-      no_memory = u.no_memory;
-      usage = λ e. other;
-      no_command = λ e. (refl, u.answer);
-      input_count = omega arith;
-      output_count = u.output_count;
-      files = refl;
-      clock = refl;
-    }
+pub returns-in-Ok-Replay-clause-output_fault : goal.returns-in-Ok-Replay-clause-output_fault
+returns-in-Ok-Replay-clause-output_fault g c =
+    replay_output _ (c.in-Ok-Replay.ensures ∙ ap (λ command. Some (seen command)) c.in-Ok-Replay.field-0-is) c.run_replay.result _ _ _ _ _ _ _ _ _ _ _ c.run_replay.ensures
+
+pub returns-in-Ok-Replay-clause-no_memory : goal.returns-in-Ok-Replay-clause-no_memory
+returns-in-Ok-Replay-clause-no_memory g c =
+    replay_memory _ (c.in-Ok-Replay.ensures ∙ ap (λ command. Some (seen command)) c.in-Ok-Replay.field-0-is) c.run_replay.result (g.F.Files.contents c.args.files.now) _ _ _ _ 0 0 _ _ _ _ c.run_replay.ensures
+
+pub returns-in-Err-Usage-clause-whole : goal.returns-in-Err-Usage-clause-whole
+returns-in-Err-Usage-clause-whole g c =
+    usage_whole _ c.write_line.result _ _ _ _ _ _ (rw c.in-Err-Usage.field-0-is at c.in-Err-Usage.ensures) c.write_line.ensures
+
+pub returns-in-Err-NoMemory-clause-no_memory : goal.returns-in-Err-NoMemory-clause-no_memory
+returns-in-Err-NoMemory-clause-no_memory g c = short _ _ _
