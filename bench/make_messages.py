@@ -14,23 +14,7 @@ Of ten entities eight are trip updates of five stops each, one is a vehicle and 
 import struct
 import sys
 
-
-def varint(n):
-    n %= 1 << 64
-    out = bytearray()
-    while n >= 128:
-        out.append(n % 128 + 128)
-        n //= 128
-    out.append(n)
-    return bytes(out)
-
-
-def number(field, value):
-    return varint(field * 8) + varint(value)
-
-
-def run(field, payload):
-    return varint(field * 8 + 2) + varint(len(payload)) + payload
+from wire import number, run, varint
 
 
 def four(field, value):

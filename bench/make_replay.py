@@ -7,18 +7,7 @@ usage: make_replay.py messages COUNT ENTITIES   COUNT messages of ENTITIES entit
 """
 import sys
 
-
-def varint(n):
-    out = bytearray()
-    while n >= 128:
-        out.append(n % 128 + 128)
-        n //= 128
-    out.append(n)
-    return bytes(out)
-
-
-def run(number, payload):
-    return varint(number * 8 + 2) + varint(len(payload)) + payload
+from wire import run, varint
 
 
 def header(stamp, differential):
