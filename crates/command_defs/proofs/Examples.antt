@@ -1,7 +1,7 @@
 -- Commands on small folders of files, computed by the definitions.
 use Rattle.std.specs.Prelude.{◌≡◌, refl, [], ◌∷◌, ◌++◌, Some, None, Ok, Err, codes}
 use Rattle.std.specs.Fmt.{digits}
-use Rattle.wire_defs.specs.Steps.{◌>>=◌}
+use Rattle.answer_defs.specs.Steps.{◌>>=◌}
 use Rattle.load_defs.specs.CityFiles.{city_folder, stops_txt, trips_txt, stop_times_txt, files_with, behind_agency}
 use Rattle.load_defs.proofs.OnFiles.{loading_on_files}
 use Rattle.hub_config.specs.declared.conf.ScheduleConf.{ScheduleConf}

@@ -11,7 +11,7 @@ use Rattle.hub_config.specs.Lines.{line_of}
 use Rattle.hub_config.specs.declared.conf.HubConf.{HubConf}
 use Rattle.hub_config.specs.declared.conf.ScheduleConf.{ScheduleConf}
 use Rattle.hub_config.specs.declared.fault.ConfFault.{ConfFault}
-use Rattle.wire_defs.specs.Steps.{◌>>=◌}
+use Rattle.answer_defs.specs.Steps.{◌>>=◌}
 use Rattle.script_defs.specs.Record.{line_feed}
 use Rattle.script_defs.specs.Output.{Output}
 use Rattle.command_defs.specs.Faults.{load_words}
@@ -21,29 +21,29 @@ abbrev pub longest_conf : ℕ
 longest_conf = 1048576
 
 -- a configuration, or the line of its fault
-abbrev pub named_conf : Result HubConf ConfFault → Result HubConf (List ℕ)
-named_conf (Ok conf) = Ok conf
-named_conf (Err fault) = Err (line_of fault)
+abbrev pub conf_or_line : Result HubConf ConfFault → Result HubConf (List ℕ)
+conf_or_line (Ok conf) = Ok conf
+conf_or_line (Err fault) = Err (line_of fault)
 
 -- the configuration in a file, or the line that tells why there is none
 abbrev pub conf_in : Option (List ℕ) → Result HubConf (List ℕ)
 conf_in None = Err (codes "hub: config absent")
-conf_in (Some bytes) = if nat_lt longest_conf (length bytes) then Err (codes "hub: config long") else named_conf (conf_of bytes)
+conf_in (Some bytes) = if nat_lt longest_conf (length bytes) then Err (codes "hub: config long") else conf_or_line (conf_of bytes)
 
 -- how a schedule is loaded
 abbrev pub plan_conf : ScheduleConf → PlanConf
 plan_conf schedule = record { zone = schedule.zone; first = schedule.first; days = schedule.days }
 
 -- a timetable, or the line of its fault
-abbrev pub named_timetable : List ℕ → Result Timetable LoadFault → Result Timetable (List ℕ)
-named_timetable name (Ok t) = Ok t
-named_timetable name (Err fault) = Err (codes "hub: load " ++ name ++ codes " " ++ load_words fault)
+abbrev pub timetable_or_line : List ℕ → Result Timetable LoadFault → Result Timetable (List ℕ)
+timetable_or_line name (Ok t) = Ok t
+timetable_or_line name (Err fault) = Err (codes "hub: load " ++ name ++ codes " " ++ load_words fault)
 
 -- the timetables of the schedules, in their order, or the line of the first fault
 unfoldable pub timetables : List (List ℕ × List ℕ) → List ScheduleConf → Result (List Timetable) (List ℕ)
 timetables files [] = Ok []
 timetables files (schedule ∷ more) = do
-  first ← named_timetable schedule.name (timetable files schedule.folder (plan_conf schedule))
+  first ← timetable_or_line schedule.name (timetable files schedule.folder (plan_conf schedule))
   others ← timetables files more
   Ok (first ∷ others)
 
@@ -60,8 +60,8 @@ counts_lines [] ts = []
 counts_lines (schedule ∷ schedules) [] = []
 
 -- all lines, or the one line of the first fault
-abbrev pub checked_or : List (List ℕ × List ℕ) → List ℕ → Result (List ℕ) (List ℕ)
-checked_or files path = do
+abbrev pub check_lines : List (List ℕ × List ℕ) → List ℕ → Result (List ℕ) (List ℕ)
+check_lines files path = do
   conf ← conf_in (file_at files path)
   ts ← timetables files conf.schedules
   Ok (counts_lines conf.schedules ts)
@@ -71,5 +71,5 @@ output_of_check (Ok lines) = record { written = lines; status = 0 }
 output_of_check (Err line) = record { written = line ++ line_feed; status = 3 }
 
 -- what `check` prints, and its status: the configuration counts first, and then its timetables in order
-unfoldable pub checked : List (List ℕ × List ℕ) → List ℕ → Output
-checked files path = output_of_check (checked_or files path)
+unfoldable pub check_output : List (List ℕ × List ℕ) → List ℕ → Output
+check_output files path = output_of_check (check_lines files path)

@@ -5,7 +5,7 @@ use Rattle.script_defs.specs.Record.{line_feed}
 use Rattle.script_defs.specs.Output.{Output, replayed}
 use Rattle.command_defs.specs.Words.{Command, command_of}
 use Rattle.command_defs.specs.Words.Command.{Replay, Check}
-use Rattle.command_defs.specs.Checks.{checked}
+use Rattle.command_defs.specs.Checks.{check_output}
 
 abbrev pub usage_line : List ℕ
 usage_line = codes "hub: usage" ++ line_feed
@@ -18,16 +18,16 @@ usage = record { written = usage_line; status = 2 }
 abbrev pub output_by : Option Command → List (List ℕ × List ℕ) → List ℕ → Output
 output_by None files input = usage
 output_by (Some Replay) files input = replayed input
-output_by (Some (Check path)) files input = checked files path
+output_by (Some (Check path)) files input = check_output files path
 
 unfoldable pub offline : List (List ℕ) → List (List ℕ × List ℕ) → List ℕ → Output
 offline words files input = output_by (command_of words) files input
 
 -- the same where the files or the input tell nothing: what a command doesn't look at need not be told
-abbrev pub told_by : Option Command → Option (List (List ℕ × List ℕ)) → Option (List ℕ) → Option Output
-told_by None files input = Some usage
-told_by (Some Replay) files input = option_map replayed input
-told_by (Some (Check path)) files input = option_map (λ fs. checked fs path) files
+abbrev pub output_where_told : Option Command → Option (List (List ℕ × List ℕ)) → Option (List ℕ) → Option Output
+output_where_told None files input = Some usage
+output_where_told (Some Replay) files input = option_map replayed input
+output_where_told (Some (Check path)) files input = option_map (λ fs. check_output fs path) files
 
 -- the line of a file that can't be read
 abbrev pub file_fault_line : List ℕ

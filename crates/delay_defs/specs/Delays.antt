@@ -40,10 +40,10 @@ taken None update behind from = behind from
 taken (Some i) update behind from = (i, update) ∷ behind (i + 1)
 
 -- the places that a list of updates takes, each behind those before it, with their updates
-abbrev pub placed : Timetable → ℕ → List StopUpdate → ℕ → List (ℕ × StopUpdate)
-placed t trip [] from = []
-placed t trip (update ∷ updates) from =
-    taken (place_for t trip from update) update (λ next. placed t trip updates next) from
+abbrev pub placements_of : Timetable → ℕ → List StopUpdate → ℕ → List (ℕ × StopUpdate)
+placements_of t trip [] from = []
+placements_of t trip (update ∷ updates) from =
+    taken (place_for t trip from update) update (λ next. placements_of t trip updates next) from
 
 -- ---- what its events tell
 
@@ -64,13 +64,13 @@ event_delay scheduled None = None
 event_delay scheduled (Some event) = option_or (by_time scheduled event.time) event.delay
 
 -- the delays that the two events of an update tell
-pub record Told : Type 0 where
+pub record EventDelays : Type 0 where
   pub arrival : Option ℤ
   pub departure : Option ℤ
 
 -- an arrival is told against the scheduled arrival at the place, a departure against the scheduled departure
-abbrev pub told_at : Timetable → Run → ℕ → StopUpdate → Told
-told_at t run i update = record {
+abbrev pub event_delays_at : Timetable → Run → ℕ → StopUpdate → EventDelays
+event_delays_at t run i update = record {
   arrival = event_delay (unwrap_or (arrival_at t run i) (pos 0)) update.arrival;
   departure = event_delay (unwrap_or (departure_at t run i) (pos 0)) update.departure;
 }
@@ -84,20 +84,20 @@ relation_of update = unwrap_or update.relation Scheduled
 -- What an update says of the places behind it, if it says something: that nothing is known, or a delay.
 -- SKIPPED says nothing of them, and neither does SCHEDULED where no event tells a delay (the latter is a
 -- rule of this project, as is that an arrival's delay is carried on where no departure's is told).
-abbrev pub carried : StopRelation → Told → Option (Option ℤ)
-carried Skipped told = None
-carried NoData told = Some None
-carried Unscheduled told = Some None
-carried Scheduled told = option_map Some (option_or told.departure told.arrival)
+abbrev pub carry_of : StopRelation → EventDelays → Option (Option ℤ)
+carry_of Skipped told = None
+carry_of NoData told = Some None
+carry_of Unscheduled told = Some None
+carry_of Scheduled told = option_map Some (option_or told.departure told.arrival)
 
-abbrev pub carried_by : Timetable → Run → (ℕ × StopUpdate) → Option (Option ℤ)
-carried_by t run pair = carried (relation_of pair.1) (told_at t run pair.0 pair.1)
+abbrev pub carry_of_update : Timetable → Run → (ℕ × StopUpdate) → Option (Option ℤ)
+carry_of_update t run pair = carry_of (relation_of pair.1) (event_delays_at t run pair.0 pair.1)
 
 -- The delay that is carried to a place: by the last update that takes a place before it and says something,
 -- else the delay of the whole trip update (GTFS Realtime, TripUpdate, delay).
 abbrev pub carry_at : Timetable → Run → List (ℕ × StopUpdate) → Option ℤ → ℕ → Option ℤ
 carry_at t run pairs delay i =
-    unwrap_or (last_or None (filter_map (carried_by t run) (filter (λ pair. nat_lt pair.0 i) pairs))) delay
+    unwrap_or (last_or None (filter_map (carry_of_update t run) (filter (λ pair. nat_lt pair.0 i) pairs))) delay
 
 -- ---- the state of a place
 
@@ -108,7 +108,7 @@ plain carry = record { skipped = false; arrival = carry; departure = carry }
 -- A place that an update takes, by the update's relation, the delays that it tells, and the delay that is
 -- carried to it. Where a SCHEDULED update tells no arrival, the carried delay counts; where it tells no
 -- departure, the arrival's.
-abbrev pub state_by : StopRelation → Told → Option ℤ → StopState
+abbrev pub state_by : StopRelation → EventDelays → Option ℤ → StopState
 state_by Skipped told carry = record { skipped = true; arrival = carry; departure = carry }
 state_by NoData told carry = plain None
 state_by Unscheduled told carry = plain None
@@ -120,7 +120,7 @@ state_by Scheduled told carry = record {
 
 abbrev pub state_with : Timetable → Run → Option (ℕ × StopUpdate) → Option ℤ → StopState
 state_with t run None carry = plain carry
-state_with t run (Some pair) carry = state_by (relation_of pair.1) (told_at t run pair.0 pair.1) carry
+state_with t run (Some pair) carry = state_by (relation_of pair.1) (event_delays_at t run pair.0 pair.1) carry
 
 abbrev pub state_at : Timetable → Run → List (ℕ × StopUpdate) → Option ℤ → ℕ → StopState
 state_at t run pairs delay i = state_with t run (find (λ pair. pair.0 == i) pairs) (carry_at t run pairs delay i)
@@ -128,4 +128,4 @@ state_at t run pairs delay i = state_with t run (find (λ pair. pair.0 == i) pai
 -- the states of all places of a run under a trip update, in order
 unfoldable pub states : Timetable → Run → TripUpdate → List StopState
 states t run update =
-    map (state_at t run (placed t run.trip update.stop_time_update 0) update.delay) (range_with_len 0 (length (places_of t run.trip)))
+    map (state_at t run (placements_of t run.trip update.stop_time_update 0) update.delay) (range_with_len 0 (length (places_of t run.trip)))

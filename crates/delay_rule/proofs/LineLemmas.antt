@@ -1,7 +1,7 @@
 -- The line of twenty places is a timetable.
 use Rattle.std.proofs.Common.{◌≡◌, ◌+◌, nat_lt, map, refl, arith}
 use Rattle.std.proofs.lemmas.Bool.{ltb-true}
-use Rattle.service_day.specs.Calendar.{is_day}
+use Rattle.text_defs.specs.Dates.{is_day}
 use Rattle.sched_types.specs.declared.rows.PlanParts.{PlanParts}
 use Rattle.sched_types.specs.Parts.{table_of}
 use Rattle.sched_types.specs.Timetable.{IsTimetable}

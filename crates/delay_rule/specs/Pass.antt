@@ -5,7 +5,7 @@ use Rattle.rt_types.specs.declared.trip_update.StopUpdate.{StopUpdate}
 use Rattle.sched_types.specs.declared.rows.Place.{Place}
 use Rattle.sched_types.specs.Timetable.{Timetable}
 use Rattle.delay_defs.specs.declared.state.StopState.{StopState}
-use Rattle.delay_defs.specs.Delays.{Told, fits, event_delay, relation_of, plain, state_by}
+use Rattle.delay_defs.specs.Delays.{EventDelays, fits, event_delay, relation_of, plain, state_by}
 
 -- the places have rising stop_sequence
 pub record SequencesRise (places : List Place) : Type 0 where
@@ -17,7 +17,7 @@ pub record StartsWith (old new : List StopState) : Type 0 where
   pub whole : new ≡ old ++ more
 
 -- the delays that an update tells at a place of a day with that base
-abbrev pub told_by : ℤ → Place → StopUpdate → Told
+abbrev pub told_by : ℤ → Place → StopUpdate → EventDelays
 told_by base place update = record {
   arrival = event_delay (base +ℤ pos place.arrival) update.arrival;
   departure = event_delay (base +ℤ pos place.departure) update.departure;

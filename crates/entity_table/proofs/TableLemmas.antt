@@ -7,7 +7,7 @@ use Rattle.std.specs.FinMap.{put, find}
 use Rattle.rt_types.specs.declared.message.Entity.{Entity}
 use Rattle.rt_types.specs.declared.message.FeedMessage.{FeedMessage}
 use Rattle.feed_defs.specs.declared.history.Stored.{Stored}
-use Rattle.feed_defs.specs.History.{Change, is_full, stamp_of, changes_in, without, changed, held, applied, entity_at}
+use Rattle.feed_defs.specs.History.{Change, is_full, stamp_of, changes_in, changes_without, changes_with, entities_of, entities_after, entity_at}
 use Rattle.feed_defs.proofs.Applied.{held_more}
 use Rattle.feed_defs.proofs.Kept.{held_is}
 
@@ -16,11 +16,11 @@ abbrev pub change_of : ℕ → Entity → Change
 change_of stamp e = (e.id, record { entity = e; stamp = stamp })
 
 -- an entity that says that it is deleted takes its id away
-pub taken : {E : Type 0} (r : Result (List Change) E) (es : List Change) (id : List ℕ) (entity : Entity) (stamp : ℕ) (deleted : Bool) → id ≡ entity.id → deleted ≡ unwrap_or entity.is_deleted false → deleted ≡ true → IfOk r (λ next. next ≡ without id es) → IfOk r (λ next. next ≡ changed es (change_of stamp entity))
+pub taken : {E : Type 0} (r : Result (List Change) E) (es : List Change) (id : List ℕ) (entity : Entity) (stamp : ℕ) (deleted : Bool) → id ≡ entity.id → deleted ≡ unwrap_or entity.is_deleted false → deleted ≡ true → IfOk r (λ next. next ≡ changes_without id es) → IfOk r (λ next. next ≡ changes_with es (change_of stamp entity))
 taken (Ok next) es id entity stamp deleted own told gone e =
     e
-    ∙ ap (λ i. without i es) own
-    ∙ ap (λ b. if not b then put (slice_cmp nat_cmp) entity.id (record { entity = entity; stamp = stamp }) es else without entity.id es) (sym gone ∙ told)
+    ∙ ap (λ i. changes_without i es) own
+    ∙ ap (λ b. if not b then put (slice_cmp nat_cmp) entity.id (record { entity = entity; stamp = stamp }) es else changes_without entity.id es) (sym gone ∙ told)
 taken (Err x) es id entity stamp deleted own told gone e = e
 
 drop_past : {X : Type 0} (i : ℕ) (xs : List X) → length xs ≤ i → drop i xs ≡ []
@@ -30,19 +30,19 @@ drop_past (suc i) [] h = refl
 drop_past (suc i) (x ∷ xs) h = drop_past i xs (omega arith)
 
 -- when none is left, the message is applied
-pub change_end : (now start table : List Change) (stamp : ℕ) (m : FeedMessage) (items : List Entity) (i : ℕ) → length items ≤ i → items ≡ m.entity → stamp ≡ stamp_of m → start ≡ (if is_full m then [] else table) → fold changed now (map (change_of stamp) (drop i items)) ≡ fold changed start (map (change_of stamp) items) → now ≡ applied m table
-unfolding applied
+pub change_end : (now start table : List Change) (stamp : ℕ) (m : FeedMessage) (items : List Entity) (i : ℕ) → length items ≤ i → items ≡ m.entity → stamp ≡ stamp_of m → start ≡ (if is_full m then [] else table) → fold changes_with now (map (change_of stamp) (drop i items)) ≡ fold changes_with start (map (change_of stamp) items) → now ≡ entities_after m table
+unfolding entities_after
 change_end now start table stamp m items i past all own begun so_far =
-    ap (λ xs. fold changed now (map (change_of stamp) xs)) (sym (drop_past i items past))
+    ap (λ xs. fold changes_with now (map (change_of stamp) xs)) (sym (drop_past i items past))
     ∙ so_far
-    ∙ ap (λ xs. fold changed start (map (change_of stamp) xs)) all
-    ∙ ap (λ s. fold changed start (map (change_of s) m.entity)) own
-    ∙ ap (λ es. fold changed es (changes_in m)) begun
+    ∙ ap (λ xs. fold changes_with start (map (change_of stamp) xs)) all
+    ∙ ap (λ s. fold changes_with start (map (change_of s) m.entity)) own
+    ∙ ap (λ es. fold changes_with es (changes_in m)) begun
 
 -- the table that stands for the messages before stands for them and the message
-pub stands_more : (next table : List Change) (m : FeedMessage) (ms : List FeedMessage) → next ≡ applied m table → table ≡ held ms → next ≡ held (ms ++ m ∷ [])
-stands_more next table m ms is stood = is ∙ ap (applied m) stood ∙ sym (held_more ms m)
+pub stands_more : (next table : List Change) (m : FeedMessage) (ms : List FeedMessage) → next ≡ entities_after m table → table ≡ entities_of ms → next ≡ entities_of (ms ++ m ∷ [])
+stands_more next table m ms is stood = is ∙ ap (entities_after m) stood ∙ sym (held_more ms m)
 
 -- what a table that stands for messages has under an id is what they say of it last
-pub said_is : (got : Option Stored) (table : List Change) (ms : List FeedMessage) (id : List ℕ) → got ≡ find (slice_cmp nat_cmp) id table → table ≡ held ms → got ≡ entity_at ms id
+pub said_is : (got : Option Stored) (table : List Change) (ms : List FeedMessage) (id : List ℕ) → got ≡ find (slice_cmp nat_cmp) id table → table ≡ entities_of ms → got ≡ entity_at ms id
 said_is got table ms id found stood = found ∙ ap (find (slice_cmp nat_cmp) id) stood ∙ held_is ms id

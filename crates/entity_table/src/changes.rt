@@ -1,7 +1,7 @@
 // One message more.
 
 ghost use Rattle.std.specs.Prelude.{◌≡◌, ◌∷◌, ◌++◌, [], List, if◌then◌else◌, unwrap_or, false, IfOk};
-ghost use Rattle.feed_defs.specs.History.{applied, changed, held, is_full};
+ghost use Rattle.feed_defs.specs.History.{entities_after, changes_with, entities_of, is_full};
 ghost use Rattle.rt_types.specs.declared.message.FeedMessage.{FeedMessage};
 
 use crate::stored::SharedStored;
@@ -15,8 +15,8 @@ use std::alloc::{AllocError, Global};
 /// nothing, a differential message from the given table. Then, entity by entity, one that says that it is
 /// deleted takes its id away, and any other takes the place of what its id had, whole, with the message's stamp.
 pub fn apply(alloc: Global, table: &Table, message: &FeedMessage) -> Result<Table, AllocError>
-    ensures applied { IfOk result (λ next. next ≡ applied message.now table.now) }
-    ensures stands { (ms : List FeedMessage) → table.now ≡ held ms → IfOk result (λ next. next ≡ held (ms ++ message.now ∷ [])) }
+    ensures applied { IfOk result (λ next. next ≡ entities_after message.now table.now) }
+    ensures stands { (ms : List FeedMessage) → table.now ≡ entities_of ms → IfOk result (λ next. next ≡ entities_of (ms ++ message.now ∷ [])) }
 {
     let mut list = start(alloc, table, message)?;
     let stamp = message.header.timestamp.unwrap_or(0);
@@ -47,7 +47,7 @@ fn change(
     entity: &Entity,
     stamp: u64,
 ) -> Result<SharedList<SharedStored>, AllocError>
-    ensures { IfOk result (λ next. next ≡ changed list (entity.now.id, record { entity = entity.now; stamp = stamp })) }
+    ensures { IfOk result (λ next. next ≡ changes_with list (entity.now.id, record { entity = entity.now; stamp = stamp })) }
 {
     if is_deleted(entity) {
         return list.without(entity.id.as_str());

@@ -7,7 +7,7 @@ ghost use Rattle.std.specs.Iterator.{YieldsFirstRef, item_count};
 ghost use Rattle.std.specs.Option.{option_copied};
 ghost use Rattle.std.specs.Ordering.{nat_cmp};
 ghost use Rattle.rt_types.specs.declared.message.FeedMessage.{FeedMessage};
-ghost use Rattle.feed_defs.specs.History.{held, entity_at};
+ghost use Rattle.feed_defs.specs.History.{entities_of, entity_at};
 
 use crate::stored::SharedStored;
 use feed_defs::Stored;
@@ -44,7 +44,7 @@ impl Table {
     /// What is held under the id; `None` exactly where nothing is.
     pub fn get(&self, id: &str) -> Option<&Stored>
         ensures found { option_copied result ≡ find (slice_cmp nat_cmp) id.now self.entry.now }
-        ensures said { (ms : List FeedMessage) → self.entry.now ≡ held ms → option_copied result ≡ entity_at ms id.now }
+        ensures said { (ms : List FeedMessage) → self.entry.now ≡ entities_of ms → option_copied result ≡ entity_at ms id.now }
     {
         stored_in(&self.list, id)
     }

@@ -10,7 +10,7 @@ use Rattle.std.proofs.lemmas.Cmp.{nat_list_cmp_total}
 use Rattle.std.proofs.lemmas.Map.Text.{is_eq-slice_cmp}
 use Rattle.rt_types.specs.declared.message.FeedMessage.{FeedMessage}
 use Rattle.feed_defs.specs.declared.history.Stored.{Stored}
-use Rattle.feed_defs.specs.History.{Change, is_full, is_kept, since_full, changes_in, changes_of, listed, held, without, changed, applied}
+use Rattle.feed_defs.specs.History.{Change, is_full, is_kept, since_full, changes_in, changes_of, changes_by_id, entities_of, changes_without, changes_with, entities_after}
 use Rattle.feed_defs.proofs.Held.{changes_of-append, listed-append}
 use Rattle.feed_defs.proofs.Kept.{id_cmp, kept_stored, find_kept, listed_sorted, left, right}
 
@@ -32,8 +32,8 @@ sorted_filter p (e ∷ es) h =
     elim (p e) as (λ b. T (is_sorted id_cmp (cond b (e ∷ filter p es) (filter p es)))) [ true ↦ both _ _ (below_filter p e.0 es (left _ _ h)) rest | false ↦ rest ]
 
 -- a change keeps the order
-pub sorted_changed : (es : List Change) (c : Change) → T (is_sorted id_cmp es) → T (is_sorted id_cmp (changed es c))
-sorted_changed es c h = elim (is_kept c) as (λ b. T (is_sorted id_cmp (if b then put id_cmp c.0 c.1 es else without c.0 es))) [
+pub sorted_changed : (es : List Change) (c : Change) → T (is_sorted id_cmp es) → T (is_sorted id_cmp (changes_with es c))
+sorted_changed es c h = elim (is_kept c) as (λ b. T (is_sorted id_cmp (if b then put id_cmp c.0 c.1 es else changes_without c.0 es))) [
   | true ↦ is_sorted-put id_cmp nat_list_cmp_total c.0 c.1 es h
   | false ↦ is_sorted-where_key id_cmp (λ id. not (bytes_eq c.0 id)) es h
 ]
@@ -42,7 +42,7 @@ turned : (q k : List ℕ) → eq_by_cmp id_cmp q k ≡ bytes_eq k q
 turned q k = (eq_by_cmp_equiv nat_list_cmp_total).symm q k ∙ is_eq-slice_cmp k q
 
 -- what is found where an id is taken away
-pub find-without : (q id : List ℕ) (es : List Change) → find id_cmp q (without id es) ≡ cond (eq_by_cmp id_cmp q id) None (find id_cmp q es)
+pub find-without : (q id : List ℕ) (es : List Change) → find id_cmp q (changes_without id es) ≡ cond (eq_by_cmp id_cmp q id) None (find id_cmp q es)
 find-without q id es =
     find-where_key id_cmp (λ x. not (bytes_eq id x)) q (λ x tie. ap (λ y. not (bytes_eq id y)) (sym (slice_cmp-IsAntisymmetric nat_cmp-IsAntisymmetric q x tie))) es
     ∙ other_way (bytes_eq id q)
@@ -53,7 +53,7 @@ find-without q id es =
     other_way false = refl
 
 -- a change of what is kept is what is kept of the change
-kept_changed : (es : List Change) (c : Change) → T (is_sorted id_cmp es) → filter is_kept (put id_cmp c.0 c.1 es) ≡ changed (filter is_kept es) c
+kept_changed : (es : List Change) (c : Change) → T (is_sorted id_cmp es) → filter is_kept (put id_cmp c.0 c.1 es) ≡ changes_with (filter is_kept es) c
 kept_changed es c h =
     same_entries id_cmp nat_list_cmp_total (slice_cmp-IsAntisymmetric nat_cmp-IsAntisymmetric) _ _
     (sorted_filter is_kept (put id_cmp c.0 c.1 es) (is_sorted-put id_cmp nat_list_cmp_total c.0 c.1 es h))
@@ -70,7 +70,7 @@ kept_changed es c h =
     by_gone o true k = ap (λ b. if b then Some c.1 else None) k
     by_gone o false k = refl
 
-    by_kind : (q : List ℕ) (b : Bool) → is_kept c ≡ b → kept_stored (cond (eq_by_cmp id_cmp q c.0) (Some c.1) (find id_cmp q es)) ≡ find id_cmp q (if b then put id_cmp c.0 c.1 (filter is_kept es) else without c.0 (filter is_kept es))
+    by_kind : (q : List ℕ) (b : Bool) → is_kept c ≡ b → kept_stored (cond (eq_by_cmp id_cmp q c.0) (Some c.1) (find id_cmp q es)) ≡ find id_cmp q (if b then put id_cmp c.0 c.1 (filter is_kept es) else changes_without c.0 (filter is_kept es))
     by_kind q true k =
         by_tie (find id_cmp q es) (eq_by_cmp id_cmp q c.0) k
         ∙ ap (cond (eq_by_cmp id_cmp q c.0) (Some c.1)) (sym (find_kept q es h))
@@ -81,37 +81,37 @@ kept_changed es c h =
         ∙ sym (find-without q c.0 (filter is_kept es))
 
 -- so it is for changes one after another
-kept_more : (before cs : List Change) → filter is_kept (listed (reverse (before ++ cs))) ≡ fold changed (filter is_kept (listed (reverse before))) cs
-kept_more before [] = ap (λ xs. filter is_kept (listed (reverse xs))) (append-nil before)
+kept_more : (before cs : List Change) → filter is_kept (changes_by_id (reverse (before ++ cs))) ≡ fold changes_with (filter is_kept (changes_by_id (reverse before))) cs
+kept_more before [] = ap (λ xs. filter is_kept (changes_by_id (reverse xs))) (append-nil before)
 kept_more before (c ∷ cs) =
-    ap (λ xs. filter is_kept (listed (reverse xs))) (sym (append_assoc before (c ∷ []) cs))
+    ap (λ xs. filter is_kept (changes_by_id (reverse xs))) (sym (append_assoc before (c ∷ []) cs))
     ∙ kept_more (before ++ c ∷ []) cs
-    ∙ ap (λ xs. fold changed xs cs) (ap (filter is_kept) (listed-append before c) ∙ kept_changed (listed (reverse before)) c (listed_sorted (reverse before)))
+    ∙ ap (λ xs. fold changes_with xs cs) (ap (filter is_kept) (listed-append before c) ∙ kept_changed (changes_by_id (reverse before)) c (listed_sorted (reverse before)))
 
 -- What a feed holds after one message more is what it held before, changed by that message.
-pub held_more : (ms : List FeedMessage) (m : FeedMessage) → held (ms ++ m ∷ []) ≡ applied m (held ms)
-unfolding held applied listed
+pub held_more : (ms : List FeedMessage) (m : FeedMessage) → entities_of (ms ++ m ∷ []) ≡ entities_after m (entities_of ms)
+unfolding entities_of entities_after changes_by_id
 held_more ms m =
-    ap (λ xs. filter is_kept (listed (reverse xs))) (changes_of-append ms m)
+    ap (λ xs. filter is_kept (changes_by_id (reverse xs))) (changes_of-append ms m)
     ∙ kept_more (if is_full m then [] else changes_of ms) (changes_in m)
-    ∙ ap (λ xs. fold changed xs (changes_in m)) (by_kind (is_full m))
+    ∙ ap (λ xs. fold changes_with xs (changes_in m)) (by_kind (is_full m))
   where
-    by_kind : (b : Bool) → filter is_kept (listed (reverse (if b then [] else changes_of ms))) ≡ (if b then [] else filter is_kept (listed (reverse (changes_of ms))))
+    by_kind : (b : Bool) → filter is_kept (changes_by_id (reverse (if b then [] else changes_of ms))) ≡ (if b then [] else filter is_kept (changes_by_id (reverse (changes_of ms))))
     by_kind true = refl
     by_kind false = refl
 
 -- at first a feed holds nothing
-pub held_none : held [] ≡ []
-unfolding held listed since_full
+pub held_none : entities_of [] ≡ []
+unfolding entities_of changes_by_id since_full
 held_none = refl
 
-sorted_fold : (cs es : List Change) → T (is_sorted id_cmp es) → T (is_sorted id_cmp (fold changed es cs))
+sorted_fold : (cs es : List Change) → T (is_sorted id_cmp es) → T (is_sorted id_cmp (fold changes_with es cs))
 sorted_fold [] es h = h
-sorted_fold (c ∷ cs) es h = sorted_fold cs (changed es c) (sorted_changed es c h)
+sorted_fold (c ∷ cs) es h = sorted_fold cs (changes_with es c) (sorted_changed es c h)
 
 -- a message keeps the order
-pub sorted_applied : (m : FeedMessage) (es : List Change) → T (is_sorted id_cmp es) → T (is_sorted id_cmp (applied m es))
-unfolding applied
+pub sorted_applied : (m : FeedMessage) (es : List Change) → T (is_sorted id_cmp es) → T (is_sorted id_cmp (entities_after m es))
+unfolding entities_after
 sorted_applied m es h = sorted_fold (changes_in m) _ (by_kind (is_full m))
   where
     by_kind : (b : Bool) → T (is_sorted id_cmp (if b then [] else es))

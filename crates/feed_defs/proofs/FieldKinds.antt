@@ -16,14 +16,14 @@ use Rattle.wire_defs.specs.Field.{Payload, Field}
 use Rattle.wire_defs.specs.Field.Payload.{Varint, Eight, Span, Four, Group}
 use Rattle.wire_defs.specs.Writing.{varint, payload_bytes}
 use Rattle.wire_defs.proofs.Bytes.{AreBytes}
-use Rattle.wire_defs.proofs.Steps.{bind_ok}
+use Rattle.answer_defs.proofs.Steps.{bind_ok}
 use Rattle.wire_defs.proofs.Again.{IsInRange, WasInRange, CarriesBytes, WasRead}
-use Rattle.feed_defs.specs.Rows.{Fault, Message, FieldKind, at, occurring, last_of, varint_in, span_in, bool_in, bool_payload, degrees_in, degrees_payload, scalar, u64, u32, i32, i64, degrees, bool, choice, text, as_text, merged, embedded, value, written}
+use Rattle.feed_defs.specs.Rows.{Fault, Message, FieldKind, value_under, occurrences_of, last_of, varint_in, span_in, bool_in, bool_payload, degrees_in, degrees_payload, scalar, u64, u32, i32, i64, degrees, bool, choice, text, as_text, merged_message, embedded, value, message_bytes}
 use Rattle.feed_defs.proofs.Sifted.{said_same}
 
 -- a message that was read is read again from the bytes that are written of it
 abbrev pub Rereads : {M : Type 0} → Message M → Type 0
-Rereads {M} m = (payloads : List (List ℕ)) (x : M) → AllByRecursion AreBytes payloads → value m payloads ≡ Ok x → length (written m x) < 2 ^ 64 → value m (written m x ∷ []) ≡ Ok x
+Rereads {M} m = (payloads : List (List ℕ)) (x : M) → AllByRecursion AreBytes payloads → value m payloads ≡ Ok x → length (message_bytes m x) < 2 ^ 64 → value m (message_bytes m x ∷ []) ≡ Ok x
 
 -- a field with a payload
 abbrev pub carrying : ℕ → Payload → List ℕ → Field
@@ -45,38 +45,38 @@ pub record IsLawfulKind {A : Type 0} (n : ℕ) (kind : FieldKind A) : Type 0 whe
 
 -- ---- what a field says
 
-pub at_own : {A : Type 0} (says : Payload → Option A) (n : ℕ) (payload : Payload) (raw : List ℕ) → at says n (carrying n payload raw) ≡ says payload
+pub at_own : {A : Type 0} (says : Payload → Option A) (n : ℕ) (payload : Payload) (raw : List ℕ) → value_under says n (carrying n payload raw) ≡ says payload
 at_own says n payload raw = rw (eq-eqb n n refl) refl
 
 number_of : {A : Type 0} (n number : ℕ) (o : Option A) (b : Bool) → (number == n) ≡ b → is_some (cond b o None) ≡ true → number ≡ n
 number_of n number o true e h = eqb-true number n e
 number_of n number o false e h = absurd cc
 
-pub at_number : {A : Type 0} (says : Payload → Option A) (n : ℕ) (field : Field) → is_some (at says n field) ≡ true → field.number ≡ n
+pub at_number : {A : Type 0} (says : Payload → Option A) (n : ℕ) (field : Field) → is_some (value_under says n field) ≡ true → field.number ≡ n
 at_number says n field h = number_of n field.number (says field.payload) (field.number == n) refl h
 
 said_of : {A : Type 0} (o : Option A) (b : Bool) (x : A) → cond b o None ≡ Some x → o ≡ Some x
 said_of o true x e = e
 said_of o false x e = absurd cc
 
-at_says : {A : Type 0} (says : Payload → Option A) (n : ℕ) (field : Field) (x : A) → at says n field ≡ Some x → says field.payload ≡ Some x
+at_says : {A : Type 0} (says : Payload → Option A) (n : ℕ) (field : Field) (x : A) → value_under says n field ≡ Some x → says field.payload ≡ Some x
 at_says says n field x e = said_of (says field.payload) (field.number == n) x e
 
 -- ---- scalars
 
 -- what the last one says is said by some payload
-last_holds : {A : Type 0} (says : Payload → Option A) (n : ℕ) (P : A → Type 0) → ((field : Field) (x : A) → WasRead field → says field.payload ≡ Some x → P x) → (fields : List Field) (before : Option A) (x : A) → ((y : A) → before ≡ Some y → P y) → AllByRecursion WasRead fields → last_or before (filter_map (at says n) fields) ≡ Some x → P x
+last_holds : {A : Type 0} (says : Payload → Option A) (n : ℕ) (P : A → Type 0) → ((field : Field) (x : A) → WasRead field → says field.payload ≡ Some x → P x) → (fields : List Field) (before : Option A) (x : A) → ((y : A) → before ≡ Some y → P y) → AllByRecursion WasRead fields → last_or before (filter_map (value_under says n) fields) ≡ Some x → P x
 last_holds says n P holds [] before x first each e = first x e
 last_holds {A} says n P holds (field ∷ fields) before x first each e =
-    step (at says n field) refl (λ now known h. last_holds says n P holds fields now x known each.1 h) e
+    step (value_under says n field) refl (λ now known h. last_holds says n P holds fields now x known each.1 h) e
   where
-    step : (o : Option A) → at says n field ≡ o → ((now : Option A) → ((y : A) → now ≡ Some y → P y) → last_or now (filter_map (at says n) fields) ≡ Some x → P x) → last_or before (filter_map (at says n) (field ∷ fields)) ≡ Some x → P x
-    step None is rest e = rest before first (rw is at e)
-    step (Some y) is rest e = rest (Some y) (λ z now. holds field z each.0 (at_says says n field z (is ∙ now))) (rw is at e)
+    step : (o : Option A) → value_under says n field ≡ o → ((now : Option A) → ((y : A) → now ≡ Some y → P y) → last_or now (filter_map (value_under says n) fields) ≡ Some x → P x) → last_or before (filter_map (value_under says n) (field ∷ fields)) ≡ Some x → P x
+    step None is rest e = rest before first (rw is value_under e)
+    step (Some y) is rest e = rest (Some y) (λ z now. holds field z each.0 (at_says says n field z (is ∙ now))) (rw is value_under e)
 
-last_same : {A : Type 0} (says : Payload → Option A) (n : ℕ) (fields others : List Field) → filter (λ field. is_some (at says n field)) fields ≡ filter (λ field. is_some (at says n field)) others → last_of says n fields ≡ last_of says n others
+last_same : {A : Type 0} (says : Payload → Option A) (n : ℕ) (fields others : List Field) → filter (λ field. is_some (value_under says n field)) fields ≡ filter (λ field. is_some (value_under says n field)) others → last_of says n fields ≡ last_of says n others
 unfolding last_of
-last_same says n fields others e = ap (λ xs. last_or None xs) (said_same (at says n) fields others e)
+last_same says n fields others e = ap (λ xs. last_or None xs) (said_same (value_under says n) fields others e)
 
 last_none : {A : Type 0} (says : Payload → Option A) (n : ℕ) → last_of says n [] ≡ None
 unfolding last_of
@@ -222,8 +222,8 @@ text_is name n None x e = absurd (cc)
 text_is name n (Some bytes) x e = tested (is_utf8 bytes) refl e
   where
     tested : (b : Bool) → is_utf8 bytes ≡ b → as_text name n (Some bytes) ≡ Ok (Some x) → is_utf8 x ≡ true
-    tested true is e = let f = rw is at e in let same : bytes ≡ x = cc in rw (← same) is
-    tested false is e = let f = rw is at e in absurd (cc)
+    tested true is e = let f = rw is value_under e in let same : bytes ≡ x = cc in rw (← same) is
+    tested false is e = let f = rw is value_under e in absurd (cc)
 
 text_again : (name : Kind) (n : ℕ) (x : List ℕ) → is_utf8 x ≡ true → as_text name n (Some x) ≡ Ok (Some x)
 text_again name n x e = rw e refl
@@ -239,16 +239,16 @@ text_lawful n =
       back = λ name fields x raw each e small. rw (last_own span_in n (Span x) raw x refl) (text_again name n x (text_is name n (last_of span_in n fields) x e));
     }
 
-pub occurring_same : {A : Type 0} (says : Payload → Option A) (n : ℕ) (fields others : List Field) → filter (λ field. is_some (at says n field)) fields ≡ filter (λ field. is_some (at says n field)) others → occurring says n fields ≡ occurring says n others
-unfolding occurring
-occurring_same says n fields others e = said_same (at says n) fields others e
+pub occurring_same : {A : Type 0} (says : Payload → Option A) (n : ℕ) (fields others : List Field) → filter (λ field. is_some (value_under says n field)) fields ≡ filter (λ field. is_some (value_under says n field)) others → occurrences_of says n fields ≡ occurrences_of says n others
+unfolding occurrences_of
+occurring_same says n fields others e = said_same (value_under says n) fields others e
 
-pub occurring_none : {A : Type 0} (says : Payload → Option A) (n : ℕ) → occurring says n [] ≡ []
-unfolding occurring
+pub occurring_none : {A : Type 0} (says : Payload → Option A) (n : ℕ) → occurrences_of says n [] ≡ []
+unfolding occurrences_of
 occurring_none says n = refl
 
-pub occurring_own : {A : Type 0} (says : Payload → Option A) (n : ℕ) (payload : Payload) (raw : List ℕ) (x : A) (fields : List Field) → says payload ≡ Some x → occurring says n (carrying n payload raw ∷ fields) ≡ x ∷ occurring says n fields
-unfolding occurring
+pub occurring_own : {A : Type 0} (says : Payload → Option A) (n : ℕ) (payload : Payload) (raw : List ℕ) (x : A) (fields : List Field) → says payload ≡ Some x → occurrences_of says n (carrying n payload raw ∷ fields) ≡ x ∷ occurrences_of says n fields
+unfolding occurrences_of
 occurring_own says n payload raw x fields e = rw (at_own says n payload raw, e) refl
 
 span_carries : (payload : Payload) (bytes : List ℕ) → CarriesBytes payload → span_in payload ≡ Some bytes → AreBytes bytes
@@ -259,26 +259,26 @@ span_carries (Four n) bytes h e = absurd (cc)
 span_carries Group bytes h e = absurd (cc)
 
 -- the runs of bytes that were read are bytes
-pub occurring_bytes : (n : ℕ) (fields : List Field) → AllByRecursion WasRead fields → AllByRecursion AreBytes (occurring span_in n fields)
-unfolding occurring
+pub occurring_bytes : (n : ℕ) (fields : List Field) → AllByRecursion WasRead fields → AllByRecursion AreBytes (occurrences_of span_in n fields)
+unfolding occurrences_of
 occurring_bytes n [] each = tt
-occurring_bytes n (field ∷ fields) each = step (at span_in n field) refl (occurring_bytes n fields each.1)
+occurring_bytes n (field ∷ fields) each = step (value_under span_in n field) refl (occurring_bytes n fields each.1)
   where
-    step : (o : Option (List ℕ)) → at span_in n field ≡ o → AllByRecursion AreBytes (filter_map (at span_in n) fields) → AllByRecursion AreBytes (filter_map (at span_in n) (field ∷ fields))
+    step : (o : Option (List ℕ)) → value_under span_in n field ≡ o → AllByRecursion AreBytes (filter_map (value_under span_in n) fields) → AllByRecursion AreBytes (filter_map (value_under span_in n) (field ∷ fields))
     step None is rest = rw is rest
     step (Some bytes) is rest = rw is (span_carries field.payload bytes each.0.carried (at_says span_in n field bytes is), rest)
 
-merged_none : {M : Type 0} (m : Message M) → merged m [] ≡ Ok None
-unfolding merged
+merged_none : {M : Type 0} (m : Message M) → merged_message m [] ≡ Ok None
+unfolding merged_message
 merged_none m = refl
 
-merged_is : {M : Type 0} (m : Message M) (payloads : List (List ℕ)) (x : M) → merged m payloads ≡ Ok (Some x) → value m payloads ≡ Ok x
-unfolding merged
+merged_is : {M : Type 0} (m : Message M) (payloads : List (List ℕ)) (x : M) → merged_message m payloads ≡ Ok (Some x) → value m payloads ≡ Ok x
+unfolding merged_message
 merged_is m [] x e = absurd (cc)
 merged_is m (bytes ∷ more) x e = let h = bind_ok (value m (bytes ∷ more)) (λ y. Ok (Some y)) (Some x) e in let same : h.0 ≡ x = cc in h.1 ∙ ap Ok same
 
-merged_again : {M : Type 0} (m : Message M) (bytes : List ℕ) (x : M) → value m (bytes ∷ []) ≡ Ok x → merged m (bytes ∷ []) ≡ Ok (Some x)
-unfolding merged
+merged_again : {M : Type 0} (m : Message M) (bytes : List ℕ) (x : M) → value m (bytes ∷ []) ≡ Ok x → merged_message m (bytes ∷ []) ≡ Ok (Some x)
+unfolding merged_message
 merged_again m bytes x e = rw e refl
 
 -- a message in a field, if it is read again itself
@@ -286,11 +286,11 @@ pub embedded_lawful : {M : Type 0} (n : ℕ) (m : Message M) → Rereads m → I
 embedded_lawful n m rereads =
     record {
       numbered = λ field h. at_number span_in n field h;
-      same = λ name fields others e. ap (λ payloads. merged m payloads) (occurring_same span_in n fields others e);
+      same = λ name fields others e. ap (λ payloads. merged_message m payloads) (occurring_same span_in n fields others e);
       none = λ name. rw (occurring_none span_in n) (merged_none m);
-      knows = λ x raw. rw (at_own span_in n (Span (written m x)) raw) refl;
-      fits = λ name fields x each e small. span_fits (written m x) small;
+      knows = λ x raw. rw (at_own span_in n (Span (message_bytes m x)) raw) refl;
+      fits = λ name fields x each e small. span_fits (message_bytes m x) small;
       back = λ name fields x raw each e small.
-          rw (occurring_own span_in n (Span (written m x)) raw (written m x) [] refl, occurring_none span_in n)
-          (merged_again m (written m x) x (rereads (occurring span_in n fields) x (occurring_bytes n fields each) (merged_is m (occurring span_in n fields) x e) (span_fits (written m x) small)));
+          rw (occurring_own span_in n (Span (message_bytes m x)) raw (message_bytes m x) [] refl, occurring_none span_in n)
+          (merged_again m (message_bytes m x) x (rereads (occurrences_of span_in n fields) x (occurring_bytes n fields each) (merged_is m (occurrences_of span_in n fields) x e) (span_fits (message_bytes m x) small)));
     }

@@ -9,7 +9,7 @@ use Rattle.std.proofs.lemmas.List.{reverse-append}
 use Rattle.std.proofs.lemmas.List.Folds.{list_any-append}
 use Rattle.std.proofs.lemmas.Grind.{flat_map-append}
 use Rattle.rt_types.specs.declared.message.FeedMessage.{FeedMessage}
-use Rattle.feed_defs.specs.History.{Change, is_full, since_full, changes_in, changes_of, listed}
+use Rattle.feed_defs.specs.History.{Change, is_full, since_full, changes_in, changes_of, changes_by_id}
 
 -- a whole data set begins anew, and any other message goes on
 pub since_full-append : (ms : List FeedMessage) (m : FeedMessage) → since_full (ms ++ m ∷ []) ≡ (if is_full m then m ∷ [] else since_full ms ++ m ∷ [])
@@ -39,6 +39,6 @@ changes_of-append ms m = ap (flat_map changes_in) (since_full-append ms m) ∙ b
     by_kind false = flat_map-append changes_in (since_full ms) (m ∷ []) ∙ ap (λ xs. changes_of ms ++ xs) (append-nil (changes_in m))
 
 -- the last change of each id, with one change more
-pub listed-append : (changes : List Change) (c : Change) → listed (reverse (changes ++ c ∷ [])) ≡ put (slice_cmp nat_cmp) c.0 c.1 (listed (reverse changes))
-unfolding listed
-listed-append changes c = ap listed (reverse-append changes (c ∷ []))
+pub listed-append : (changes : List Change) (c : Change) → changes_by_id (reverse (changes ++ c ∷ [])) ≡ put (slice_cmp nat_cmp) c.0 c.1 (changes_by_id (reverse changes))
+unfolding changes_by_id
+listed-append changes c = ap changes_by_id (reverse-append changes (c ∷ []))

@@ -15,7 +15,7 @@ use Rattle.std.proofs.lemmas.List.{reverse-append}
 use Rattle.std.proofs.lemmas.Map.Text.{is_eq-slice_cmp}
 use Rattle.feed_defs.specs.declared.history.Stored.{Stored}
 use Rattle.rt_types.specs.declared.message.FeedMessage.{FeedMessage}
-use Rattle.feed_defs.specs.History.{Change, is_kept, last_said, kept_of, entity_at, changes_of, listed, held}
+use Rattle.feed_defs.specs.History.{Change, is_kept, last_said, kept_of, entity_at, changes_of, changes_by_id, entities_of}
 
 abbrev pub id_cmp : List ℕ → List ℕ → Ordering
 id_cmp = slice_cmp nat_cmp
@@ -25,16 +25,16 @@ abbrev or_else : {A : Type 0} → Option A → Option A → Option A
 or_else None y = y
 or_else (Some x) y = Some x
 
-find_append : (q : List ℕ) (xs ys : List Change) → find id_cmp q (listed (xs ++ ys)) ≡ or_else (find id_cmp q (listed xs)) (find id_cmp q (listed ys))
-unfolding listed
+find_append : (q : List ℕ) (xs ys : List Change) → find id_cmp q (changes_by_id (xs ++ ys)) ≡ or_else (find id_cmp q (changes_by_id xs)) (find id_cmp q (changes_by_id ys))
+unfolding changes_by_id
 find_append q [] ys = refl
 find_append q (x ∷ xs) ys =
-    find-put id_cmp nat_list_cmp_total q x.0 x.1 (listed (xs ++ ys))
+    find-put id_cmp nat_list_cmp_total q x.0 x.1 (changes_by_id (xs ++ ys))
     ∙ by_tie (eq_by_cmp id_cmp q x.0) (find_append q xs ys)
-    ∙ ap (λ o. or_else o (find id_cmp q (listed ys))) (sym (find-put id_cmp nat_list_cmp_total q x.0 x.1 (listed xs)))
+    ∙ ap (λ o. or_else o (find id_cmp q (changes_by_id ys))) (sym (find-put id_cmp nat_list_cmp_total q x.0 x.1 (changes_by_id xs)))
   where
-    by_tie : (b : Bool) → find id_cmp q (listed (xs ++ ys)) ≡ or_else (find id_cmp q (listed xs)) (find id_cmp q (listed ys))
-        → cond b (Some x.1) (find id_cmp q (listed (xs ++ ys))) ≡ or_else (cond b (Some x.1) (find id_cmp q (listed xs))) (find id_cmp q (listed ys))
+    by_tie : (b : Bool) → find id_cmp q (changes_by_id (xs ++ ys)) ≡ or_else (find id_cmp q (changes_by_id xs)) (find id_cmp q (changes_by_id ys))
+        → cond b (Some x.1) (find id_cmp q (changes_by_id (xs ++ ys))) ≡ or_else (cond b (Some x.1) (find id_cmp q (changes_by_id xs))) (find id_cmp q (changes_by_id ys))
     by_tie true e = refl
     by_tie false e = e
 
@@ -51,13 +51,13 @@ map_or_else None b = refl
 map_or_else (Some a) b = refl
 
 -- the last change of an id is the one that the list has
-found_last : (q : List ℕ) (cs : List Change) → find id_cmp q (listed (reverse cs)) ≡ option_map (λ c. c.1) (last_said q cs)
-unfolding listed
+found_last : (q : List ℕ) (cs : List Change) → find id_cmp q (changes_by_id (reverse cs)) ≡ option_map (λ c. c.1) (last_said q cs)
+unfolding changes_by_id
 found_last q [] = refl
 found_last q (c ∷ cs) =
-    ap (λ xs. find id_cmp q (listed xs)) (reverse-append (c ∷ []) cs)
+    ap (λ xs. find id_cmp q (changes_by_id xs)) (reverse-append (c ∷ []) cs)
     ∙ find_append q (reverse cs) (c ∷ [])
-    ∙ ap (λ o. or_else o (find id_cmp q (listed (c ∷ [])))) (found_last q cs)
+    ∙ ap (λ o. or_else o (find id_cmp q (changes_by_id (c ∷ [])))) (found_last q cs)
     ∙ ap (λ b. or_else (option_map (λ x. x.1) (last_said q cs)) (cond b (Some c.1) None)) (is_eq-slice_cmp q c.0)
     ∙ by_id (bytes_eq q c.0)
   where
@@ -80,10 +80,10 @@ pub right : (a b : Bool) → T (a && b) → T b
 right true b p = p
 right false b p = absurd p
 
-pub listed_sorted : (cs : List Change) → T (is_sorted id_cmp (listed cs))
-unfolding listed
+pub listed_sorted : (cs : List Change) → T (is_sorted id_cmp (changes_by_id cs))
+unfolding changes_by_id
 listed_sorted [] = tt
-listed_sorted (c ∷ cs) = is_sorted-put id_cmp nat_list_cmp_total c.0 c.1 (listed cs) (listed_sorted cs)
+listed_sorted (c ∷ cs) = is_sorted-put id_cmp nat_list_cmp_total c.0 c.1 (changes_by_id cs) (listed_sorted cs)
 
 less_not_equal : (o : Ordering) → T (is_lt o) → is_eq o ≡ false
 less_not_equal Less p = refl
@@ -123,10 +123,10 @@ find_kept q (e ∷ es) h = by_tie (find_kept q es (right _ _ h)) (eq_by_cmp id_c
     by_tie rest false tie false kept = rest
 
 -- What a feed holds is, under each id, just what is said of that id last.
-pub held_is : (ms : List FeedMessage) (id : List ℕ) → find (slice_cmp nat_cmp) id (held ms) ≡ entity_at ms id
-unfolding held
+pub held_is : (ms : List FeedMessage) (id : List ℕ) → find (slice_cmp nat_cmp) id (entities_of ms) ≡ entity_at ms id
+unfolding entities_of
 held_is ms id =
-    find_kept id (listed (reverse (changes_of ms))) (listed_sorted (reverse (changes_of ms)))
+    find_kept id (changes_by_id (reverse (changes_of ms))) (listed_sorted (reverse (changes_of ms)))
     ∙ ap kept_stored (found_last id (changes_of ms))
     ∙ by_said (last_said id (changes_of ms))
   where

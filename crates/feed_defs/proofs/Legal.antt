@@ -8,9 +8,9 @@ use Rattle.std.proofs.lemmas.List.Folds.{list_all-append}
 use Rattle.std.proofs.lemmas.Bool.Decides.{nat_tests}
 use Rattle.rt_types.specs.declared.message.FeedMessage.{FeedMessage}
 use Rattle.feed_defs.specs.declared.history.Entry.{Entry}
-use Rattle.feed_defs.specs.History.{Refusal, message_of, messages_of, stamps_of, stamp_of, last_stamp, is_rising, has_version, has_moment, is_sound, sound, is_legal_entry, if_read, well_formed, newer, judged, IsLegal, longest_message}
+use Rattle.feed_defs.specs.History.{Refusal, message_of, messages_of, stamps_of, stamp_of, last_stamp, is_rising, has_version, has_moment, is_sound, sound, is_legal_entry, if_read, well_formed, newer, judgement_of, IsLegal, longest_message}
 use Rattle.feed_defs.specs.History.Refusal.{TooLong, Stale}
-use Rattle.wire_defs.specs.Steps.{◌>>=◌}
+use Rattle.answer_defs.specs.Steps.{◌>>=◌}
 use Rattle.feed_defs.specs.Rows.{Fault}
 use Rattle.feed_defs.specs.Table.{read}
 
@@ -106,7 +106,7 @@ well_formed-sound bytes m = by_length (nat_lt longest_message (length bytes)) (r
     by_length true r e = cc
     by_length false r e = by_read r e
 
-pub judged-newer : (last : ℕ) (bytes : List ℕ) (m : FeedMessage) → judged last bytes ≡ Ok m → IsNewer last m
+pub judged-newer : (last : ℕ) (bytes : List ℕ) (m : FeedMessage) → judgement_of last bytes ≡ Ok m → IsNewer last m
 judged-newer last bytes m = by_form (well_formed bytes) refl
   where
     by_stamp : (x : FeedMessage) (b : Bool) → nat_lt last (stamp_of x) ≡ b → is_sound x ≡ true → (let r : Result FeedMessage Refusal = if b then Ok x else Err (Stale last (stamp_of x)) in r) ≡ Ok m → IsNewer last m

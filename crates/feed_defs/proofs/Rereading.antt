@@ -18,15 +18,15 @@ use Rattle.rt_types.specs.declared.enums.Cause.TheVariants as cause_value
 use Rattle.rt_types.specs.declared.enums.Effect.{Effect}
 use Rattle.rt_types.specs.declared.enums.Effect.TheVariants as effect_value
 use Rattle.rt_types.specs.declared.message.FeedMessage.{FeedMessage}
-use Rattle.wire_defs.specs.Steps.{◌>>=◌}
+use Rattle.answer_defs.specs.Steps.{◌>>=◌}
 use Rattle.wire_defs.specs.Field.{Field, Fault as WireFault}
 use Rattle.wire_defs.specs.Spelling.{IsField}
 use Rattle.wire_defs.specs.Reading.{fields_of}
-use Rattle.wire_defs.specs.Writing.{Written, spelled}
+use Rattle.wire_defs.specs.Writing.{Written, field_bytes}
 use Rattle.wire_defs.proofs.Bytes.{AreBytes}
-use Rattle.wire_defs.proofs.Steps.{bind_ok, ok_is}
+use Rattle.answer_defs.proofs.Steps.{bind_ok, ok_is}
 use Rattle.wire_defs.proofs.Again.{IsInRange, IsSpellable, WasRead, as_field, found_again, were_read, AllByRecursion-filter}
-use Rattle.feed_defs.specs.Rows.{Fault, fault, wire_what, Message, Shape, Rows, fields_in, others, joined, value, written, message, text, u32, u64, i32, i64, degrees, bool, embedded, optional, required, repeated, numbered, ◌⊕◌}
+use Rattle.feed_defs.specs.Rows.{Fault, fault, wire_what, Message, Shape, Rows, fields_in, unknown_bytes_of, fields_of_all, value, message_bytes, message, text, u32, u64, i32, i64, degrees, bool, embedded, optional, required, repeated, numbered, ◌⊕◌}
 use Rattle.feed_defs.specs.Enums.{incrementality_named, incrementality_number, incrementality, stop_relation_named, stop_relation_number, stop_relation, trip_relation_named, trip_relation_number, trip_relation, stop_status_named, stop_status_number, stop_status, cause_named, cause_number, cause, effect_named, effect_number, effect}
 use Rattle.feed_defs.specs.Table.{trip_descriptor_shape, trip_descriptor, vehicle_descriptor_shape, vehicle_descriptor, stop_time_event_shape, stop_time_event, stop_time_properties_shape, stop_time_properties, stop_time_update_shape, stop_time_update, trip_update_shape, trip_update, position_shape, position, vehicle_position_shape, vehicle_position, time_range_shape, time_range, entity_selector_shape, entity_selector, translation_shape, translation, translated_string_shape, translated_string, alert_shape, alert, header_shape, header, entity_shape, entity, feed_shape, feed, read, write}
 use Rattle.feed_defs.proofs.Sifted.{each_then, each_append, filter_none, filter_failing, filter_passing}
@@ -49,18 +49,18 @@ fields_are kind bytes fields e = told_fields kind (fields_of bytes) fields e
 fields_again : (kind : Kind) (bytes : List ℕ) (fields : List Field) → fields_of bytes ≡ Ok fields → fields_in kind bytes ≡ Ok fields
 fields_again kind bytes fields e = ap (λ r. named_fault kind r) e
 
-joined_were_read : (kind : Kind) (payloads : List (List ℕ)) (fields : List Field) → AllByRecursion AreBytes payloads → joined kind payloads ≡ Ok fields → AllByRecursion WasRead fields
-unfolding joined
+joined_were_read : (kind : Kind) (payloads : List (List ℕ)) (fields : List Field) → AllByRecursion AreBytes payloads → fields_of_all kind payloads ≡ Ok fields → AllByRecursion WasRead fields
+unfolding fields_of_all
 joined_were_read kind [] fields each e = let none : [] ≡ fields = cc in subst (AllByRecursion WasRead) none tt
 joined_were_read kind (bytes ∷ more) fields each e =
-    let first = bind_ok (fields_in kind bytes) (λ xs. joined kind more >>= λ ys. Ok (xs ++ ys)) fields e in
-    let rest = bind_ok (joined kind more) (λ ys. Ok (first.0 ++ ys)) fields first.2 in
+    let first = bind_ok (fields_in kind bytes) (λ xs. fields_of_all kind more >>= λ ys. Ok (xs ++ ys)) fields e in
+    let rest = bind_ok (fields_of_all kind more) (λ ys. Ok (first.0 ++ ys)) fields first.2 in
     let same : first.0 ++ rest.0 ≡ fields = cc in
     subst (AllByRecursion WasRead) same
     (each_append WasRead first.0 rest.0 (were_read bytes first.0 each.0 (fields_are kind bytes first.0 first.1)) (joined_were_read kind more rest.0 each.1 rest.1))
 
 value_single : {M : Type 0} (m : Message M) (bytes : List ℕ) (fields : List Field) → fields_of bytes ≡ Ok fields → value m (bytes ∷ []) ≡ m.of_fields fields
-unfolding value joined
+unfolding value fields_of_all
 value_single m bytes fields h = rw (fields_again m.kind bytes fields h, append-nil) refl
 
 -- ---- one message
@@ -75,8 +75,8 @@ keeps_known : (known : Field → Bool) (front fields : List Field) → filter kn
 keeps_known known front fields =
     filter-append known front (filter (λ field. not (known field)) fields) ∙ ap (λ rest. filter known front ++ rest) (filter_failing known fields) ∙ append-nil _
 
-keeps_others : (known : Field → Bool) (ws : List Written) (fields : List Field) → AllByRecursion (λ w. known (as_field w) ≡ true) ws → others known (map as_field ws ++ filter (λ field. not (known field)) fields) ≡ others known fields
-unfolding others
+keeps_others : (known : Field → Bool) (ws : List Written) (fields : List Field) → AllByRecursion (λ w. known (as_field w) ≡ true) ws → unknown_bytes_of known (map as_field ws ++ filter (λ field. not (known field)) fields) ≡ unknown_bytes_of known fields
+unfolding unknown_bytes_of
 keeps_others known ws fields each =
     ap (λ kept. flat_map (λ field. field.raw) kept)
     (filter-append (λ field. not (known field)) (map as_field ws) (filter (λ field. not (known field)) fields)
@@ -88,17 +88,17 @@ keeps_others known ws fields each =
 abbrev pub Holds : {M V : Type 0} → Shape M V → Type 0
 Holds {M} {V} shape = (v : V) (unknown : List ℕ) → (shape.values (shape.make v unknown) ≡ v) × (shape.unknown (shape.make v unknown) ≡ unknown)
 
-written_is : {M V : Type 0} (shape : Shape M V) → Holds shape → (v : V) (fields : List Field) → written (message shape) (shape.make v (others shape.rows.is_known fields)) ≡ flat_map spelled (shape.rows.write v) ++ flat_map (λ field. field.raw) (filter (λ field. not (shape.rows.is_known field)) fields)
-unfolding written others
-written_is shape holds v fields = rw ((holds v (others shape.rows.is_known fields)).0, (holds v (others shape.rows.is_known fields)).1) refl
+written_is : {M V : Type 0} (shape : Shape M V) → Holds shape → (v : V) (fields : List Field) → message_bytes (message shape) (shape.make v (unknown_bytes_of shape.rows.is_known fields)) ≡ flat_map field_bytes (shape.rows.write v) ++ flat_map (λ field. field.raw) (filter (λ field. not (shape.rows.is_known field)) fields)
+unfolding message_bytes unknown_bytes_of
+written_is shape holds v fields = rw ((holds v (unknown_bytes_of shape.rows.is_known fields)).0, (holds v (unknown_bytes_of shape.rows.is_known fields)).1) refl
 
-remade : {M V : Type 0} (shape : Shape M V) (low high : ℕ) → IsLawful low high shape.rows → 1 ≤ low → high ≤ 536870911 → Holds shape → (fields : List Field) (v : V) → AllByRecursion WasRead fields → shape.rows.read shape.kind fields ≡ Ok (Ok v) → length (written (message shape) (shape.make v (others shape.rows.is_known fields))) < 2 ^ 64 → value (message shape) (written (message shape) (shape.make v (others shape.rows.is_known fields)) ∷ []) ≡ Ok (shape.make v (others shape.rows.is_known fields))
+remade : {M V : Type 0} (shape : Shape M V) (low high : ℕ) → IsLawful low high shape.rows → 1 ≤ low → high ≤ 536870911 → Holds shape → (fields : List Field) (v : V) → AllByRecursion WasRead fields → shape.rows.read shape.kind fields ≡ Ok (Ok v) → length (message_bytes (message shape) (shape.make v (unknown_bytes_of shape.rows.is_known fields))) < 2 ^ 64 → value (message shape) (message_bytes (message shape) (shape.make v (unknown_bytes_of shape.rows.is_known fields)) ∷ []) ≡ Ok (shape.make v (unknown_bytes_of shape.rows.is_known fields))
 remade shape low high law l h holds fields v were e small =
     let unknown : List Field = filter (λ field. not (shape.rows.is_known field)) fields in
     let known = law.knows v in
     let is = written_is shape holds v fields in
-    let whole : length (flat_map spelled (shape.rows.write v) ++ flat_map (λ field. field.raw) unknown) < 2 ^ 64 = rw is at small in
-    let short : length (flat_map spelled (shape.rows.write v)) < 2 ^ 64 = omega (arith, length-append (flat_map spelled (shape.rows.write v)) (flat_map (λ field. field.raw) unknown), whole) in
+    let whole : length (flat_map field_bytes (shape.rows.write v) ++ flat_map (λ field. field.raw) unknown) < 2 ^ 64 = rw is at small in
+    let short : length (flat_map field_bytes (shape.rows.write v)) < 2 ^ 64 = omega (arith, length-append (flat_map field_bytes (shape.rows.write v)) (flat_map (λ field. field.raw) unknown), whole) in
     let spellable = all_spellable low high shape.rows law l h (shape.rows.write v) known (law.fits shape.kind fields v were e short) in
     let stood : AllByRecursion IsField unknown = AllByRecursion-filter IsField (λ field. not (shape.rows.is_known field)) fields (each_then (λ field was. was.is) fields were) in
     let found = found_again (shape.rows.write v) unknown spellable stood in
@@ -109,11 +109,11 @@ remade shape low high law l h holds fields v were e small =
 pub message_rereads : {M V : Type 0} (shape : Shape M V) (low high : ℕ) → IsLawful low high shape.rows → 1 ≤ low → high ≤ 536870911 → Holds shape → Rereads (message shape)
 unfolding value
 message_rereads {M} {V} shape low high law l h holds payloads x each e small =
-    let found = bind_ok (joined shape.kind payloads) (message shape).of_fields x e in
-    let told = bind_ok (shape.rows.read shape.kind found.0) (λ told. told >>= λ v. Ok (shape.make v (others shape.rows.is_known found.0))) x found.2 in
-    let made = bind_ok told.0 (λ v. Ok (shape.make v (others shape.rows.is_known found.0))) x told.2 in
-    let same : shape.make made.0 (others shape.rows.is_known found.0) ≡ x = ok_is _ _ made.2 in
-    let P : M → Type 0 = λ y. length (written (message shape) y) < 2 ^ 64 → value (message shape) (written (message shape) y ∷ []) ≡ Ok y in
+    let found = bind_ok (fields_of_all shape.kind payloads) (message shape).of_fields x e in
+    let told = bind_ok (shape.rows.read shape.kind found.0) (λ told. told >>= λ v. Ok (shape.make v (unknown_bytes_of shape.rows.is_known found.0))) x found.2 in
+    let made = bind_ok told.0 (λ v. Ok (shape.make v (unknown_bytes_of shape.rows.is_known found.0))) x told.2 in
+    let same : shape.make made.0 (unknown_bytes_of shape.rows.is_known found.0) ≡ x = ok_is _ _ made.2 in
+    let P : M → Type 0 = λ y. length (message_bytes (message shape) y) < 2 ^ 64 → value (message shape) (message_bytes (message shape) y ∷ []) ≡ Ok y in
     subst P same (remade shape low high law l h holds found.0 made.0 (joined_were_read shape.kind payloads found.0 each found.1) (told.1 ∙ ap Ok made.1)) small
 
 -- ---- the messages of the table

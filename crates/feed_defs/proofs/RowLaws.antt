@@ -6,14 +6,14 @@ use Rattle.std.proofs.lemmas.Grind.{flat_map-append}
 use Rattle.std.proofs.lemmas.List.{length-append, map-append}
 use Rattle.std.proofs.lemmas.List.Elements.{filter-append}
 use Rattle.rt_types.specs.declared.fault.Kind.{Kind}
-use Rattle.wire_defs.specs.Steps.{◌>>=◌}
+use Rattle.answer_defs.specs.Steps.{◌>>=◌}
 use Rattle.wire_defs.specs.Field.{Field, tag_of}
 use Rattle.wire_defs.specs.Field.Payload.{Span}
-use Rattle.wire_defs.specs.Writing.{Written, varint, payload_bytes, spelled}
+use Rattle.wire_defs.specs.Writing.{Written, varint, payload_bytes, field_bytes}
 use Rattle.wire_defs.proofs.Bytes.{AreBytes}
-use Rattle.wire_defs.proofs.Steps.{bind_ok}
+use Rattle.answer_defs.proofs.Steps.{bind_ok}
 use Rattle.wire_defs.proofs.Again.{IsInRange, WasRead, as_field}
-use Rattle.feed_defs.specs.Rows.{Fault, Message, FieldKind, Rows, at, occurring, span_in, value, written, values, placed, numbered_values, optional, required, needed, repeated, numbered, write_if, write_all, both, ◌⊕◌}
+use Rattle.feed_defs.specs.Rows.{Fault, Message, FieldKind, Rows, value_under, occurrences_of, span_in, value, message_bytes, values, with_entity_number, numbered_values, optional, required, required_value, repeated, numbered, write_if, write_all, both, ◌⊕◌}
 use Rattle.feed_defs.proofs.Sifted.{each_then, each_append, filter_none, same_within}
 use Rattle.feed_defs.proofs.FieldKinds.{Rereads, IsLawfulKind, at_number, at_own, span_fits, occurring_same, occurring_none, occurring_own, occurring_bytes}
 
@@ -26,15 +26,15 @@ pub record IsLawful {V : Type 0} (low high : ℕ) (rows : Rows V) : Type 0 where
   -- they know what they write
   pub knows : (v : V) → AllByRecursion (λ w. rows.is_known (as_field w) ≡ true) (rows.write v)
   -- what was read can be written
-  pub fits : (name : Kind) (fields : List Field) (v : V) → AllByRecursion WasRead fields → rows.read name fields ≡ Ok (Ok v) → length (flat_map spelled (rows.write v)) < 2 ^ 64 → AllByRecursion (λ w. IsInRange w.payload) (rows.write v)
+  pub fits : (name : Kind) (fields : List Field) (v : V) → AllByRecursion WasRead fields → rows.read name fields ≡ Ok (Ok v) → length (flat_map field_bytes (rows.write v)) < 2 ^ 64 → AllByRecursion (λ w. IsInRange w.payload) (rows.write v)
   -- and is then read again
-  pub back : (name : Kind) (fields : List Field) (v : V) → AllByRecursion WasRead fields → rows.read name fields ≡ Ok (Ok v) → length (flat_map spelled (rows.write v)) < 2 ^ 64 → rows.read name (map as_field (rows.write v)) ≡ Ok (Ok v)
+  pub back : (name : Kind) (fields : List Field) (v : V) → AllByRecursion WasRead fields → rows.read name fields ≡ Ok (Ok v) → length (flat_map field_bytes (rows.write v)) < 2 ^ 64 → rows.read name (map as_field (rows.write v)) ≡ Ok (Ok v)
 
 -- a payload is no longer than its field
-short_payload : (w : Written) (ws : List Written) → length (flat_map spelled (w ∷ ws)) < 2 ^ 64 → (length (payload_bytes w.payload) < 2 ^ 64) × (length (flat_map spelled ws) < 2 ^ 64)
-unfolding spelled
+short_payload : (w : Written) (ws : List Written) → length (flat_map field_bytes (w ∷ ws)) < 2 ^ 64 → (length (payload_bytes w.payload) < 2 ^ 64) × (length (flat_map field_bytes ws) < 2 ^ 64)
+unfolding field_bytes
 short_payload w ws small =
-    let whole = length-append (varint (tag_of w.number w.payload) ++ payload_bytes w.payload) (flat_map spelled ws) in
+    let whole = length-append (varint (tag_of w.number w.payload) ++ payload_bytes w.payload) (flat_map field_bytes ws) in
     let own = length-append (varint (tag_of w.number w.payload)) (payload_bytes w.payload) in
     (omega (arith, whole, own, small), omega (arith, whole, own, small))
 
@@ -61,18 +61,18 @@ optional_lawful {A} n kind law =
   where
     knows : (v : Option A) → AllByRecursion (λ w. kind.takes n (as_field w) ≡ true) (write_if n kind.write v)
     knows None = tt
-    knows (Some x) = (law.knows x (spelled (record { number = n; payload = kind.write x })), tt)
+    knows (Some x) = (law.knows x (field_bytes (record { number = n; payload = kind.write x })), tt)
 
-    fits : (name : Kind) (fields : List Field) (v : Option A) → AllByRecursion WasRead fields → (optional n kind).read name fields ≡ Ok (Ok v) → length (flat_map spelled (write_if n kind.write v)) < 2 ^ 64 → AllByRecursion (λ w. IsInRange w.payload) (write_if n kind.write v)
+    fits : (name : Kind) (fields : List Field) (v : Option A) → AllByRecursion WasRead fields → (optional n kind).read name fields ≡ Ok (Ok v) → length (flat_map field_bytes (write_if n kind.write v)) < 2 ^ 64 → AllByRecursion (λ w. IsInRange w.payload) (write_if n kind.write v)
     fits name fields None each e small = tt
     fits name fields (Some x) each e small = (law.fits name fields x each (option_is (kind.read name n fields) (Some x) e) (short_payload (record { number = n; payload = kind.write x }) [] small).0, tt)
 
-    back : (name : Kind) (fields : List Field) (v : Option A) → AllByRecursion WasRead fields → (optional n kind).read name fields ≡ Ok (Ok v) → length (flat_map spelled (write_if n kind.write v)) < 2 ^ 64 → (optional n kind).read name (map as_field (write_if n kind.write v)) ≡ Ok (Ok v)
+    back : (name : Kind) (fields : List Field) (v : Option A) → AllByRecursion WasRead fields → (optional n kind).read name fields ≡ Ok (Ok v) → length (flat_map field_bytes (write_if n kind.write v)) < 2 ^ 64 → (optional n kind).read name (map as_field (write_if n kind.write v)) ≡ Ok (Ok v)
     back name fields None each e small = rw (law.none name) refl
     back name fields (Some x) each e small =
-        rw (law.back name fields x (spelled (record { number = n; payload = kind.write x })) each (option_is (kind.read name n fields) (Some x) e) (short_payload (record { number = n; payload = kind.write x }) [] small).0) refl
+        rw (law.back name fields x (field_bytes (record { number = n; payload = kind.write x })) each (option_is (kind.read name n fields) (Some x) e) (short_payload (record { number = n; payload = kind.write x }) [] small).0) refl
 
-needed_is : {A : Type 0} (name : Kind) (n : ℕ) (r : Result (Option A) Fault) (v : A) → (r >>= λ x. Ok (needed name n x)) ≡ Ok (Ok v) → r ≡ Ok (Some v)
+needed_is : {A : Type 0} (name : Kind) (n : ℕ) (r : Result (Option A) Fault) (v : A) → (r >>= λ x. Ok (required_value name n x)) ≡ Ok (Ok v) → r ≡ Ok (Some v)
 needed_is name n (Ok None) v e = absurd (cc)
 needed_is name n (Ok (Some x)) v e = cc
 needed_is name n (Err f) v e = absurd (cc)
@@ -83,59 +83,59 @@ required_lawful {A} n kind law =
     record {
       ordered = omega arith;
       within = λ field h. is_exactly n field.number (law.numbered field h);
-      same = λ name fields others e. ap (λ r. r >>= λ x. Ok (needed name n x)) (law.same name fields others e);
-      knows = λ x. (law.knows x (spelled (record { number = n; payload = kind.write x })), tt);
+      same = λ name fields others e. ap (λ r. r >>= λ x. Ok (required_value name n x)) (law.same name fields others e);
+      knows = λ x. (law.knows x (field_bytes (record { number = n; payload = kind.write x })), tt);
       fits = λ name fields x each e small. (law.fits name fields x each (needed_is name n (kind.read name n fields) x e) (short_payload (record { number = n; payload = kind.write x }) [] small).0, tt);
       back = λ name fields x each e small.
-          rw (law.back name fields x (spelled (record { number = n; payload = kind.write x })) each (needed_is name n (kind.read name n fields) x e) (short_payload (record { number = n; payload = kind.write x }) [] small).0) refl;
+          rw (law.back name fields x (field_bytes (record { number = n; payload = kind.write x })) each (needed_is name n (kind.read name n fields) x e) (short_payload (record { number = n; payload = kind.write x }) [] small).0) refl;
     }
 
 -- ---- repeated fields
 
-write_all_known : {M : Type 0} (n : ℕ) (m : Message M) (xs : List M) → AllByRecursion (λ w. is_some (at span_in n (as_field w)) ≡ true) (write_all n m xs)
+write_all_known : {M : Type 0} (n : ℕ) (m : Message M) (xs : List M) → AllByRecursion (λ w. is_some (value_under span_in n (as_field w)) ≡ true) (write_all n m xs)
 write_all_known n m [] = tt
-write_all_known n m (x ∷ xs) = (rw (at_own span_in n (Span (written m x)) (spelled (record { number = n; payload = Span (written m x) }))) refl, write_all_known n m xs)
+write_all_known n m (x ∷ xs) = (rw (at_own span_in n (Span (message_bytes m x)) (field_bytes (record { number = n; payload = Span (message_bytes m x) }))) refl, write_all_known n m xs)
 
-write_all_fits : {M : Type 0} (n : ℕ) (m : Message M) (xs : List M) → length (flat_map spelled (write_all n m xs)) < 2 ^ 64 → AllByRecursion (λ w. IsInRange w.payload) (write_all n m xs)
+write_all_fits : {M : Type 0} (n : ℕ) (m : Message M) (xs : List M) → length (flat_map field_bytes (write_all n m xs)) < 2 ^ 64 → AllByRecursion (λ w. IsInRange w.payload) (write_all n m xs)
 write_all_fits n m [] small = tt
 write_all_fits n m (x ∷ xs) small =
-    let short = short_payload (record { number = n; payload = Span (written m x) }) (write_all n m xs) small in
-    (span_fits (written m x) short.0, write_all_fits n m xs short.1)
+    let short = short_payload (record { number = n; payload = Span (message_bytes m x) }) (write_all n m xs) small in
+    (span_fits (message_bytes m x) short.0, write_all_fits n m xs short.1)
 
-write_all_occurring : {M : Type 0} (n : ℕ) (m : Message M) (xs : List M) → occurring span_in n (map as_field (write_all n m xs)) ≡ map (λ x. written m x) xs
+write_all_occurring : {M : Type 0} (n : ℕ) (m : Message M) (xs : List M) → occurrences_of span_in n (map as_field (write_all n m xs)) ≡ map (λ x. message_bytes m x) xs
 write_all_occurring n m [] = occurring_none span_in n
 write_all_occurring n m (x ∷ xs) =
-    occurring_own span_in n (Span (written m x)) (spelled (record { number = n; payload = Span (written m x) })) (written m x) (map as_field (write_all n m xs)) refl
-    ∙ ap (λ rest. written m x ∷ rest) (write_all_occurring n m xs)
+    occurring_own span_in n (Span (message_bytes m x)) (field_bytes (record { number = n; payload = Span (message_bytes m x) })) (message_bytes m x) (map as_field (write_all n m xs)) refl
+    ∙ ap (λ rest. message_bytes m x ∷ rest) (write_all_occurring n m xs)
 
-placed_is : {M : Type 0} (k : ℕ) (r : Result M Fault) (x : M) → placed k r ≡ Ok x → r ≡ Ok x
+placed_is : {M : Type 0} (k : ℕ) (r : Result M Fault) (x : M) → with_entity_number k r ≡ Ok x → r ≡ Ok x
 placed_is k (Ok y) x e = e
 placed_is k (Err f) x e = absurd (cc)
 
-numbered_again : {M : Type 0} (n : ℕ) (m : Message M) → Rereads m → (before : ℕ) (payloads : List (List ℕ)) (xs : List M) → AllByRecursion AreBytes payloads → numbered_values m before payloads ≡ Ok xs → length (flat_map spelled (write_all n m xs)) < 2 ^ 64 → numbered_values m before (map (λ x. written m x) xs) ≡ Ok xs
+numbered_again : {M : Type 0} (n : ℕ) (m : Message M) → Rereads m → (before : ℕ) (payloads : List (List ℕ)) (xs : List M) → AllByRecursion AreBytes payloads → numbered_values m before payloads ≡ Ok xs → length (flat_map field_bytes (write_all n m xs)) < 2 ^ 64 → numbered_values m before (map (λ x. message_bytes m x) xs) ≡ Ok xs
 unfolding numbered_values
 numbered_again n m rereads before [] xs each e small = let none : [] ≡ xs = cc in rw (← none) refl
 numbered_again {M} n m rereads before (bytes ∷ more) xs each e small =
-    let first = bind_ok (placed (min (before + 1) 4294967295) (value m (bytes ∷ []))) (λ x. numbered_values m (before + 1) more >>= λ ys. Ok (x ∷ ys)) xs e in
+    let first = bind_ok (with_entity_number (min (before + 1) 4294967295) (value m (bytes ∷ []))) (λ x. numbered_values m (before + 1) more >>= λ ys. Ok (x ∷ ys)) xs e in
     let rest = bind_ok (numbered_values m (before + 1) more) (λ ys. Ok (first.0 ∷ ys)) xs first.2 in
     let same : first.0 ∷ rest.0 ≡ xs = cc in
-    let P : List M → Type 0 = λ zs. length (flat_map spelled (write_all n m zs)) < 2 ^ 64 → numbered_values m before (map (λ x. written m x) zs) ≡ Ok zs in
+    let P : List M → Type 0 = λ zs. length (flat_map field_bytes (write_all n m zs)) < 2 ^ 64 → numbered_values m before (map (λ x. message_bytes m x) zs) ≡ Ok zs in
     subst P same (λ fit.
-    let short = short_payload (record { number = n; payload = Span (written m first.0) }) (write_all n m rest.0) fit in
-    let here : value m (written m first.0 ∷ []) ≡ Ok first.0 = rereads (bytes ∷ []) first.0 (each.0, tt) (placed_is (min (before + 1) 4294967295) (value m (bytes ∷ [])) first.0 first.1) (span_fits (written m first.0) short.0) in
+    let short = short_payload (record { number = n; payload = Span (message_bytes m first.0) }) (write_all n m rest.0) fit in
+    let here : value m (message_bytes m first.0 ∷ []) ≡ Ok first.0 = rereads (bytes ∷ []) first.0 (each.0, tt) (placed_is (min (before + 1) 4294967295) (value m (bytes ∷ [])) first.0 first.1) (span_fits (message_bytes m first.0) short.0) in
     rw (here, numbered_again n m rereads (before + 1) more rest.0 each.1 rest.1 short.1) refl) small
 
-values_again : {M : Type 0} (n : ℕ) (m : Message M) → Rereads m → (payloads : List (List ℕ)) (xs : List M) → AllByRecursion AreBytes payloads → values m payloads ≡ Ok xs → length (flat_map spelled (write_all n m xs)) < 2 ^ 64 → values m (map (λ x. written m x) xs) ≡ Ok xs
+values_again : {M : Type 0} (n : ℕ) (m : Message M) → Rereads m → (payloads : List (List ℕ)) (xs : List M) → AllByRecursion AreBytes payloads → values m payloads ≡ Ok xs → length (flat_map field_bytes (write_all n m xs)) < 2 ^ 64 → values m (map (λ x. message_bytes m x) xs) ≡ Ok xs
 unfolding values
 values_again n m rereads [] xs each e small = let none : [] ≡ xs = cc in rw (← none) refl
 values_again {M} n m rereads (bytes ∷ more) xs each e small =
     let first = bind_ok (value m (bytes ∷ [])) (λ x. values m more >>= λ ys. Ok (x ∷ ys)) xs e in
     let rest = bind_ok (values m more) (λ ys. Ok (first.0 ∷ ys)) xs first.2 in
     let same : first.0 ∷ rest.0 ≡ xs = cc in
-    let P : List M → Type 0 = λ zs. length (flat_map spelled (write_all n m zs)) < 2 ^ 64 → values m (map (λ x. written m x) zs) ≡ Ok zs in
+    let P : List M → Type 0 = λ zs. length (flat_map field_bytes (write_all n m zs)) < 2 ^ 64 → values m (map (λ x. message_bytes m x) zs) ≡ Ok zs in
     subst P same (λ fit.
-    let short = short_payload (record { number = n; payload = Span (written m first.0) }) (write_all n m rest.0) fit in
-    let here : value m (written m first.0 ∷ []) ≡ Ok first.0 = rereads (bytes ∷ []) first.0 (each.0, tt) first.1 (span_fits (written m first.0) short.0) in
+    let short = short_payload (record { number = n; payload = Span (message_bytes m first.0) }) (write_all n m rest.0) fit in
+    let here : value m (message_bytes m first.0 ∷ []) ≡ Ok first.0 = rereads (bytes ∷ []) first.0 (each.0, tt) first.1 (span_fits (message_bytes m first.0) short.0) in
     rw (here, values_again n m rereads more rest.0 each.1 rest.1 short.1) refl) small
 
 list_is : {M : Type 0} (r : Result (List M) Fault) (v : List M) → ◌≡◌ {A = Result (Result (List M) Fault) Fault} (r >>= λ x. Ok (Ok x)) (Ok (Ok v)) → r ≡ Ok v
@@ -152,7 +152,7 @@ repeated_lawful n m rereads =
       knows = write_all_known n m;
       fits = λ name fields xs each e small. write_all_fits n m xs small;
       back = λ name fields xs each e small.
-          rw (write_all_occurring n m xs, values_again n m rereads (occurring span_in n fields) xs (occurring_bytes n fields each) (list_is (values m (occurring span_in n fields)) xs e) small) refl;
+          rw (write_all_occurring n m xs, values_again n m rereads (occurrences_of span_in n fields) xs (occurring_bytes n fields each) (list_is (values m (occurrences_of span_in n fields)) xs e) small) refl;
     }
 
 -- the same, where a fault tells the number of its message
@@ -165,7 +165,7 @@ numbered_lawful n m rereads =
       knows = write_all_known n m;
       fits = λ name fields xs each e small. write_all_fits n m xs small;
       back = λ name fields xs each e small.
-          rw (write_all_occurring n m xs, numbered_again n m rereads 0 (occurring span_in n fields) xs (occurring_bytes n fields each) (list_is (numbered_values m 0 (occurring span_in n fields)) xs e) small) refl;
+          rw (write_all_occurring n m xs, numbered_again n m rereads 0 (occurrences_of span_in n fields) xs (occurring_bytes n fields each) (list_is (numbered_values m 0 (occurrences_of span_in n fields)) xs e) small) refl;
     }
 
 -- ---- rows under one another
@@ -227,9 +227,9 @@ joined_lawful {A} {B} a b low mid next high first second apart =
     known : Field → Bool
     known field = a.is_known field || b.is_known field
 
-    shorter : (us ws : List Written) → length (flat_map spelled (us ++ ws)) < 2 ^ 64 → (length (flat_map spelled us) < 2 ^ 64) × (length (flat_map spelled ws) < 2 ^ 64)
+    shorter : (us ws : List Written) → length (flat_map field_bytes (us ++ ws)) < 2 ^ 64 → (length (flat_map field_bytes us) < 2 ^ 64) × (length (flat_map field_bytes ws) < 2 ^ 64)
     shorter us ws small =
-        let h : length (flat_map spelled us) + length (flat_map spelled ws) < 2 ^ 64 = rw (flat_map-append spelled us ws, length-append (flat_map spelled us) (flat_map spelled ws)) at small in
+        let h : length (flat_map field_bytes us) + length (flat_map field_bytes ws) < 2 ^ 64 = rw (flat_map-append field_bytes us ws, length-append (flat_map field_bytes us) (flat_map field_bytes ws)) value_under small in
         (omega arith, omega arith)
 
     keeps_front : (v : A × B) → filter a.is_known (map as_field (a.write v.0 ++ b.write v.1)) ≡ filter a.is_known (map as_field (a.write v.0))

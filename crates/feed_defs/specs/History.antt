@@ -5,7 +5,7 @@ use Rattle.std.specs.Str.{bytes_eq}
 use Rattle.std.specs.Ordering.{nat_cmp}
 use Rattle.std.specs.Cmp.Lexicographic.{slice_cmp}
 use Rattle.std.specs.FinMap.{put}
-use Rattle.wire_defs.specs.Steps.{◌>>=◌}
+use Rattle.answer_defs.specs.Steps.{◌>>=◌}
 use Rattle.rt_types.specs.declared.enums.Incrementality.{Incrementality}
 use Rattle.rt_types.specs.declared.enums.Incrementality.TheVariants.{FullDataset, Differential}
 use Rattle.rt_types.specs.declared.message.FeedMessage.{FeedMessage}
@@ -67,8 +67,8 @@ abbrev pub newer : ℕ → FeedMessage → Result FeedMessage Refusal
 newer last m = if nat_lt last (stamp_of m) then Ok m else Err (Stale last (stamp_of m))
 
 -- the message of the bytes, if it is well-formed and newer than the stamp
-abbrev pub judged : ℕ → List ℕ → Result FeedMessage Refusal
-judged last bytes = well_formed bytes >>= newer last
+abbrev pub judgement_of : ℕ → List ℕ → Result FeedMessage Refusal
+judgement_of last bytes = well_formed bytes >>= newer last
 
 -- the messages of one feed, and their stamps
 abbrev pub message_of : ℕ → Entry → Option FeedMessage
@@ -99,17 +99,17 @@ pub record IsLegal (feeds : ℕ) (history : List Entry) : Type 0 where
   pub rising : (feed : ℕ) → is_rising (stamps_of feed history) ≡ true
 
 -- the reply to an offered message, and the history after it
-pub record Offered : Type 0 where
+pub record OfferOutcome : Type 0 where
   pub reply : Result ℕ Refusal
   pub history : List Entry
 
-abbrev pub answered : ℕ → List Entry → Result FeedMessage Refusal → Offered
-answered feed history (Ok m) = record { reply = Ok (length history + 1); history = history ++ record { feed = feed; message = m } ∷ [] }
-answered feed history (Err refusal) = record { reply = Err refusal; history = history }
+abbrev pub outcome_of_judgement : ℕ → List Entry → Result FeedMessage Refusal → OfferOutcome
+outcome_of_judgement feed history (Ok m) = record { reply = Ok (length history + 1); history = history ++ record { feed = feed; message = m } ∷ [] }
+outcome_of_judgement feed history (Err refusal) = record { reply = Err refusal; history = history }
 
 -- an offered message is refused, or it is added at the end of the history
-abbrev pub offered : ℕ → List ℕ → List Entry → Offered
-offered feed bytes history = answered feed history (judged (last_stamp feed history) bytes)
+abbrev pub offer_outcome : ℕ → List ℕ → List Entry → OfferOutcome
+offer_outcome feed bytes history = outcome_of_judgement feed history (judgement_of (last_stamp feed history) bytes)
 
 -- whether a message is the whole data set of its feed (FeedHeader, `incrementality`, by default FULL_DATASET)
 abbrev pub is_differential : Option Incrementality → Bool
@@ -151,22 +151,23 @@ abbrev pub entity_at : List FeedMessage → List ℕ → Option Stored
 entity_at ms id = kept_of (last_said id (changes_of ms))
 
 -- the last change of each id, by rising bytes of the ids
-unfoldable pub listed : List Change → List Change
-listed [] = []
-listed (change ∷ earlier) = put (slice_cmp nat_cmp) change.0 change.1 (listed earlier)
+unfoldable pub changes_by_id : List Change → List Change
+changes_by_id [] = []
+changes_by_id (change ∷ earlier) = put (slice_cmp nat_cmp) change.0 change.1 (changes_by_id earlier)
 
 -- What a feed holds, by rising bytes of the ids: under each id just what `entity_at` says.
-unfoldable pub held : List FeedMessage → List Change
-held ms = filter is_kept (listed (reverse (changes_of ms)))
+unfoldable pub entities_of : List FeedMessage → List Change
+entities_of ms = filter is_kept (changes_by_id (reverse (changes_of ms)))
 
 -- what is held under other ids
-abbrev pub without : List ℕ → List Change → List Change
-without id held = filter (λ change. not (bytes_eq id change.0)) held
+abbrev pub changes_without : List ℕ → List Change → List Change
+changes_without id entities = filter (λ change. not (bytes_eq id change.0)) entities
 
 -- what is held under the ids, changed by one entity: it takes the place of what its id had, or takes that away
-abbrev pub changed : List Change → Change → List Change
-changed held change = if is_kept change then put (slice_cmp nat_cmp) change.0 change.1 held else without change.0 held
+abbrev pub changes_with : List Change → Change → List Change
+changes_with entities change =
+    if is_kept change then put (slice_cmp nat_cmp) change.0 change.1 entities else changes_without change.0 entities
 
 -- What is held, changed by a message: a whole data set starts from nothing, and then its entities count in their order.
-unfoldable pub applied : FeedMessage → List Change → List Change
-applied m held = fold changed (if is_full m then [] else held) (changes_in m)
+unfoldable pub entities_after : FeedMessage → List Change → List Change
+entities_after m entities = fold changes_with (if is_full m then [] else entities) (changes_in m)

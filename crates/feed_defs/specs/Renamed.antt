@@ -47,8 +47,8 @@ renamed_alert prefix m = record m { informed_entity = map (renamed_selector pref
 
 -- Each id of the timetable within an entity stands behind the prefix. Its own id, those of vehicles and all else
 -- stay.
-abbrev pub renamed : List ℕ → Entity → Entity
-renamed prefix m = record m {
+abbrev pub renamed_entity : List ℕ → Entity → Entity
+renamed_entity prefix m = record m {
   trip_update = option_map (renamed_update prefix) m.trip_update;
   vehicle = option_map (renamed_vehicle prefix) m.vehicle;
   alert = option_map (renamed_alert prefix) m.alert;

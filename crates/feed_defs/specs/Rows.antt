@@ -9,12 +9,12 @@ use Rattle.rt_types.specs.declared.fault.Kind.{Kind}
 use Rattle.rt_types.specs.declared.fault.What.{What}
 use Rattle.rt_types.specs.declared.fault.What.TheVariants as what
 use Rattle.rt_types.specs.declared.vehicle.Degrees.{Degrees}
-use Rattle.wire_defs.specs.Steps.{◌>>=◌}
+use Rattle.answer_defs.specs.Steps.{◌>>=◌}
 use Rattle.wire_defs.specs.Field.{Payload, Field, Fault as WireFault}
 use Rattle.wire_defs.specs.Field.Payload.{Varint, Eight, Span, Four, Group}
 use Rattle.wire_defs.specs.Field.Fault.{Cut, Overlong, BadTag, BadGroup}
 use Rattle.wire_defs.specs.Reading.{fields_of}
-use Rattle.wire_defs.specs.Writing.{Written, spelled}
+use Rattle.wire_defs.specs.Writing.{Written, field_bytes}
 
 -- what is wrong first: in which entity (0: in the header or outside of all), what, in which message and field
 pub record Fault : Type 0 where
@@ -61,20 +61,20 @@ four_in (Four n) = Some n
 four_in Group = None
 
 -- what a field says under a number, where it has that number and its payload says something
-abbrev pub at : {A : Type 0} → (Payload → Option A) → ℕ → Field → Option A
-at says n field = if field.number == n then says field.payload else None
+abbrev pub value_under : {A : Type 0} → (Payload → Option A) → ℕ → Field → Option A
+value_under says n field = if field.number == n then says field.payload else None
 
 -- all that is said under a number, in order
-unfoldable pub occurring : {A : Type 0} → (Payload → Option A) → ℕ → List Field → List A
-occurring says n fields = filter_map (at says n) fields
+unfoldable pub occurrences_of : {A : Type 0} → (Payload → Option A) → ℕ → List Field → List A
+occurrences_of says n fields = filter_map (value_under says n) fields
 
 -- the last that is said under a number, which counts for a singular scalar or text
 unfoldable pub last_of : {A : Type 0} → (Payload → Option A) → ℕ → List Field → Option A
-last_of says n fields = last_or None (filter_map (at says n) fields)
+last_of says n fields = last_or None (filter_map (value_under says n) fields)
 
 -- the fields that aren't known, as their bytes in order
-unfoldable pub others : (Field → Bool) → List Field → List ℕ
-others is_known fields = flat_map (λ field. field.raw) (filter (λ field. not (is_known field)) fields)
+unfoldable pub unknown_bytes_of : (Field → Bool) → List Field → List ℕ
+unknown_bytes_of is_known fields = flat_map (λ field. field.raw) (filter (λ field. not (is_known field)) fields)
 
 -- a message: which fields it knows, its value from its fields, and its known fields as they are written
 pub record Message (M : Type 0) : Type 0 where
@@ -85,20 +85,20 @@ pub record Message (M : Type 0) : Type 0 where
   pub unknown : M → List ℕ
 
 -- the field lists of these payloads, one after another, each of which must read by itself
-unfoldable pub joined : Kind → List (List ℕ) → Result (List Field) Fault
-joined kind [] = Ok []
-joined kind (bytes ∷ more) = do
+unfoldable pub fields_of_all : Kind → List (List ℕ) → Result (List Field) Fault
+fields_of_all kind [] = Ok []
+fields_of_all kind (bytes ∷ more) = do
   first ← fields_in kind bytes
-  rest ← joined kind more
+  rest ← fields_of_all kind more
   Ok (first ++ rest)
 
 -- the message of these payloads: its fields are theirs (Protocol Buffers, "Encoding", "Last One Wins")
 unfoldable pub value : {M : Type 0} → Message M → List (List ℕ) → Result M Fault
-value m payloads = joined m.kind payloads >>= m.of_fields
+value m payloads = fields_of_all m.kind payloads >>= m.of_fields
 
 -- the bytes of a message: its known fields by rising number, and then the others
-unfoldable pub written : {M : Type 0} → Message M → M → List ℕ
-written m x = flat_map spelled (m.fields x) ++ m.unknown x
+unfoldable pub message_bytes : {M : Type 0} → Message M → M → List ℕ
+message_bytes m x = flat_map field_bytes (m.fields x) ++ m.unknown x
 
 -- a kind of field with a value in A: whether it takes a field, its value among the fields, how it is written
 pub record FieldKind (A : Type 0) : Type 0 where
@@ -109,7 +109,7 @@ pub record FieldKind (A : Type 0) : Type 0 where
 -- a number, of which the last occurrence counts
 abbrev pub scalar : {A : Type 0} → (Payload → Option A) → (A → Payload) → FieldKind A
 scalar says write = record {
-  takes = λ n field. is_some (at says n field);
+  takes = λ n field. is_some (value_under says n field);
   read = λ kind n fields. Ok (last_of says n fields);
   write = write;
 }
@@ -172,23 +172,23 @@ as_text kind n (Some bytes) = if is_utf8 bytes then Ok (Some bytes) else Err (fa
 
 abbrev pub text : FieldKind (List ℕ)
 text = record {
-  takes = λ n field. is_some (at span_in n field);
+  takes = λ n field. is_some (value_under span_in n field);
   read = λ kind n fields. as_text kind n (last_of span_in n fields);
   write = Span;
 }
 
 -- a singular message is made of all its occurrences together
-unfoldable pub merged : {M : Type 0} → Message M → List (List ℕ) → Result (Option M) Fault
-merged m [] = Ok None
-merged m (bytes ∷ more) = do
+unfoldable pub merged_message : {M : Type 0} → Message M → List (List ℕ) → Result (Option M) Fault
+merged_message m [] = Ok None
+merged_message m (bytes ∷ more) = do
   x ← value m (bytes ∷ more)
   Ok (Some x)
 
 abbrev pub embedded : {M : Type 0} → Message M → FieldKind M
 embedded m = record {
-  takes = λ n field. is_some (at span_in n field);
-  read = λ kind n fields. merged m (occurring span_in n fields);
-  write = λ x. Span (written m x);
+  takes = λ n field. is_some (value_under span_in n field);
+  read = λ kind n fields. merged_message m (occurrences_of span_in n fields);
+  write = λ x. Span (message_bytes m x);
 }
 
 -- the messages of a repeated field, each of its own payload
@@ -200,14 +200,14 @@ values m (bytes ∷ more) = do
   Ok (x ∷ xs)
 
 -- the same, where a fault tells the number of its message, counted from `before + 1` up to 4294967295
-abbrev pub placed : {M : Type 0} → ℕ → Result M Fault → Result M Fault
-placed k (Ok x) = Ok x
-placed k (Err f) = Err (record f { entity = k })
+abbrev pub with_entity_number : {M : Type 0} → ℕ → Result M Fault → Result M Fault
+with_entity_number k (Ok x) = Ok x
+with_entity_number k (Err f) = Err (record f { entity = k })
 
 unfoldable pub numbered_values : {M : Type 0} → Message M → ℕ → List (List ℕ) → Result (List M) Fault
 numbered_values m before [] = Ok []
 numbered_values m before (bytes ∷ more) = do
-  x ← placed (min (before + 1) 4294967295) (value m (bytes ∷ []))
+  x ← with_entity_number (min (before + 1) 4294967295) (value m (bytes ∷ []))
   xs ← numbered_values m (before + 1) more
   Ok (x ∷ xs)
 
@@ -230,32 +230,32 @@ optional n kind = record {
 }
 
 -- a required field, or that it is missing
-abbrev pub needed : {A : Type 0} → Kind → ℕ → Option A → Result A Fault
-needed name n None = Err (fault what.Missing name n)
-needed name n (Some x) = Ok x
+abbrev pub required_value : {A : Type 0} → Kind → ℕ → Option A → Result A Fault
+required_value name n None = Err (fault what.Missing name n)
+required_value name n (Some x) = Ok x
 
 abbrev pub required : {A : Type 0} → ℕ → FieldKind A → Rows A
 required n kind = record {
   is_known = kind.takes n;
-  read = λ name fields. kind.read name n fields >>= λ x. Ok (needed name n x);
+  read = λ name fields. kind.read name n fields >>= λ x. Ok (required_value name n x);
   write = λ x. record { number = n; payload = kind.write x } ∷ [];
 }
 
 abbrev pub write_all : {M : Type 0} → ℕ → Message M → List M → List Written
 write_all n m [] = []
-write_all n m (x ∷ xs) = record { number = n; payload = Span (written m x) } ∷ write_all n m xs
+write_all n m (x ∷ xs) = record { number = n; payload = Span (message_bytes m x) } ∷ write_all n m xs
 
 abbrev pub repeated : {M : Type 0} → ℕ → Message M → Rows (List M)
 repeated n m = record {
-  is_known = λ field. is_some (at span_in n field);
-  read = λ name fields. values m (occurring span_in n fields) >>= λ xs. Ok (Ok xs);
+  is_known = λ field. is_some (value_under span_in n field);
+  read = λ name fields. values m (occurrences_of span_in n fields) >>= λ xs. Ok (Ok xs);
   write = write_all n m;
 }
 
 abbrev pub numbered : {M : Type 0} → ℕ → Message M → Rows (List M)
 numbered n m = record {
-  is_known = λ field. is_some (at span_in n field);
-  read = λ name fields. numbered_values m 0 (occurring span_in n fields) >>= λ xs. Ok (Ok xs);
+  is_known = λ field. is_some (value_under span_in n field);
+  read = λ name fields. numbered_values m 0 (occurrences_of span_in n fields) >>= λ xs. Ok (Ok xs);
   write = write_all n m;
 }
 
@@ -285,7 +285,7 @@ abbrev pub message : {M V : Type 0} → Shape M V → Message M
 message shape = record {
   kind = shape.kind;
   is_known = shape.rows.is_known;
-  of_fields = λ fields. shape.rows.read shape.kind fields >>= λ found. found >>= λ v. Ok (shape.make v (others shape.rows.is_known fields));
+  of_fields = λ fields. shape.rows.read shape.kind fields >>= λ found. found >>= λ v. Ok (shape.make v (unknown_bytes_of shape.rows.is_known fields));
   fields = λ m. shape.rows.write (shape.values m);
   unknown = shape.unknown;
 }

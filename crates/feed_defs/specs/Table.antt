@@ -25,7 +25,7 @@ use Rattle.rt_types.specs.declared.vehicle.Vehicle.{Vehicle}
 use Rattle.rt_types.specs.declared.vehicle.VehicleRef.{VehicleRef}
 use Rattle.rt_types.specs.declared.vehicle.Degrees.{Degrees}
 use Rattle.feed_defs.specs.Enums.{incrementality, stop_relation, trip_relation, stop_status, cause, effect}
-use Rattle.feed_defs.specs.Rows.{Fault, Message, Shape, u32, u64, i32, i64, bool, degrees, text, embedded, optional, required, repeated, numbered, ◌⊕◌, message, value, written}
+use Rattle.feed_defs.specs.Rows.{Fault, Message, Shape, u32, u64, i32, i64, bool, degrees, text, embedded, optional, required, repeated, numbered, ◌⊕◌, message, value, message_bytes}
 
 -- TripDescriptor
 abbrev pub trip_descriptor_shape : Shape TripRef (Option (List ℕ) × (Option (List ℕ) × (Option (List ℕ) × (Option TripRelation × (Option (List ℕ) × Option ℕ)))))
@@ -241,4 +241,4 @@ read bytes = value feed (bytes ∷ [])
 
 -- the bytes of a message
 unfoldable pub write : FeedMessage → List ℕ
-write m = written feed m
+write m = message_bytes feed m

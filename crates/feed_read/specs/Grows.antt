@@ -1,6 +1,6 @@
 -- What a call answers that adds the fields of some bytes to a list of fields.
 use Rattle.std.specs.Prelude.{◌≡◌, List, ◌++◌, Result, Ok, Err}
-use Rattle.wire_defs.specs.Steps.{◌>>=◌}
+use Rattle.answer_defs.specs.Steps.{◌>>=◌}
 use Rattle.wire_defs.specs.Field.{Field}
 use Rattle.feed_defs.specs.Rows.{Fault}
 use Rattle.feed_read.specs.declared.fault.ReadFault.{ReadFault}

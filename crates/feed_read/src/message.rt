@@ -1,7 +1,7 @@
 // A message from its fields.
 
 ghost use Rattle.std.specs.Prelude.{◌≡◌, [], ◌∷◌, IfOk};
-ghost use Rattle.feed_defs.specs.Rows.{others, needed, value, Message as Table};
+ghost use Rattle.feed_defs.specs.Rows.{unknown_bytes_of, required_value, value, Message as Table};
 ghost use Rattle.pb_wire.specs.Parts.{part_seen, parts_seen};
 ghost use Rattle.feed_read.specs.Reads.{Reads};
 
@@ -30,13 +30,13 @@ pub trait Message: Drop {
         parts: &[Part<'a>],
         unknown: Bytes,
     ) -> Result<Self, ReadFault>
-        requires { unknown ≡ others table.is_known (parts_seen parts.now) }
+        requires { unknown ≡ unknown_bytes_of table.is_known (parts_seen parts.now) }
         ensures { Reads (table.of_fields (parts_seen parts.now)) result };
 }
 
 /// The bytes of the parts that the message doesn't know, in order.
 fn unknown<M: Message>(alloc: Global, parts: &[Part<'_>]) -> Result<Bytes, AllocError>
-    ensures { IfOk result (λ bytes. bytes ≡ others M.table.is_known (parts_seen parts.now)) }
+    ensures { IfOk result (λ bytes. bytes ≡ unknown_bytes_of M.table.is_known (parts_seen parts.now)) }
 {
     let mut bytes = Vec::new(alloc);
     for part in parts {
@@ -68,7 +68,7 @@ pub fn read_one<'a, M: Message>(reader: &mut Reader<'a>, bytes: &'a [u8]) -> Res
 
 /// The value of a required field, or that it is missing.
 pub fn needed<A>(kind: Kind, number: u32, value: Option<A>) -> Result<A, ReadFault>
-    ensures { Reads (needed kind number value) result }
+    ensures { Reads (required_value kind number value) result }
 {
     match value {
         Some(found) => Ok(found),

@@ -1,7 +1,7 @@
 // The kinds of fields that are messages: singular ones, merged of all their occurrences, and repeated ones.
 
 ghost use Rattle.std.specs.Prelude.{◌≡◌, [], ◌∷◌};
-ghost use Rattle.feed_defs.specs.Rows.{occurring, span_in, joined, merged, value, values, placed, numbered_values};
+ghost use Rattle.feed_defs.specs.Rows.{occurrences_of, span_in, fields_of_all, merged_message, value, values, with_entity_number, numbered_values};
 ghost use Rattle.pb_wire.specs.Parts.{parts_seen};
 ghost use Rattle.feed_read.specs.Reads.{Reads};
 ghost use Rattle.feed_read.specs.Grows.{Grows};
@@ -37,7 +37,7 @@ pub fn embedded<'a, M: Message>(
     number: u32,
     parts: &[Part<'a>],
 ) -> Result<Option<M>, ReadFault>
-    ensures { Reads (merged M.table (occurring span_in number (parts_seen parts.now))) result }
+    ensures { Reads (merged_message M.table (occurrences_of span_in number (parts_seen parts.now))) result }
 {
     if last_span(number, parts).is_none() {
         return Ok(None);
@@ -55,7 +55,7 @@ pub fn boxed<'a, M: Message>(
     number: u32,
     parts: &[Part<'a>],
 ) -> Result<Option<Boxed<M>>, ReadFault>
-    ensures { Reads (merged M.table (occurring span_in number (parts_seen parts.now))) result }
+    ensures { Reads (merged_message M.table (occurrences_of span_in number (parts_seen parts.now))) result }
 {
     match embedded(reader, number, parts)? {
         Some(message) => Ok(Some(Boxed::new(reader.alloc, message)?)),
@@ -69,7 +69,7 @@ pub fn all<'a, M: Message>(
     number: u32,
     parts: &[Part<'a>],
 ) -> Result<Items<M>, ReadFault>
-    ensures { Reads (values M.table (occurring span_in number (parts_seen parts.now))) result }
+    ensures { Reads (values M.table (occurrences_of span_in number (parts_seen parts.now))) result }
 {
     let mut items = Vec::with_capacity(reader.alloc, count(number, parts))?;
     for part in parts {
@@ -86,7 +86,7 @@ fn read_placed<'a, M: Message>(
     entity: u32,
     bytes: &'a [u8],
 ) -> Result<M, ReadFault>
-    ensures { Reads (placed entity (value M.table (bytes.now ∷ []))) result }
+    ensures { Reads (with_entity_number entity (value M.table (bytes.now ∷ []))) result }
 {
     match read_one(reader, bytes) {
         Err(
@@ -112,7 +112,7 @@ pub fn numbered<'a, M: Message>(
     number: u32,
     parts: &[Part<'a>],
 ) -> Result<Items<M>, ReadFault>
-    ensures { Reads (numbered_values M.table 0 (occurring span_in number (parts_seen parts.now))) result }
+    ensures { Reads (numbered_values M.table 0 (occurrences_of span_in number (parts_seen parts.now))) result }
 {
     let mut items = Vec::with_capacity(reader.alloc, count(number, parts))?;
     let mut entity = 0u32;

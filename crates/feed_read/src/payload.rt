@@ -2,7 +2,7 @@
 
 ghost use Rattle.std.specs.Prelude.{◌≡◌, ◌≤◌, is_some, length};
 ghost use Rattle.std.specs.Option.{option_copied};
-ghost use Rattle.feed_defs.specs.Rows.{at, last_of, span_in, as_text, fields_in};
+ghost use Rattle.feed_defs.specs.Rows.{value_under, last_of, span_in, as_text, fields_in};
 ghost use Rattle.pb_wire.specs.Parts.{part_seen, parts_seen};
 ghost use Rattle.feed_read.specs.Reads.{Reads};
 ghost use Rattle.feed_read.specs.Grows.{Grows};
@@ -14,7 +14,7 @@ use std::alloc::Global;
 
 /// The bytes that the part carries, if it has this number and carries a run of bytes.
 pub fn span_at<'a>(number: u32, part: &Part<'a>) -> Option<&'a [u8]>
-    ensures { option_copied result ≡ at span_in number (part_seen part.now) }
+    ensures { option_copied result ≡ value_under span_in number (part_seen part.now) }
 {
     if part.number != number {
         return None;
@@ -27,7 +27,7 @@ pub fn span_at<'a>(number: u32, part: &Part<'a>) -> Option<&'a [u8]>
 
 /// Whether the part has this number and carries a run of bytes.
 pub fn is_span(number: u32, part: &Part<'_>) -> bool
-    ensures { result ≡ is_some (at span_in number (part_seen part.now)) }
+    ensures { result ≡ is_some (value_under span_in number (part_seen part.now)) }
 {
     span_at(number, part).is_some()
 }

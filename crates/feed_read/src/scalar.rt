@@ -3,7 +3,7 @@
 ghost use Rattle.std.specs.Prelude.{◌≡◌, ℕ, ◌%◌, ◌^◌, Option, is_some};
 ghost use Rattle.std.specs.Option.{option_and_then};
 ghost use Rattle.wire_defs.specs.Field.{Payload};
-ghost use Rattle.feed_defs.specs.Rows.{at, last_of, varint_in, four_in, u32_in, i32_in, i64_in, bool_in, degrees_in};
+ghost use Rattle.feed_defs.specs.Rows.{value_under, last_of, varint_in, four_in, u32_in, i32_in, i64_in, bool_in, degrees_in};
 ghost use Rattle.pb_wire.specs.Parts.{payload_seen, part_seen, parts_seen};
 
 use pb_wire::{Part, PartPayload};
@@ -100,7 +100,7 @@ impl Scalar for Degrees {
 
 /// What the part says, if it has this number.
 fn said_at<S: Scalar>(number: u32, part: &Part<'_>) -> Option<S>
-    ensures { result ≡ at S.says number (part_seen part.now) }
+    ensures { result ≡ value_under S.says number (part_seen part.now) }
 {
     if part.number == number {
         S::said(&part.payload)
@@ -111,7 +111,7 @@ fn said_at<S: Scalar>(number: u32, part: &Part<'_>) -> Option<S>
 
 /// Whether the part has this number and says a value of this kind.
 pub fn is_scalar<S: Scalar>(number: u32, part: &Part<'_>) -> bool
-    ensures { result ≡ is_some (at S.says number (part_seen part.now)) }
+    ensures { result ≡ is_some (value_under S.says number (part_seen part.now)) }
 {
     said_at::<S>(number, part).is_some()
 }

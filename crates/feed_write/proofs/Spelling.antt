@@ -6,16 +6,16 @@ use Rattle.std.proofs.lemmas.Grind.{flat_map-append}
 use Rattle.std.proofs.lemmas.List.{take_more, length-append}
 use Rattle.std.proofs.Math.Seq.{take-append_seam, drop-append_seam}
 use Rattle.wire_defs.specs.Field.Payload.{Span}
-use Rattle.wire_defs.specs.Writing.{Written, varint, payload_bytes, spelled}
-use Rattle.feed_defs.specs.Rows.{Message, written, write_all}
+use Rattle.wire_defs.specs.Writing.{Written, varint, payload_bytes, field_bytes}
+use Rattle.feed_defs.specs.Rows.{Message, message_bytes, write_all}
 use Rattle.wire_defs.specs.Spelling.{AreBytes}
 use Rattle.rt_types.specs.declared.message.FeedMessage.{FeedMessage}
 use Rattle.feed_defs.specs.Table.{read, write}
 use Rattle.feed_defs.proofs.Rereading.{read_again}
 use Rattle.feed_write.specs.Puts.{StartsWith}
 
-pub spelled_both : (a b : List Written) → flat_map spelled (a ++ b) ≡ flat_map spelled a ++ flat_map spelled b
-spelled_both a b = flat_map-append spelled a b
+pub spelled_both : (a b : List Written) → flat_map field_bytes (a ++ b) ≡ flat_map field_bytes a ++ flat_map field_bytes b
+spelled_both a b = flat_map-append field_bytes a b
 
 pub starts_with : (old new more : List ℕ) → new ≡ old ++ more → StartsWith old new
 starts_with old new more e = record { more = more; whole = e }
@@ -24,44 +24,44 @@ pub starts_on : (old mid new : List ℕ) → StartsWith old mid → StartsWith m
 starts_on old mid new a b = record { more = a.more ++ b.more; whole = b.whole ∙ ap (λ xs. xs ++ b.more) a.whole ∙ append_assoc old a.more b.more }
 
 -- the fields of the last row, and behind them what isn't known
-pub last_row : {A E : Type 0} (r : Result A E) (old mid new : List ℕ) (ws : List Written) (unknown : List ℕ) → mid ≡ old ++ flat_map spelled ws → OnOk r (new ≡ mid ++ unknown)
-    → OnOk r (new ≡ old ++ (flat_map spelled ws ++ unknown))
-last_row (Ok x) old mid new ws unknown here behind = behind ∙ ap (λ bs. bs ++ unknown) here ∙ append_assoc old (flat_map spelled ws) unknown
+pub last_row : {A E : Type 0} (r : Result A E) (old mid new : List ℕ) (ws : List Written) (unknown : List ℕ) → mid ≡ old ++ flat_map field_bytes ws → OnOk r (new ≡ mid ++ unknown)
+    → OnOk r (new ≡ old ++ (flat_map field_bytes ws ++ unknown))
+last_row (Ok x) old mid new ws unknown here behind = behind ∙ ap (λ bs. bs ++ unknown) here ∙ append_assoc old (flat_map field_bytes ws) unknown
 last_row (Err e) old mid new ws unknown here behind = tt
 
 -- the fields of a row, and behind them those of the rows that follow
-pub row_then : {A E : Type 0} (r : Result A E) (old mid new : List ℕ) (ws vs : List Written) (unknown : List ℕ) → mid ≡ old ++ flat_map spelled ws → OnOk r (new ≡ mid ++ (flat_map spelled vs ++ unknown))
-    → OnOk r (new ≡ old ++ (flat_map spelled (ws ++ vs) ++ unknown))
+pub row_then : {A E : Type 0} (r : Result A E) (old mid new : List ℕ) (ws vs : List Written) (unknown : List ℕ) → mid ≡ old ++ flat_map field_bytes ws → OnOk r (new ≡ mid ++ (flat_map field_bytes vs ++ unknown))
+    → OnOk r (new ≡ old ++ (flat_map field_bytes (ws ++ vs) ++ unknown))
 row_then (Ok x) old mid new ws vs unknown here behind =
-    behind ∙ ap (λ bs. bs ++ (flat_map spelled vs ++ unknown)) here ∙ append_assoc old (flat_map spelled ws) (flat_map spelled vs ++ unknown)
-    ∙ ap (λ bs. old ++ bs) (sym (append_assoc (flat_map spelled ws) (flat_map spelled vs) unknown) ∙ ap (λ bs. bs ++ unknown) (sym (spelled_both ws vs)))
+    behind ∙ ap (λ bs. bs ++ (flat_map field_bytes vs ++ unknown)) here ∙ append_assoc old (flat_map field_bytes ws) (flat_map field_bytes vs ++ unknown)
+    ∙ ap (λ bs. old ++ bs) (sym (append_assoc (flat_map field_bytes ws) (flat_map field_bytes vs) unknown) ∙ ap (λ bs. bs ++ unknown) (sym (spelled_both ws vs)))
 row_then (Err e) old mid new ws vs unknown here behind = tt
 
 -- the one field of a required row
-pub field_then : {A E : Type 0} (r : Result A E) (old mid new : List ℕ) (w : Written) (vs : List Written) (unknown : List ℕ) → mid ≡ old ++ spelled w → OnOk r (new ≡ mid ++ (flat_map spelled vs ++ unknown))
-    → OnOk r (new ≡ old ++ (flat_map spelled ((w ∷ []) ++ vs) ++ unknown))
-field_then r old mid new w vs unknown here behind = row_then r old mid new (w ∷ []) vs unknown (here ∙ ap (λ bs. old ++ bs) (sym (append-nil (spelled w)))) behind
+pub field_then : {A E : Type 0} (r : Result A E) (old mid new : List ℕ) (w : Written) (vs : List Written) (unknown : List ℕ) → mid ≡ old ++ field_bytes w → OnOk r (new ≡ mid ++ (flat_map field_bytes vs ++ unknown))
+    → OnOk r (new ≡ old ++ (flat_map field_bytes ((w ∷ []) ++ vs) ++ unknown))
+field_then r old mid new w vs unknown here behind = row_then r old mid new (w ∷ []) vs unknown (here ∙ ap (λ bs. old ++ bs) (sym (append-nil (field_bytes w)))) behind
 
 -- a message more of a repeated field
-all_append : {M : Type 0} (n : ℕ) (m : Message M) (xs : List M) (y : M) → flat_map spelled (write_all n m (xs ++ y ∷ [])) ≡ flat_map spelled (write_all n m xs) ++ spelled (record { number = n; payload = Span (written m y) })
+all_append : {M : Type 0} (n : ℕ) (m : Message M) (xs : List M) (y : M) → flat_map field_bytes (write_all n m (xs ++ y ∷ [])) ≡ flat_map field_bytes (write_all n m xs) ++ field_bytes (record { number = n; payload = Span (message_bytes m y) })
 all_append n m [] y = append-nil _
-all_append n m (x ∷ xs) y = ap (λ ys. spelled (record { number = n; payload = Span (written m x) }) ++ ys) (all_append n m xs y) ∙ sym (append_assoc (spelled (record { number = n; payload = Span (written m x) })) (flat_map spelled (write_all n m xs)) _)
+all_append n m (x ∷ xs) y = ap (λ ys. field_bytes (record { number = n; payload = Span (message_bytes m x) }) ++ ys) (all_append n m xs y) ∙ sym (append_assoc (field_bytes (record { number = n; payload = Span (message_bytes m x) })) (flat_map field_bytes (write_all n m xs)) _)
 
 pub all_more : {M : Type 0} (n : ℕ) (m : Message M) (xs : List M) (i : ℕ) (y : M) (old before after : List ℕ) → i < length xs → y ≡ get_or xs i y
-    → before ≡ old ++ flat_map spelled (write_all n m (take i xs)) → after ≡ before ++ spelled (record { number = n; payload = Span (written m y) })
-    → after ≡ old ++ flat_map spelled (write_all n m (take (i + 1) xs))
+    → before ≡ old ++ flat_map field_bytes (write_all n m (take i xs)) → after ≡ before ++ field_bytes (record { number = n; payload = Span (message_bytes m y) })
+    → after ≡ old ++ flat_map field_bytes (write_all n m (take (i + 1) xs))
 all_more n m xs i y old before after within item so_far appended =
-    appended ∙ ap (λ bs. bs ++ spelled (record { number = n; payload = Span (written m y) })) so_far
+    appended ∙ ap (λ bs. bs ++ field_bytes (record { number = n; payload = Span (message_bytes m y) })) so_far
     ∙ append_assoc old _ _
-    ∙ ap (λ bs. old ++ bs) (sym (all_append n m (take i xs) y) ∙ ap (λ ys. flat_map spelled (write_all n m ys)) (ap (λ x. take i xs ++ x ∷ []) item ∙ sym (take_more xs i y within)))
+    ∙ ap (λ bs. old ++ bs) (sym (all_append n m (take i xs) y) ∙ ap (λ ys. flat_map field_bytes (write_all n m ys)) (ap (λ x. take i xs ++ x ∷ []) item ∙ sym (take_more xs i y within)))
 
 -- content with its head behind it, once the two are swapped
 pub swapped_is : (n tag size start middle : ℕ) (old content one two all after : List ℕ) →
     one ≡ old ++ content → two ≡ one ++ varint tag → all ≡ two ++ varint size → tag ≡ n * 8 + 2 → size ≡ middle - start
     → start ≡ length old → middle ≡ length one
     → after ≡ take start all ++ drop middle all ++ take (middle - start) (drop start all)
-    → after ≡ old ++ spelled (record { number = n; payload = Span content })
-unfolding spelled payload_bytes
+    → after ≡ old ++ field_bytes (record { number = n; payload = Span content })
+unfolding field_bytes payload_bytes
 swapped_is n tag size start middle old content one two all after made tagged sized tag_is size_is begins ends swapped =
     swapped
     ∙ ap (λ bs. bs ++ drop middle all ++ take (middle - start) (drop start all)) front

@@ -10,7 +10,7 @@ use std::alloc::AllocError;
 impl Message for Period {
     ghost table = { time_range };
 
-    #[tactic(auto, unfolding(feed_defs::specs::Rows::written), using(crate::proofs::Spelling::puts))]
+    #[tactic(auto, unfolding(feed_defs::specs::Rows::message_bytes), using(crate::proofs::Spelling::puts))]
     fn put(&self, out: &mut Vec<u8>) -> Result<(), AllocError> {
         put_scalar(1, self.start, out)?;
         put_scalar(2, self.end, out)?;
@@ -21,7 +21,7 @@ impl Message for Period {
 impl Message for Selector {
     ghost table = { entity_selector };
 
-    #[tactic(auto, unfolding(feed_defs::specs::Rows::written), using(crate::proofs::Spelling::puts))]
+    #[tactic(auto, unfolding(feed_defs::specs::Rows::message_bytes), using(crate::proofs::Spelling::puts))]
     fn put(&self, out: &mut Vec<u8>) -> Result<(), AllocError> {
         put_text_if(1, &self.agency_id, out)?;
         put_text_if(2, &self.route_id, out)?;
@@ -36,7 +36,7 @@ impl Message for Selector {
 impl Message for Translation {
     ghost table = { translation };
 
-    #[tactic(auto, unfolding(feed_defs::specs::Rows::written), using(crate::proofs::Spelling::puts))]
+    #[tactic(auto, unfolding(feed_defs::specs::Rows::message_bytes), using(crate::proofs::Spelling::puts))]
     fn put(&self, out: &mut Vec<u8>) -> Result<(), AllocError> {
         put_text(1, &self.text, out)?;
         put_text_if(2, &self.language, out)?;
@@ -47,7 +47,7 @@ impl Message for Translation {
 impl Message for Translated {
     ghost table = { translated_string };
 
-    #[tactic(auto, unfolding(feed_defs::specs::Rows::written), using(crate::proofs::Spelling::puts))]
+    #[tactic(auto, unfolding(feed_defs::specs::Rows::message_bytes), using(crate::proofs::Spelling::puts))]
     fn put(&self, out: &mut Vec<u8>) -> Result<(), AllocError> {
         put_items(1, &self.translation, out)?;
         put_unknown(&self.unknown, out)
@@ -57,7 +57,7 @@ impl Message for Translated {
 impl Message for Alert {
     ghost table = { alert };
 
-    #[tactic(auto, unfolding(feed_defs::specs::Rows::written), using(crate::proofs::Spelling::puts))]
+    #[tactic(auto, unfolding(feed_defs::specs::Rows::message_bytes), using(crate::proofs::Spelling::puts))]
     fn put(&self, out: &mut Vec<u8>) -> Result<(), AllocError> {
         put_items(1, &self.active_period, out)?;
         put_items(5, &self.informed_entity, out)?;

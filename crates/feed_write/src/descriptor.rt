@@ -10,7 +10,7 @@ use std::alloc::AllocError;
 impl Message for TripRef {
     ghost table = { trip_descriptor };
 
-    #[tactic(auto, unfolding(feed_defs::specs::Rows::written), using(crate::proofs::Spelling::puts))]
+    #[tactic(auto, unfolding(feed_defs::specs::Rows::message_bytes), using(crate::proofs::Spelling::puts))]
     fn put(&self, out: &mut Vec<u8>) -> Result<(), AllocError> {
         put_text_if(1, &self.trip_id, out)?;
         put_text_if(2, &self.start_time, out)?;

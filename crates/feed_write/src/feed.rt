@@ -10,7 +10,7 @@ use std::alloc::AllocError;
 impl Message for Header {
     ghost table = { header };
 
-    #[tactic(auto, unfolding(feed_defs::specs::Rows::written), using(crate::proofs::Spelling::puts))]
+    #[tactic(auto, unfolding(feed_defs::specs::Rows::message_bytes), using(crate::proofs::Spelling::puts))]
     fn put(&self, out: &mut Vec<u8>) -> Result<(), AllocError> {
         put_text(1, &self.version, out)?;
         put_scalar(2, self.incrementality, out)?;
@@ -22,7 +22,7 @@ impl Message for Header {
 impl Message for Entity {
     ghost table = { entity };
 
-    #[tactic(auto, unfolding(feed_defs::specs::Rows::written), using(crate::proofs::Spelling::puts))]
+    #[tactic(auto, unfolding(feed_defs::specs::Rows::message_bytes), using(crate::proofs::Spelling::puts))]
     fn put(&self, out: &mut Vec<u8>) -> Result<(), AllocError> {
         put_text(1, &self.id, out)?;
         put_scalar(2, self.is_deleted, out)?;
@@ -36,7 +36,7 @@ impl Message for Entity {
 impl Message for FeedMessage {
     ghost table = { feed };
 
-    #[tactic(auto, unfolding(feed_defs::specs::Rows::written), using(crate::proofs::Spelling::puts))]
+    #[tactic(auto, unfolding(feed_defs::specs::Rows::message_bytes), using(crate::proofs::Spelling::puts))]
     fn put(&self, out: &mut Vec<u8>) -> Result<(), AllocError> {
         put_message(1, &self.header, out)?;
         put_items(2, &self.entity, out)?;

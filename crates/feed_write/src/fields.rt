@@ -3,8 +3,8 @@
 ghost use Rattle.std.specs.Prelude.{◌≡◌, ◌≤◌, ◌-◌, ◌++◌, take, drop, length, OnOk};
 ghost use Rattle.std.specs.List.{flat_map};
 ghost use Rattle.wire_defs.specs.Field.Payload.{Span};
-ghost use Rattle.wire_defs.specs.Writing.{spelled};
-ghost use Rattle.feed_defs.specs.Rows.{written, write_if, write_all, degrees_payload};
+ghost use Rattle.wire_defs.specs.Writing.{field_bytes};
+ghost use Rattle.feed_defs.specs.Rows.{message_bytes, write_if, write_all, degrees_payload};
 ghost use Rattle.feed_write.specs.Puts.{StartsWith};
 
 use crate::message::Message;
@@ -21,7 +21,7 @@ pub fn put_scalar<S: Scalar>(
 ) -> Result<(), AllocError>
     requires first { 1 ≤ number }
     requires last { number ≤ 536870911 }
-    ensures written { OnOk result (out.new.items ≡ out.old.items ++ flat_map spelled (write_if number S.payload value)) }
+    ensures written { OnOk result (out.new.items ≡ out.old.items ++ flat_map field_bytes (write_if number S.payload value)) }
     ensures begins { StartsWith out.old.items out.new.items }
 {
     match value {
@@ -34,7 +34,7 @@ pub fn put_scalar<S: Scalar>(
 pub fn put_text(number: u32, text: &Text, out: &mut Vec<u8>) -> Result<(), AllocError>
     requires first { 1 ≤ number }
     requires last { number ≤ 536870911 }
-    ensures written { OnOk result (out.new.items ≡ out.old.items ++ spelled (record { number = number; payload = Span text.now })) }
+    ensures written { OnOk result (out.new.items ≡ out.old.items ++ field_bytes (record { number = number; payload = Span text.now })) }
     ensures begins { StartsWith out.old.items out.new.items }
 {
     write_field(number, text.as_str().as_bytes(), out)
@@ -44,7 +44,7 @@ pub fn put_text(number: u32, text: &Text, out: &mut Vec<u8>) -> Result<(), Alloc
 pub fn put_text_if(number: u32, text: &Option<Text>, out: &mut Vec<u8>) -> Result<(), AllocError>
     requires first { 1 ≤ number }
     requires last { number ≤ 536870911 }
-    ensures written { OnOk result (out.new.items ≡ out.old.items ++ flat_map spelled (write_if number Span text.now)) }
+    ensures written { OnOk result (out.new.items ≡ out.old.items ++ flat_map field_bytes (write_if number Span text.now)) }
     ensures begins { StartsWith out.old.items out.new.items }
 {
     match text {
@@ -57,7 +57,7 @@ pub fn put_text_if(number: u32, text: &Option<Text>, out: &mut Vec<u8>) -> Resul
 pub fn put_degrees(number: u32, value: Degrees, out: &mut Vec<u8>) -> Result<(), AllocError>
     requires first { 1 ≤ number }
     requires last { number ≤ 536870911 }
-    ensures written { OnOk result (out.new.items ≡ out.old.items ++ spelled (record { number = number; payload = degrees_payload value })) }
+    ensures written { OnOk result (out.new.items ≡ out.old.items ++ field_bytes (record { number = number; payload = degrees_payload value })) }
     ensures begins { StartsWith out.old.items out.new.items }
 {
     write_four(number, value.bits, out)
@@ -71,7 +71,7 @@ pub fn put_message<M: Message>(
 ) -> Result<(), AllocError>
     requires first { 1 ≤ number }
     requires last { number ≤ 536870911 }
-    ensures written { OnOk result (out.new.items ≡ out.old.items ++ spelled (record { number = number; payload = Span (written M.table message.now) })) }
+    ensures written { OnOk result (out.new.items ≡ out.old.items ++ field_bytes (record { number = number; payload = Span (message_bytes M.table message.now) })) }
     ensures begins { StartsWith out.old.items out.new.items }
 {
     let start = out.len();
@@ -92,7 +92,7 @@ pub fn put_embedded<M: Message>(
 ) -> Result<(), AllocError>
     requires first { 1 ≤ number }
     requires last { number ≤ 536870911 }
-    ensures written { OnOk result (out.new.items ≡ out.old.items ++ flat_map spelled (write_if number (λ x. Span (written M.table x)) message.now)) }
+    ensures written { OnOk result (out.new.items ≡ out.old.items ++ flat_map field_bytes (write_if number (λ x. Span (message_bytes M.table x)) message.now)) }
     ensures begins { StartsWith out.old.items out.new.items }
 {
     match message {
@@ -109,7 +109,7 @@ pub fn put_boxed<M: Message>(
 ) -> Result<(), AllocError>
     requires first { 1 ≤ number }
     requires last { number ≤ 536870911 }
-    ensures written { OnOk result (out.new.items ≡ out.old.items ++ flat_map spelled (write_if number (λ x. Span (written M.table x)) message.now)) }
+    ensures written { OnOk result (out.new.items ≡ out.old.items ++ flat_map field_bytes (write_if number (λ x. Span (message_bytes M.table x)) message.now)) }
     ensures begins { StartsWith out.old.items out.new.items }
 {
     match message {
@@ -122,7 +122,7 @@ pub fn put_boxed<M: Message>(
 fn put_all<M: Message>(number: u32, messages: &[M], out: &mut Vec<u8>) -> Result<(), AllocError>
     requires first { 1 ≤ number }
     requires last { number ≤ 536870911 }
-    ensures written { OnOk result (out.new.items ≡ out.old.items ++ flat_map spelled (write_all number M.table messages.now)) }
+    ensures written { OnOk result (out.new.items ≡ out.old.items ++ flat_map field_bytes (write_all number M.table messages.now)) }
     ensures begins { StartsWith out.old.items out.new.items }
 {
     for message in messages {
@@ -139,7 +139,7 @@ pub fn put_items<M: Message>(
 ) -> Result<(), AllocError>
     requires first { 1 ≤ number }
     requires last { number ≤ 536870911 }
-    ensures written { OnOk result (out.new.items ≡ out.old.items ++ flat_map spelled (write_all number M.table messages.now)) }
+    ensures written { OnOk result (out.new.items ≡ out.old.items ++ flat_map field_bytes (write_all number M.table messages.now)) }
     ensures begins { StartsWith out.old.items out.new.items }
 {
     put_all(number, messages.as_slice(), out)

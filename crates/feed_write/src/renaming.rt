@@ -3,7 +3,7 @@
 ghost use Rattle.std.specs.Prelude.{◌≡◌, ℕ, List, IfOk};
 ghost use Rattle.std.specs.Option.{option_map};
 ghost use Rattle.std.specs.Prelude.{map};
-ghost use Rattle.feed_defs.specs.Renamed.{prefixed, renamed_trip, renamed_properties, renamed_stop, renamed_update, renamed_vehicle, renamed_selector, renamed_alert, renamed};
+ghost use Rattle.feed_defs.specs.Renamed.{prefixed, renamed_trip, renamed_properties, renamed_stop, renamed_update, renamed_vehicle, renamed_selector, renamed_alert, renamed_entity};
 
 use rt_types::{
     Alert, Boxed, Entity, Items, Selector, StopProps, StopUpdate, Text, TripRef, TripUpdate,
@@ -14,7 +14,7 @@ use std::alloc::{AllocError, Global};
 /// The entity with the prefix before each trip_id, route_id, stop_id, assigned_stop_id and agency_id in it that
 /// is there and isn't empty. Its own id, those of vehicles and all else stay.
 pub fn rename(alloc: Global, prefix: &str, entity: Entity) -> Result<Entity, AllocError>
-    ensures { IfOk result (λ same. same ≡ renamed prefix.now entity) }
+    ensures { IfOk result (λ same. same ≡ renamed_entity prefix.now entity) }
 {
     entity.renamed(alloc, prefix)
 }
@@ -157,7 +157,7 @@ impl Renamed for Alert {
 }
 
 impl Renamed for Entity {
-    ghost under = { renamed };
+    ghost under = { renamed_entity };
 
     fn renamed(self, alloc: Global, prefix: &str) -> Result<Entity, AllocError> {
         Ok(Entity {

@@ -10,7 +10,7 @@ use std::alloc::AllocError;
 impl Message for Event {
     ghost table = { stop_time_event };
 
-    #[tactic(auto, unfolding(feed_defs::specs::Rows::written), using(crate::proofs::Spelling::puts))]
+    #[tactic(auto, unfolding(feed_defs::specs::Rows::message_bytes), using(crate::proofs::Spelling::puts))]
     fn put(&self, out: &mut Vec<u8>) -> Result<(), AllocError> {
         put_scalar(1, self.delay, out)?;
         put_scalar(2, self.time, out)?;
@@ -22,7 +22,7 @@ impl Message for Event {
 impl Message for StopProps {
     ghost table = { stop_time_properties };
 
-    #[tactic(auto, unfolding(feed_defs::specs::Rows::written), using(crate::proofs::Spelling::puts))]
+    #[tactic(auto, unfolding(feed_defs::specs::Rows::message_bytes), using(crate::proofs::Spelling::puts))]
     fn put(&self, out: &mut Vec<u8>) -> Result<(), AllocError> {
         put_text_if(1, &self.assigned_stop_id, out)?;
         put_unknown(&self.unknown, out)
@@ -32,7 +32,7 @@ impl Message for StopProps {
 impl Message for StopUpdate {
     ghost table = { stop_time_update };
 
-    #[tactic(auto, unfolding(feed_defs::specs::Rows::written), using(crate::proofs::Spelling::puts))]
+    #[tactic(auto, unfolding(feed_defs::specs::Rows::message_bytes), using(crate::proofs::Spelling::puts))]
     fn put(&self, out: &mut Vec<u8>) -> Result<(), AllocError> {
         put_scalar(1, self.stop_sequence, out)?;
         put_embedded(2, &self.arrival, out)?;
@@ -47,7 +47,7 @@ impl Message for StopUpdate {
 impl Message for TripUpdate {
     ghost table = { trip_update };
 
-    #[tactic(auto, unfolding(feed_defs::specs::Rows::written), using(crate::proofs::Spelling::puts))]
+    #[tactic(auto, unfolding(feed_defs::specs::Rows::message_bytes), using(crate::proofs::Spelling::puts))]
     fn put(&self, out: &mut Vec<u8>) -> Result<(), AllocError> {
         put_message(1, &self.trip, out)?;
         put_items(2, &self.stop_time_update, out)?;

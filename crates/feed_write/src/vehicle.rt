@@ -10,7 +10,7 @@ use std::alloc::AllocError;
 impl Message for VehicleRef {
     ghost table = { vehicle_descriptor };
 
-    #[tactic(auto, unfolding(feed_defs::specs::Rows::written), using(crate::proofs::Spelling::puts))]
+    #[tactic(auto, unfolding(feed_defs::specs::Rows::message_bytes), using(crate::proofs::Spelling::puts))]
     fn put(&self, out: &mut Vec<u8>) -> Result<(), AllocError> {
         put_text_if(1, &self.id, out)?;
         put_text_if(2, &self.label, out)?;
@@ -22,7 +22,7 @@ impl Message for VehicleRef {
 impl Message for Position {
     ghost table = { position };
 
-    #[tactic(auto, unfolding(feed_defs::specs::Rows::written), using(crate::proofs::Spelling::puts))]
+    #[tactic(auto, unfolding(feed_defs::specs::Rows::message_bytes), using(crate::proofs::Spelling::puts))]
     fn put(&self, out: &mut Vec<u8>) -> Result<(), AllocError> {
         put_degrees(1, self.latitude, out)?;
         put_degrees(2, self.longitude, out)?;
@@ -33,7 +33,7 @@ impl Message for Position {
 impl Message for Vehicle {
     ghost table = { vehicle_position };
 
-    #[tactic(auto, unfolding(feed_defs::specs::Rows::written), using(crate::proofs::Spelling::puts))]
+    #[tactic(auto, unfolding(feed_defs::specs::Rows::message_bytes), using(crate::proofs::Spelling::puts))]
     fn put(&self, out: &mut Vec<u8>) -> Result<(), AllocError> {
         put_embedded(1, &self.trip, out)?;
         put_embedded(2, &self.position, out)?;

@@ -5,7 +5,7 @@ use Rattle.std.specs.Prelude.{Result, Ok, Err, nat_le}
 use Rattle.std.proofs.lemmas.List.{append-nil, append_assoc}
 use Rattle.gtfs_rows.specs.Names.{all_columns, slot_of}
 use Rattle.gtfs_rows.specs.Tables.{Columns, and_then}
-use Rattle.gtfs_rows.specs.Files.{Answers, cell_of, field_in, first_missing, place_of, rows_from, rows_of, rows_of_records, rows_under, trimmed, unless_missing}
+use Rattle.gtfs_rows.specs.Files.{Answers, cell_of, field_in, first_missing, place_of, rows_from, rows_of, rows_of_records, rows_under, trimmed_text, unless_missing}
 use Rattle.gtfs_rows.specs.Layout.{cell_at, places_in}
 use Rattle.gtfs_rows.specs.Reading.{HeaderIs, records_left}
 use Rattle.csv.specs.Reading.{default_config, records, strip_bom}
@@ -85,7 +85,7 @@ slot-place f column.ExceptionType d = refl
 -- the cells by the places that were found are those by the header
 pub cells-same : (header : List (List ℕ)) → cell_at (places_in header) ≡ cell_of header
 unfolding cell_at
-cells-same header = fun_ext (λ fields. fun_ext (λ c. ap (λ place. trimmed (field_in fields place)) (slot-place (place_of header) c None)))
+cells-same header = fun_ext (λ fields. fun_ext (λ c. ap (λ place. trimmed_text (field_in fields place)) (slot-place (place_of header) c None)))
 
 -- so the rows are the same
 pub rows-same : {R : Type 0} (columns : Columns R) (header : List (List ℕ)) (row : ℕ) (recs : List (List (List ℕ)))

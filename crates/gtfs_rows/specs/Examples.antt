@@ -5,14 +5,14 @@ use lib.Utf8.{encode}
 use Rattle.csv.specs.Machine.{next_record}
 use Rattle.csv.specs.Reading.{records_from, strip_bom}
 use Rattle.gtfs_rows.specs.Values.{number, date, clock_time}
-use Rattle.gtfs_rows.specs.Tables.{judged, trips, exceptions, agency}
-use Rattle.gtfs_rows.specs.Files.{cell_of, trimmed, rows_from, rows_of}
+use Rattle.gtfs_rows.specs.Tables.{cell_value, trips, exceptions, agency}
+use Rattle.gtfs_rows.specs.Files.{cell_of, trimmed_text, rows_from, rows_of}
 use Rattle.gtfs_rows.specs.declared.column.Column.TheVariants as column
 use Rattle.gtfs_rows.specs.declared.fault.RowFault.TheVariants as fault
 
 -- blanks at both ends are dropped, those within stay
-blanks : trimmed (9 ∷ 32 ∷ codes "a b" ++ 32 ∷ 9 ∷ []) ≡ codes "a b"
-unfolding trimmed
+blanks : trimmed_text (9 ∷ 32 ∷ codes "a b" ++ 32 ∷ 9 ∷ []) ≡ codes "a b"
+unfolding trimmed_text
 blanks = refl
 
 -- a time past midnight
@@ -81,13 +81,13 @@ extra : rows_of trips (0xEF ∷ 0xBB ∷ 0xBF ∷ codes "service_id,trip_id,note
     ∷ record { trip_id = codes "T2"; route_id = codes "R7"; service_id = codes "WK"; trip_headsign = []; direction_id = None }
     ∷ []
     )
-unfolding rows_of records_from next_record strip_bom rows_from trimmed judged number is_utf8 chars encode
+unfolding rows_of records_from next_record strip_bom rows_from trimmed_text cell_value number is_utf8 chars encode
 extra = refl
 
 -- of equal names the first counts
 equal_names : rows_of exceptions (codes "date,service_id,date,exception_type\n20250330,WK,never,2\n")
     ≡ Ok (record { service_id = codes "WK"; date = 20250330; exception_type = 2 } ∷ [])
-unfolding rows_of records_from next_record strip_bom rows_from trimmed judged date number is_utf8 chars encode
+unfolding rows_of records_from next_record strip_bom rows_from trimmed_text cell_value date number is_utf8 chars encode
 equal_names = refl
 
 -- a file of no bytes has no columns, which agency.txt may do without
@@ -97,20 +97,20 @@ no_bytes = refl
 
 -- the first missing column in the order of the table
 two_missing : rows_of exceptions (codes "exception_type\nx\n") ≡ Err (fault.MissingColumn column.ServiceId)
-unfolding rows_of records_from next_record strip_bom rows_from trimmed judged date number is_utf8 chars encode
+unfolding rows_of records_from next_record strip_bom rows_from trimmed_text cell_value date number is_utf8 chars encode
 two_missing = refl
 
 -- an id that is empty, before a date that is bad
 empty_id : rows_of exceptions (codes "service_id,date,exception_type\nWK,20250330,1\n ,x,2\n") ≡ Err (fault.BadValue 3 column.ServiceId)
-unfolding rows_of records_from next_record strip_bom rows_from trimmed judged date number is_utf8 chars encode
+unfolding rows_of records_from next_record strip_bom rows_from trimmed_text cell_value date number is_utf8 chars encode
 empty_id = refl
 
 -- bytes that are no text, in a column of numbers too
 no_text : rows_of exceptions (codes "service_id,date,exception_type\nWK,20250330," ++ 0xFF ∷ []) ≡ Err (fault.NotText 2 column.ExceptionType)
-unfolding rows_of records_from next_record strip_bom rows_from trimmed judged date number is_utf8 chars encode
+unfolding rows_of records_from next_record strip_bom rows_from trimmed_text cell_value date number is_utf8 chars encode
 no_text = refl
 
 -- the last row of data that a file may have, and one more
 row_limit : rows_from agency (cell_of []) 4000001 ([] ∷ [] ∷ []) ≡ Err fault.TooMany
-unfolding rows_from trimmed judged is_utf8 chars encode
+unfolding rows_from trimmed_text cell_value is_utf8 chars encode
 row_limit = refl

@@ -31,12 +31,12 @@ trimmed_end [] = []
 trimmed_end (b ∷ bytes) = before_trimmed b (trimmed_end bytes)
 
 -- bytes without blanks at both ends
-unfoldable pub trimmed : List ℕ → List ℕ
-trimmed bytes = trimmed_end (trimmed_start bytes)
+unfoldable pub trimmed_text : List ℕ → List ℕ
+trimmed_text bytes = trimmed_end (trimmed_start bytes)
 
 -- where a column stands: at the first field of the header that is its name
 abbrev pub place_of : List (List ℕ) → Column → Option ℕ
-place_of header column = position_from (λ name. bytes_eq (trimmed name) (column_name column)) 0 header
+place_of header column = position_from (λ name. bytes_eq (trimmed_text name) (column_name column)) 0 header
 
 -- the field at a place: empty where there is no such place, or the record is too short for it
 abbrev pub field_in : List (List ℕ) → Option ℕ → List ℕ
@@ -45,7 +45,7 @@ field_in fields (Some place) = slice_index_or fields place []
 
 -- a record's cell in a column
 abbrev pub cell_of : List (List ℕ) → List (List ℕ) → Column → List ℕ
-cell_of header fields column = trimmed (field_in fields (place_of header column))
+cell_of header fields column = trimmed_text (field_in fields (place_of header column))
 
 -- the column that a header lacks, where the file may not do without it
 abbrev pub missing_in : List (List ℕ) → Heading → Option Column

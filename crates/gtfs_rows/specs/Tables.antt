@@ -32,12 +32,12 @@ abbrev pub refusal : ℕ → Column → List ℕ → RowFault
 refusal row column cell = if is_utf8 cell then fault.BadValue row column else fault.NotText row column
 
 -- a cell of one form: it must be UTF-8, and then of that form
-unfoldable pub judged : {A : Type 0} → (List ℕ → Option A) → ℕ → Column → List ℕ → Result A RowFault
-judged form row column cell = if is_utf8 cell then ok_or (form cell) (fault.BadValue row column) else Err (fault.NotText row column)
+unfoldable pub cell_value : {A : Type 0} → (List ℕ → Option A) → ℕ → Column → List ℕ → Result A RowFault
+cell_value form row column cell = if is_utf8 cell then ok_or (form cell) (fault.BadValue row column) else Err (fault.NotText row column)
 
 -- one column, whose cells have one form
 abbrev pub one_column : {A : Type 0} → Heading → Column → (List ℕ → Option A) → Columns A
-one_column heading column form = record { headings = heading ∷ []; read = λ row cells. judged form row column (cells column) }
+one_column heading column form = record { headings = heading ∷ []; read = λ row cells. cell_value form row column (cells column) }
 
 -- a column that a file must have
 abbrev pub required : {A : Type 0} → Column → (List ℕ → Option A) → Columns A

@@ -3,9 +3,9 @@
 ghost use Rattle.std.specs.Prelude.{◌≡◌, MatchResult, true, false};
 ghost use Rattle.std.specs.Str.{is_utf8};
 ghost use Rattle.csv.specs.Records.{fields_of};
-ghost use Rattle.gtfs_rows.specs.Files.{Answers, field_in, place_of, trimmed};
+ghost use Rattle.gtfs_rows.specs.Files.{Answers, field_in, place_of, trimmed_text};
 ghost use Rattle.gtfs_rows.specs.Layout.{cells_of, places_in};
-ghost use Rattle.gtfs_rows.specs.Tables.{judged, refusal};
+ghost use Rattle.gtfs_rows.specs.Tables.{cell_value, refusal};
 ghost use Rattle.gtfs_rows.specs.Values.{any_text, clock_time, date, id_text, number, or_empty};
 
 use crate::cell_text::CellText;
@@ -17,9 +17,9 @@ use std::alloc::Global;
 use std::str;
 
 // The field at a place, without blanks: empty where there is no place or no field.
-#[tactic(auto, using(crate::proofs::CellLemmas::field_none), unfolding(crate::specs::Files::trimmed))]
+#[tactic(auto, using(crate::proofs::CellLemmas::field_none), unfolding(crate::specs::Files::trimmed_text))]
 fn field_at_place(from: &ByteRecord, place: Option<usize>) -> &[u8]
-    ensures { result.now ≡ trimmed (field_in (fields_of from.entry.now) place) }
+    ensures { result.now ≡ trimmed_text (field_in (fields_of from.entry.now) place) }
 {
     let Some(place) = place else {
         return &[];
@@ -108,9 +108,9 @@ impl<'a> Cells<'a> {
     }
 
     /// A text that isn't empty.
-    #[tactic(auto, unfolding(crate::specs::Tables::judged))]
+    #[tactic(auto, unfolding(crate::specs::Tables::cell_value))]
     pub(crate) fn id(self, alloc: Global, column: Column) -> Result<CellText, RowFault>
-        ensures { Answers (judged id_text self.entry.row column (cells_of self.entry column)) result }
+        ensures { Answers (cell_value id_text self.entry.row column (cells_of self.entry column)) result }
     {
         let text = self.text_in(column)?;
         if text.is_empty() {
@@ -123,18 +123,18 @@ impl<'a> Cells<'a> {
     }
 
     /// Any text.
-    #[tactic(auto, unfolding(crate::specs::Tables::judged))]
+    #[tactic(auto, unfolding(crate::specs::Tables::cell_value))]
     pub(crate) fn text(self, alloc: Global, column: Column) -> Result<CellText, RowFault>
-        ensures { Answers (judged any_text self.entry.row column (cells_of self.entry column)) result }
+        ensures { Answers (cell_value any_text self.entry.row column (cells_of self.entry column)) result }
     {
         let text = self.text_in(column)?;
         CellText::new(alloc, text)
     }
 
     /// A number from `low` to `high`.
-    #[tactic(auto, using(crate::proofs::AsciiLemmas::number_text), unfolding(crate::specs::Tables::judged))]
+    #[tactic(auto, using(crate::proofs::AsciiLemmas::number_text), unfolding(crate::specs::Tables::cell_value))]
     pub(crate) fn number(self, column: Column, low: u32, high: u32) -> Result<u32, RowFault>
-        ensures { Answers (judged (number low high) self.entry.row column (cells_of self.entry column)) result }
+        ensures { Answers (cell_value (number low high) self.entry.row column (cells_of self.entry column)) result }
     {
         let bytes = self.bytes(column);
         let Some(value) = read_number(bytes, low, high) else {
@@ -144,9 +144,9 @@ impl<'a> Cells<'a> {
     }
 
     /// A number from 0 to `high`, or none.
-    #[tactic(auto, using(crate::proofs::AsciiLemmas::number_text, crate::proofs::AsciiLemmas::empty_text), unfolding(crate::specs::Tables::judged))]
+    #[tactic(auto, using(crate::proofs::AsciiLemmas::number_text, crate::proofs::AsciiLemmas::empty_text), unfolding(crate::specs::Tables::cell_value))]
     pub(crate) fn optional_number(self, column: Column, high: u32) -> Result<Option<u32>, RowFault>
-        ensures { Answers (judged (or_empty (number 0 high)) self.entry.row column (cells_of self.entry column)) result }
+        ensures { Answers (cell_value (or_empty (number 0 high)) self.entry.row column (cells_of self.entry column)) result }
     {
         let bytes = self.bytes(column);
         if bytes.is_empty() {
@@ -159,9 +159,9 @@ impl<'a> Cells<'a> {
     }
 
     /// A date.
-    #[tactic(auto, using(crate::proofs::AsciiLemmas::date_text), unfolding(crate::specs::Tables::judged))]
+    #[tactic(auto, using(crate::proofs::AsciiLemmas::date_text), unfolding(crate::specs::Tables::cell_value))]
     pub(crate) fn date(self, column: Column) -> Result<u32, RowFault>
-        ensures { Answers (judged date self.entry.row column (cells_of self.entry column)) result }
+        ensures { Answers (cell_value date self.entry.row column (cells_of self.entry column)) result }
     {
         let bytes = self.bytes(column);
         let Some(value) = read_date(bytes) else {
@@ -171,9 +171,9 @@ impl<'a> Cells<'a> {
     }
 
     /// A time in seconds, or none.
-    #[tactic(auto, using(crate::proofs::AsciiLemmas::time_text, crate::proofs::AsciiLemmas::empty_text), unfolding(crate::specs::Tables::judged))]
+    #[tactic(auto, using(crate::proofs::AsciiLemmas::time_text, crate::proofs::AsciiLemmas::empty_text), unfolding(crate::specs::Tables::cell_value))]
     pub(crate) fn time(self, column: Column) -> Result<Option<u32>, RowFault>
-        ensures { Answers (judged (or_empty clock_time) self.entry.row column (cells_of self.entry column)) result }
+        ensures { Answers (cell_value (or_empty clock_time) self.entry.row column (cells_of self.entry column)) result }
     {
         let bytes = self.bytes(column);
         if bytes.is_empty() {

@@ -2,7 +2,7 @@
 
 ghost use Rattle.std.specs.Prelude.{◌≡◌, ◌≤◌, ◌<◌, ◌^◌, [], ◌∷◌, length, IfSome};
 ghost use Rattle.gtfs_rows.specs.Values.{clock_of, clock_time, date, days_of_month, digits, digits_after, is_leap, number, sixtieth};
-ghost use Rattle.gtfs_rows.specs.Files.{is_blank, trimmed, trimmed_end, trimmed_start};
+ghost use Rattle.gtfs_rows.specs.Files.{is_blank, trimmed_text, trimmed_end, trimmed_start};
 
 fn is_blank_byte(byte: u8) -> bool
     ensures { result ≡ is_blank byte }
@@ -39,9 +39,9 @@ fn trim_end(bytes: &[u8]) -> &[u8]
 }
 
 /// The bytes without spaces and tabs at both ends.
-#[tactic(auto, unfolding(crate::specs::Files::trimmed))]
+#[tactic(auto, unfolding(crate::specs::Files::trimmed_text))]
 pub(crate) fn trim(bytes: &[u8]) -> &[u8]
-    ensures { result.now ≡ trimmed bytes.entry.now }
+    ensures { result.now ≡ trimmed_text bytes.entry.now }
 {
     trim_end(trim_start(bytes))
 }

@@ -7,8 +7,8 @@ use Rattle.std.proofs.lemmas.Bool.{and_parts}
 use Rattle.std.proofs.lemmas.Bool.Decides.{nat_tests}
 use Rattle.std.proofs.lemmas.List.{append-nil, append_assoc, at_drop_more, drop_all}
 use Rattle.std.proofs.lemmas.Option.{none-some, same_Some}
-use Rattle.wire_defs.specs.Steps.{◌>>=◌}
-use Rattle.service_day.specs.Calendar.{is_day}
+use Rattle.answer_defs.specs.Steps.{◌>>=◌}
+use Rattle.text_defs.specs.Dates.{is_day}
 use Rattle.script_defs.specs.Record.{line_feed}
 use Rattle.script_defs.specs.Output.{Output}
 use Rattle.hub_outside.specs.Count.{Rose}
@@ -23,7 +23,7 @@ use Rattle.hub_config.specs.Right.{has_window}
 use Rattle.hub_config.specs.Values.{is_window_date}
 use Rattle.hub_config.specs.declared.conf.HubConf.{HubConf}
 use Rattle.hub_config.specs.declared.conf.ScheduleConf.{ScheduleConf}
-use Rattle.command_defs.specs.Checks.{checked, checked_or, conf_in, counts_line, counts_lines, named_timetable, output_of_check, plan_conf, timetables}
+use Rattle.command_defs.specs.Checks.{check_output, check_lines, conf_in, counts_line, counts_lines, timetable_or_line, output_of_check, plan_conf, timetables}
 use Rattle.hub_check.specs.Told.{Adds, Checks, IsFaultOf, HasCheckCause, HasWords, Names, Stored, Tells, line_for, lines_for, load_line, told_line, with_front}
 use Rattle.hub_check.specs.declared.fault.CheckFault.{CheckFault}
 use Rattle.hub_check.specs.declared.fault.CheckFault.TheVariants.{Refused, FileFault, NoMemory}
@@ -111,7 +111,7 @@ unfolding lines_for timetables
 lines_are files [] = refl
 lines_are files (s ∷ more) =
     ap (λ r. line_for files s >>= λ line. with_front line r) (lines_are files more)
-    ∙ bind_lines s more (named_timetable s.name (timetable files s.folder (plan_conf s))) (timetables files more)
+    ∙ bind_lines s more (timetable_or_line s.name (timetable files s.folder (plan_conf s))) (timetables files more)
 
 -- ---- the whole check
 
@@ -128,17 +128,17 @@ lines_stop : (told : Result (List ℕ) (List ℕ)) (line : List ℕ) → told_li
 lines_stop (Ok x) line h = absurd (none-some line h)
 lines_stop (Err l) line h = ap outcome_of (same_Some (l ++ line_feed) line h)
 
-pub check_refused : (files : Stored) (path : List ℕ) (fault : CheckFault) → IsFaultOf (conf_in (file_at files path)) fault → Checks (checked files path) (Err fault)
-unfolding checked
+pub check_refused : (files : Stored) (path : List ℕ) (fault : CheckFault) → IsFaultOf (conf_in (file_at files path)) fault → Checks (check_output files path) (Err fault)
+unfolding check_output
 check_refused files path (Refused line) h = conf_stops (conf_in (file_at files path)) (λ conf. timetables files conf.schedules >>= λ ts. Ok (counts_lines conf.schedules ts)) line.items h
 check_refused files path FileFault h = tt
 check_refused files path NoMemory h = tt
 
 pub check_told : (files : Stored) (path : List ℕ) (conf : HubConf) (schedules : List ScheduleConf) (result : Result (Vec ℕ Global) CheckFault) → conf_in (file_at files path) ≡ Ok conf → schedules ≡ conf.schedules
-    → Tells (λ lines. lines.items) (lines_for files schedules) result → Checks (checked files path) result
-unfolding checked
+    → Tells (λ lines. lines.items) (lines_for files schedules) result → Checks (check_output files path) result
+unfolding check_output
 check_told files path conf schedules result is same told =
-    let whole : checked_or files path ≡ lines_for files schedules =
+    let whole : check_lines files path ≡ lines_for files schedules =
     ap (λ r. r >>= λ conf. timetables files conf.schedules >>= λ ts. Ok (counts_lines conf.schedules ts)) is ∙ sym (lines_are files conf.schedules) ∙ ap (lines_for files) (sym same) in
     subst (λ r. Checks (output_of_check r) result) (sym whole) (outcome (lines_for files schedules) result told)
   where

@@ -6,7 +6,7 @@ use Rattle.hub_config.specs.Lines.{line_of}
 use Rattle.hub_config.specs.declared.fault.ConfFault.{ConfFault}
 use Rattle.hub_config.specs.declared.fault.ConfFault.TheVariants as conf
 use Rattle.hub_outside.specs.Count.{Rose}
-use Rattle.wire_defs.specs.Steps.{◌>>=◌}
+use Rattle.answer_defs.specs.Steps.{◌>>=◌}
 use Rattle.script_defs.specs.Record.{line_feed}
 use Rattle.std.specs.Fmt.{decimal}
 use Rattle.sched_types.specs.Timetable.{Timetable}
@@ -16,7 +16,7 @@ use Rattle.load_defs.specs.declared.fault.LoadFault.{LoadFault}
 use Rattle.load_defs.specs.declared.fault.LoadFault.TheVariants as load
 use Rattle.hub_config.specs.declared.conf.ScheduleConf.{ScheduleConf}
 use Rattle.command_defs.specs.Faults.{load_words}
-use Rattle.command_defs.specs.Checks.{counts_line, named_timetable, plan_conf}
+use Rattle.command_defs.specs.Checks.{counts_line, timetable_or_line, plan_conf}
 use Rattle.hub_check.specs.declared.fault.CheckFault.{CheckFault}
 use Rattle.hub_check.specs.declared.fault.CheckFault.TheVariants.{Refused, FileFault, NoMemory}
 
@@ -69,7 +69,7 @@ Names name fault NoMemory = Unit {0}
 
 -- the line of one schedule, or why there is none
 abbrev pub line_for : Stored → ScheduleConf → Result (List ℕ) (List ℕ)
-line_for files schedule = named_timetable schedule.name (timetable files schedule.folder (plan_conf schedule)) >>= λ t. Ok (counts_line schedule.name t)
+line_for files schedule = timetable_or_line schedule.name (timetable files schedule.folder (plan_conf schedule)) >>= λ t. Ok (counts_line schedule.name t)
 
 -- behind lines that are there already
 abbrev pub with_front : List ℕ → Result (List ℕ) (List ℕ) → Result (List ℕ) (List ℕ)

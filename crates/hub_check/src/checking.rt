@@ -1,6 +1,6 @@
 // A configuration and its timetables.
 ghost use Rattle.std.specs.Prelude.{◌≡◌, IfSome};
-ghost use Rattle.command_defs.specs.Checks.{checked};
+ghost use Rattle.command_defs.specs.Checks.{check_output};
 ghost use Rattle.hub_check.specs.Told.{Checks, HasCheckCause};
 
 use crate::conf::conf_at;
@@ -13,7 +13,7 @@ use std::alloc::Global;
 /// LF, as `city agencies 1 stops 5 routes 1 trips 3 times 8 days 3`, or the line of the first fault. The
 /// configuration counts first, and then its timetables in order.
 pub fn check<F: Files>(alloc: Global, files: &mut F, path: &str) -> Result<Vec<u8>, CheckFault>
-    ensures told { IfSome (F.contents files.old) (λ fs. Checks (checked fs path.now) result) }
+    ensures told { IfSome (F.contents files.old) (λ fs. Checks (check_output fs path.now) result) }
     ensures cause { HasCheckCause result (F.faults files.old) (F.faults files.new) }
     ensures same { F.contents files.new ≡ F.contents files.old }
 {

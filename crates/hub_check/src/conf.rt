@@ -6,7 +6,7 @@ ghost use Rattle.hub_config.specs.Conf.{conf_of};
 ghost use Rattle.hub_config.specs.Lines.{line_of};
 ghost use Rattle.script_defs.specs.Record.{line_feed};
 ghost use Rattle.hub_config.specs.Right.{has_window};
-ghost use Rattle.command_defs.specs.Checks.{conf_in, named_conf};
+ghost use Rattle.command_defs.specs.Checks.{conf_in, conf_or_line};
 ghost use Rattle.hub_check.specs.Told.{HasCheckCause, IsLine, NamesConf, NeedsNoFile, Tells};
 
 use crate::fault::CheckFault;
@@ -41,7 +41,7 @@ pub(crate) fn conf_at<F: Files>(
 
 // The configuration of the bytes, or the line of its fault.
 fn conf_in(alloc: Global, bytes: &[u8]) -> Result<HubConf, CheckFault>
-    ensures told { Tells (λ conf. conf) (named_conf (conf_of bytes.now)) result }
+    ensures told { Tells (λ conf. conf) (conf_or_line (conf_of bytes.now)) result }
     ensures windows { IfOk result (λ conf. list_all has_window conf.schedules ≡ true) }
     ensures files { NeedsNoFile result }
 {

@@ -4,7 +4,7 @@ ghost use Rattle.std.specs.List.{list_all};
 ghost use Rattle.std.specs.String.{string_bytes};
 ghost use Rattle.load_defs.specs.Loading.{timetable};
 ghost use Rattle.hub_config.specs.Right.{has_window};
-ghost use Rattle.command_defs.specs.Checks.{counts_line, named_timetable, plan_conf};
+ghost use Rattle.command_defs.specs.Checks.{counts_line, timetable_or_line, plan_conf};
 ghost use Rattle.hub_check.specs.Told.{Adds, HasCheckCause, network_text, traffic_text, Names, Tells, line_for, lines_for};
 
 use crate::fault::CheckFault;
@@ -76,7 +76,7 @@ fn plan_of<F: Files>(
 ) -> Result<Plan, CheckFault>
     requires { has_window schedule.now ≡ true }
     ensures told { IfSome (F.contents files.old) (λ fs.
-        Tells (λ plan. plan) (named_timetable schedule.now.name (timetable fs schedule.now.folder (plan_conf schedule.now))) result) }
+        Tells (λ plan. plan) (timetable_or_line schedule.now.name (timetable fs schedule.now.folder (plan_conf schedule.now))) result) }
     ensures cause { HasCheckCause result (F.faults files.old) (F.faults files.new) }
     ensures same { F.contents files.new ≡ F.contents files.old }
 {

@@ -6,7 +6,7 @@ use Rattle.std.specs.Str.{bytes_eq}
 use Rattle.std.specs.Char.{is_ascii_digit}
 use Rattle.std.specs.Prelude.{codes}
 use Rattle.std.specs.Str.Parse.{digits_value}
-use Rattle.service_day.specs.Calendar.{is_day}
+use Rattle.text_defs.specs.Dates.{is_day}
 use Rattle.toml.specs.Data.{Data, Items, no_items, item, Members, get_member, as_integer, as_str, as_array, as_table}
 use Rattle.hub_config.specs.declared.rule.Key.{Key}
 use Rattle.hub_config.specs.declared.rule.Holds.{Holds}

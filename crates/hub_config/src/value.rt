@@ -11,7 +11,7 @@ ghost use Rattle.hub_config.specs.Values as values;
 
 use crate::conf::PortKind;
 use crate::rule::{Absent, Holds, Key};
-use service_day::is_valid_date;
+use texts::is_valid_date;
 use toml::{Table, Value};
 
 /// The value at a key.

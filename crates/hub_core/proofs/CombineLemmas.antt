@@ -8,22 +8,22 @@ use Rattle.std.proofs.lemmas.List.Sums.{fold_more}
 use Rattle.rt_types.specs.declared.message.Entity.{Entity}
 use Rattle.feed_defs.specs.declared.history.Entry.{Entry}
 use Rattle.feed_defs.specs.declared.history.Stored.{Stored}
-use Rattle.feed_defs.specs.History.{Change, messages_of, held, last_stamp}
+use Rattle.feed_defs.specs.History.{Change, messages_of, entities_of, last_stamp}
 use Rattle.rt_types.specs.declared.message.FeedMessage.{FeedMessage}
 use Rattle.rt_types.specs.declared.enums.Incrementality.TheVariants.{FullDataset}
 use Rattle.feed_defs.specs.Table.{write}
-use Rattle.feed_defs.specs.Combined.{named, named_entities, newest_stamp, combined_message, combined}
+use Rattle.feed_defs.specs.Combined.{entity_under_feed, entities_of_feed, newest_stamp, combined_message, combined}
 use Rattle.hub_core.specs.Hub.{IsKept, greatest, tabled_entities, message_of}
 
 -- a feed more
 pub feeds_turn : (names : List (List ℕ)) (tables : List (List Change)) (i : ℕ) (name word : List ℕ) (table : List Change) (before after all : List Entity) →
     i < length names → length tables ≡ length names → name ≡ get_or names i name → word ≡ name → table ≡ get_or tables i table
-    → after ≡ before ++ map (λ change. named word change.1.entity) table
+    → after ≡ before ++ map (λ change. entity_under_feed word change.1.entity) table
     → before ++ flat_map (tabled_entities tables) (enumerate_from i (drop i names)) ≡ all
     → after ++ flat_map (tabled_entities tables) (enumerate_from (i + 1) (drop (i + 1) names)) ≡ all
 feeds_turn names tables i name word table before after all within counted item same told appended so_far =
     ap (λ xs. xs ++ flat_map (tabled_entities tables) (enumerate_from (i + 1) (drop (i + 1) names)))
-    (appended ∙ ap (λ w. before ++ map (λ change. named w change.1.entity) table) same ∙ ap (λ cs. before ++ map (λ change. named name change.1.entity) cs) read)
+    (appended ∙ ap (λ w. before ++ map (λ change. entity_under_feed w change.1.entity) table) same ∙ ap (λ cs. before ++ map (λ change. entity_under_feed name change.1.entity) cs) read)
     ∙ append_assoc before (tabled_entities tables (i, name)) _
     ∙ ap (λ xs. before ++ flat_map (tabled_entities tables) (enumerate_from i xs)) (sym left)
     ∙ so_far
@@ -57,8 +57,8 @@ newest_is names history stamps tables kept =
 -- the message of what the hub keeps is the combined one
 pub message_is : (names : List (List ℕ)) (history : List Entry) (stamps : List ℕ) (tables : List (List Change)) → IsKept names history stamps tables → message_of names stamps tables ≡ combined_message names history
 message_is names history stamps tables kept =
-    let entities : flat_map (tabled_entities tables) (enumerate_from 0 names) ≡ flat_map (named_entities history) (enumerate_from 0 names) =
-    flat_map_same (tabled_entities tables) (named_entities history) (λ one. ap (map (λ change. named one.1 change.1.entity)) (kept.held.stand one.0)) (enumerate_from 0 names) in
+    let entities : flat_map (tabled_entities tables) (enumerate_from 0 names) ≡ flat_map (entities_of_feed history) (enumerate_from 0 names) =
+    flat_map_same (tabled_entities tables) (entities_of_feed history) (λ one. ap (map (λ change. entity_under_feed one.1 change.1.entity)) (kept.held.stand one.0)) (enumerate_from 0 names) in
     let stamp = newest_is names history stamps tables kept in
     λ i. record { header = record { version = codes "2.0"; incrementality = Some FullDataset; timestamp = Some (stamp i); unknown = [] }; entity = entities i; unknown = [] }
 
@@ -78,14 +78,14 @@ parts_are names stamps tables version outer inner stamp entities v n o s e =
 
 -- when nothing is left to append, all that a table holds stands there
 pub pushed_all : (feed : List ℕ) (table : List Change) (start now : List Entity) (all left : List Stored) → all ≡ map (λ change. change.1) table → left ≡ [] →
-    now ++ map (λ stored. named feed stored.entity) left ≡ start ++ map (λ stored. named feed stored.entity) all → now ≡ start ++ map (λ change. named feed change.1.entity) table
+    now ++ map (λ stored. entity_under_feed feed stored.entity) left ≡ start ++ map (λ stored. entity_under_feed feed stored.entity) all → now ≡ start ++ map (λ change. entity_under_feed feed change.1.entity) table
 pushed_all feed table start now all left is none so_far =
     sym (append-nil now)
-    ∙ ap (λ xs. now ++ map (λ stored. named feed stored.entity) xs) (sym none)
+    ∙ ap (λ xs. now ++ map (λ stored. entity_under_feed feed stored.entity) xs) (sym none)
     ∙ so_far
-    ∙ ap (λ xs. start ++ map (λ stored. named feed stored.entity) xs) is
+    ∙ ap (λ xs. start ++ map (λ stored. entity_under_feed feed stored.entity) xs) is
     ∙ ap (λ xs. start ++ xs) (seen table)
   where
-    seen : (cs : List Change) → map (λ stored. named feed stored.entity) (map (λ change. change.1) cs) ≡ map (λ change. named feed change.1.entity) cs
+    seen : (cs : List Change) → map (λ stored. entity_under_feed feed stored.entity) (map (λ change. change.1) cs) ≡ map (λ change. entity_under_feed feed change.1.entity) cs
     seen [] = refl
-    seen (c ∷ cs) = ap (λ es. named feed c.1.entity ∷ es) (seen cs)
+    seen (c ∷ cs) = ap (λ es. entity_under_feed feed c.1.entity ∷ es) (seen cs)

@@ -5,8 +5,8 @@ use Rattle.rt_types.specs.declared.enums.Incrementality.TheVariants.{FullDataset
 use Rattle.rt_types.specs.declared.message.Entity.{Entity}
 use Rattle.rt_types.specs.declared.message.FeedMessage.{FeedMessage}
 use Rattle.feed_defs.specs.declared.history.Entry.{Entry}
-use Rattle.feed_defs.specs.History.{IsLegal, Change, last_stamp, messages_of, held}
-use Rattle.feed_defs.specs.Combined.{named}
+use Rattle.feed_defs.specs.History.{IsLegal, Change, last_stamp, messages_of, entities_of}
+use Rattle.feed_defs.specs.Combined.{entity_under_feed}
 
 -- the names of its feeds, whose numbers are their places, and what it accepted, in order
 pub record Kept : Type 0 where
@@ -15,7 +15,7 @@ pub record Kept : Type 0 where
 
 -- the tables are what each feed holds
 pub record AreHeld (history : List Entry) (tables : List (List Change)) : Type 0 where
-  pub stand : (feed : ℕ) → slice_index_or tables feed [] ≡ held (messages_of feed history)
+  pub stand : (feed : ℕ) → slice_index_or tables feed [] ≡ entities_of (messages_of feed history)
 
 -- the history is legal, the list of stamps has the last stamp of each feed, and the tables are what each holds
 pub record IsKept (names : List (List ℕ)) (history : List Entry) (stamps : List ℕ) (tables : List (List Change)) : Type 0 where
@@ -31,7 +31,7 @@ greatest numbers = fold max 0 numbers
 
 -- what the feed of a number has in the tables, under its name
 abbrev pub tabled_entities : List (List Change) → ℕ × List ℕ → List Entity
-tabled_entities tables (feed, name) = map (λ change. named name change.1.entity) (slice_index_or tables feed [])
+tabled_entities tables (feed, name) = map (λ change. entity_under_feed name change.1.entity) (slice_index_or tables feed [])
 
 -- the whole data set of these names, last stamps and tables
 abbrev pub message_of : List (List ℕ) → List ℕ → List (List Change) → FeedMessage

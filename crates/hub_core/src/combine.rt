@@ -2,7 +2,7 @@
 
 ghost use Rattle.std.specs.Prelude.{◌≡◌, ◌++◌, map, length, IfOk, OnOk};
 ghost use Rattle.std.specs.List.{flat_map, enumerate_from};
-ghost use Rattle.feed_defs.specs.Combined.{named};
+ghost use Rattle.feed_defs.specs.Combined.{entity_under_feed};
 ghost use Rattle.hub_core.specs.Hub.{greatest, tabled_entities, message_of};
 
 use entity_table::Table;
@@ -66,7 +66,7 @@ fn push_named(
     table: &Table,
     entities: &mut Vec<Entity>,
 ) -> Result<(), AllocError>
-    ensures { OnOk result (entities.new.items ≡ entities.old.items ++ map (λ change. named feed.now change.1.entity) table.now) }
+    ensures { OnOk result (entities.new.items ≡ entities.old.items ++ map (λ change. entity_under_feed feed.now change.1.entity) table.now) }
 {
     for stored in table.iter() {
         entities.push(named(alloc, feed, &stored.entity)?)?;
@@ -76,7 +76,7 @@ fn push_named(
 
 /// The entity under its feed's name, `<feed>:<id>`.
 fn named(alloc: Global, feed: &str, entity: &Entity) -> Result<Entity, AllocError>
-    ensures { IfOk result (λ same. same ≡ named feed.now entity.now) }
+    ensures { IfOk result (λ same. same ≡ entity_under_feed feed.now entity.now) }
 {
     let own = entity.id.as_str();
     let id = format!(in alloc; "{feed}:{own}")?;

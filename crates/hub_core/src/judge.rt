@@ -1,7 +1,7 @@
 // The judgement of an offered message.
 
 ghost use Rattle.std.specs.Prelude.{◌≡◌};
-ghost use Rattle.feed_defs.specs.History.{judged, well_formed, sound, has_version, has_moment, stamp_of};
+ghost use Rattle.feed_defs.specs.History.{judgement_of, well_formed, sound, has_version, has_moment, stamp_of};
 ghost use Rattle.hub_core.specs.Answers.{Judges};
 
 use crate::refusal::Refusal;
@@ -18,7 +18,7 @@ const LAST_MOMENT: u64 = 253_402_300_799;
 /// The message of the bytes, where it is well-formed and its stamp is above `last`, which is in seconds
 /// since 1970; else why it is refused.
 pub fn check(alloc: Global, last: u64, bytes: &[u8]) -> Result<FeedMessage, Refusal>
-    ensures { Judges (judged last bytes.now) result }
+    ensures { Judges (judgement_of last bytes.now) result }
 {
     let message = formed(alloc, bytes)?;
     let got = stamp(&message);

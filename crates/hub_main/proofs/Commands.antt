@@ -7,7 +7,7 @@ use Rattle.std.proofs.KnownBytes.{Appends-nil, Consumes-nil}
 use Rattle.script_defs.specs.Output.{Output, replayed}
 use Rattle.command_defs.specs.Words.{Command}
 use Rattle.command_defs.specs.Words.Command.{Replay, Check}
-use Rattle.command_defs.specs.Commands.{told_by, usage_line}
+use Rattle.command_defs.specs.Commands.{output_where_told, usage_line}
 use Rattle.hub_main.specs.Outcome.{IsStatus, Last, Outcome, output_of_script}
 use Rattle.hub_main.specs.Offline.{IsDone, NoMemoryOf, OutputFaultOf, Stored, Wholly}
 use Rattle.hub_main.proofs.Outcomes.{outcome_given}
@@ -42,8 +42,8 @@ module _ (command : Option Command) (is : command ≡ Some Replay) (result : ℕ
   whole (inr (inr (inl e))) = absurd (never_three told.is_status e)
   whole (inr (inr (inr e))) = outcome.whole (inr (inr e))
 
-  pub replay_whole : Wholly (told_by command files left) result written written'
-  replay_whole = subst (λ (cmd : Option Command). Wholly (told_by cmd files left) result written written') (sym is) (λ which. by_files left (whole which))
+  pub replay_whole : Wholly (output_where_told command files left) result written written'
+  replay_whole = subst (λ (cmd : Option Command). Wholly (output_where_told cmd files left) result written written') (sym is) (λ which. by_files left (whole which))
 
   pub replay_output : OutputFaultOf command result files left left' written written' faults faults' out out'
   replay_output = subst (λ (cmd : Option Command). OutputFaultOf cmd result files left left' written written' faults faults' out out') (sym is) outcome.output_fault
@@ -54,9 +54,9 @@ module _ (command : Option Command) (is : command ≡ Some Replay) (result : ℕ
 -- ---- no command
 
 pub usage_whole : (command : Option Command) (result : ℕ) (files : Option Stored) (left written written' : Option (List ℕ)) (out out' : ℕ) → command ≡ None
-    → Last 2 usage_line result written written' out out' → Wholly (told_by command files left) result written written'
+    → Last 2 usage_line result written written' out out' → Wholly (output_where_told command files left) result written written'
 usage_whole command result files left written written' out out' is last =
-    subst (λ (cmd : Option Command). Wholly (told_by cmd files left) result written written') (sym is) (λ which. done last which)
+    subst (λ (cmd : Option Command). Wholly (output_where_told cmd files left) result written written') (sym is) (λ which. done last which)
   where
     done : Last 2 usage_line result written written' out out' → IsDone result → Appends written written' usage_line × (result ≡ 2)
     done (count, inl (e, wrote)) which = (wrote, e)

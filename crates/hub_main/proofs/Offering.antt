@@ -5,7 +5,7 @@ use Rattle.std.proofs.lemmas.Bool.Decides.{nat_tests}
 use Rattle.std.proofs.lemmas.List.{take-append-le, drop-append-le, drop-drop, length-take-le}
 use Rattle.std.proofs.lemmas.Option.{slice_get_past, slice_get_within}
 use Rattle.feed_defs.specs.declared.history.Entry.{Entry}
-use Rattle.feed_defs.specs.History.{offered, longest_message}
+use Rattle.feed_defs.specs.History.{offer_outcome, longest_message}
 use Rattle.feed_defs.specs.History.Refusal.{TooLong}
 use Rattle.feed_defs.proofs.WellFormed.{too_long}
 use Rattle.script_defs.specs.Record.{Hub, only_if, payload_at, reply_line}
@@ -27,7 +27,7 @@ further : (n at : ℕ) (xs : List ℕ) → drop (n + 1) (drop at xs) ≡ drop (a
 further n at xs = let sum : at + (n + 1) ≡ at + n + 1 = omega arith in drop-drop (n + 1) at xs ∙ ap (λ k. drop k xs) sum
 
 -- a message longer than any may be is refused for its length alone
-refused_long : (feed : ℕ) (bytes : List ℕ) (history : List Entry) → longest_message < length bytes → offered feed bytes history ≡ record { reply = Err (TooLong (length bytes)); history = history }
+refused_long : (feed : ℕ) (bytes : List ℕ) (history : List Entry) → longest_message < length bytes → offer_outcome feed bytes history ≡ record { reply = Err (TooLong (length bytes)); history = history }
 refused_long feed bytes history long = rw (too_long bytes long) refl
 
 abbrev found_in : ℕ → List ℕ → Option (List ℕ × List ℕ)
@@ -73,12 +73,12 @@ there n behind bytes more b within at =
 
 -- a message that is offered
 pub offered_message : (hub new : Hub) (feed n behind : ℕ) (bytes payload said said' : List ℕ) → behind ≤ length bytes → slice_get bytes (behind + n) ≡ Some 10 → payload ≡ take n (drop behind bytes)
-    → said' ≡ said ++ reply_line (offered feed payload hub.history).reply → new ≡ record hub { history = (offered feed payload hub.history).history; begun = true }
+    → said' ≡ said ++ reply_line (offer_outcome feed payload hub.history).reply → new ≡ record hub { history = (offer_outcome feed payload hub.history).history; begun = true }
     → Did (λ more. numbered_turn hub feed (payload_at n (drop behind bytes ++ more))) new bytes said said' (behind + n + 1)
 offered_message hub new feed n behind bytes payload said said' within at is says hub_is =
     let inside = slice_get_within bytes (behind + n) 10 at in
     record {
-      reply = reply_line (offered feed payload hub.history).reply;
+      reply = reply_line (offer_outcome feed payload hub.history).reply;
       says = says;
       within = omega arith;
       is = λ more. rw (there n behind bytes more 10 within at, hub_is, is) refl;

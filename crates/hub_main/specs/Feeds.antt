@@ -1,7 +1,7 @@
 -- The hub of a script and its parts.
 use Rattle.std.specs.Prelude.{◌≡◌, ℕ, List, [], ◌∷◌, ◌++◌, Option, Some, None, Result, Ok, Err, Bool, true, false}
 use Rattle.feed_defs.specs.declared.history.Entry.{Entry}
-use Rattle.feed_defs.specs.History.{offered}
+use Rattle.feed_defs.specs.History.{offer_outcome}
 use Rattle.feed_defs.specs.History.Refusal.{TooLong as LongCause, Malformed as FaultCause, Version as VersionCause, BadStamp as StampCause, Stale as StaleCause}
 use Rattle.hub_core.specs.Hub.{Kept}
 use Rattle.hub_core.specs.declared.refusal.Refusal.{Refusal}
@@ -29,12 +29,12 @@ begun hub = record hub { begun = true }
 -- what an offered message is answered, and the hub behind it
 abbrev pub Answers : ℕ → List ℕ → Hub → Hub → Result ℕ Refusal → Type 0
 Answers feed bytes old new (Ok count) =
-    (offered feed bytes old.history ≡ record { reply = Ok count; history = new.history }) × (new ≡ record old { history = new.history; begun = true })
-Answers feed bytes old new (Err (TooLong len)) = (offered feed bytes old.history ≡ record { reply = Err (LongCause len); history = old.history }) × (new ≡ begun old)
-Answers feed bytes old new (Err (Malformed entity what kind field)) = (offered feed bytes old.history ≡ record { reply = Err (FaultCause (record { entity = entity; what = what; kind = kind; field = field })); history = old.history }) × (new ≡ begun old)
-Answers feed bytes old new (Err (Version version)) = (offered feed bytes old.history ≡ record { reply = Err (VersionCause version); history = old.history }) × (new ≡ begun old)
-Answers feed bytes old new (Err (BadStamp got)) = (offered feed bytes old.history ≡ record { reply = Err (StampCause got); history = old.history }) × (new ≡ begun old)
-Answers feed bytes old new (Err (Stale last got)) = (offered feed bytes old.history ≡ record { reply = Err (StaleCause last got); history = old.history }) × (new ≡ begun old)
+    (offer_outcome feed bytes old.history ≡ record { reply = Ok count; history = new.history }) × (new ≡ record old { history = new.history; begun = true })
+Answers feed bytes old new (Err (TooLong len)) = (offer_outcome feed bytes old.history ≡ record { reply = Err (LongCause len); history = old.history }) × (new ≡ begun old)
+Answers feed bytes old new (Err (Malformed entity what kind field)) = (offer_outcome feed bytes old.history ≡ record { reply = Err (FaultCause (record { entity = entity; what = what; kind = kind; field = field })); history = old.history }) × (new ≡ begun old)
+Answers feed bytes old new (Err (Version version)) = (offer_outcome feed bytes old.history ≡ record { reply = Err (VersionCause version); history = old.history }) × (new ≡ begun old)
+Answers feed bytes old new (Err (BadStamp got)) = (offer_outcome feed bytes old.history ≡ record { reply = Err (StampCause got); history = old.history }) × (new ≡ begun old)
+Answers feed bytes old new (Err (Stale last got)) = (offer_outcome feed bytes old.history ≡ record { reply = Err (StaleCause last got); history = old.history }) × (new ≡ begun old)
 Answers feed bytes old new (Err NoMemory) = Unit {0}
 
 -- a feed is declared just where it may be, and else everything stays

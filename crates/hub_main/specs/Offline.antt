@@ -5,8 +5,8 @@ use Rattle.hub_outside.specs.Count.{Rose}
 use Rattle.script_defs.specs.Output.{Output, replayed}
 use Rattle.command_defs.specs.Words.{Command}
 use Rattle.command_defs.specs.Words.Command.{Replay, Check}
-use Rattle.command_defs.specs.Checks.{checked}
-use Rattle.command_defs.specs.Commands.{file_fault_line, told_by, usage_line}
+use Rattle.command_defs.specs.Checks.{check_output}
+use Rattle.command_defs.specs.Commands.{file_fault_line, output_where_told, usage_line}
 use Rattle.hub_main.specs.Outcome.{InputFailed, OutputFailed, RanOut}
 
 -- files, as pairs of a path and its bytes
@@ -33,7 +33,7 @@ FileFailed status written written' faults faults' = status ≡ 4 → Rose faults
 abbrev pub CheckCut : List ℕ → Option Stored → Option (List ℕ) → Option (List ℕ) → ℕ → ℕ → Type 0
 CheckCut path files written written' faults faults' =
     Rose faults faults' × ((n : ℕ) × Appends written written' (take n file_fault_line))
-    ⊎ (text : List ℕ) × IfSome files (λ fs. (checked fs path).written ≡ text) × ((n : ℕ) × Appends written written' (take n text))
+    ⊎ (text : List ℕ) × IfSome files (λ fs. (check_output fs path).written ≡ text) × ((n : ℕ) × Appends written written' (take n text))
 
 -- the input failed, which only a replay can say
 abbrev pub InputFaultOf : Option Command → ℕ → Option (List ℕ) → Option (List ℕ) → Option (List ℕ) → Option (List ℕ) → ℕ → ℕ → Type 0
@@ -64,7 +64,7 @@ NoMemoryOf (Some (Check path)) status left left' written written' = status ≡ 6
 -- what a check comes to
 pub record CheckOutcome (path : List ℕ) (status : ℕ) (files : Option Stored) (written written' : Option (List ℕ)) (faults faults' out out' : ℕ) : Type 0 where
   pub is_status : (status ≡ 0) ⊎ (status ≡ 3) ⊎ (status ≡ 4) ⊎ (status ≡ 5) ⊎ (status ≡ 6)
-  pub whole : (status ≡ 0) ⊎ (status ≡ 3) → IfSome files (λ fs. Appends written written' (checked fs path).written × (status ≡ (checked fs path).status))
+  pub whole : (status ≡ 0) ⊎ (status ≡ 3) → IfSome files (λ fs. Appends written written' (check_output fs path).written × (status ≡ (check_output fs path).status))
   pub file_fault : FileFailed status written written' faults faults'
   pub output_fault : status ≡ 5 → Rose out out' × CheckCut path files written written' faults faults'
   pub no_memory : status ≡ 6 → Appends written written' []

@@ -1,6 +1,6 @@
 -- What doing a record comes to.
 use Rattle.std.specs.Prelude.{◌≡◌, ℕ, ◌+◌, ◌≤◌, ◌==◌, List, [], ◌++◌, length, drop, Option, Some, None, Result, Ok, Err, Bool, true, false, slice_get}
-use Rattle.feed_defs.specs.History.{offered}
+use Rattle.feed_defs.specs.History.{offer_outcome}
 use Rattle.feed_defs.specs.History.Refusal.{TooLong as LongCause, Malformed as FaultCause, Version as VersionCause, BadStamp as StampCause, Stale as StaleCause}
 use Rattle.hub_core.specs.declared.refusal.Refusal.{Refusal}
 use Rattle.hub_core.specs.declared.refusal.Refusal.TheVariants.{TooLong, Malformed, Version, BadStamp, Stale, NoMemory as NoRoom}
@@ -80,5 +80,5 @@ Says (Err e) said said' text = (extra : List ℕ) × (said' ≡ said ++ extra)
 -- a message was offered, its answer printed
 abbrev pub OffersTo : {A E : Type 0} → Result A E → ℕ → List ℕ → Hub → Hub → List ℕ → List ℕ → Type 0
 OffersTo (Ok x) feed bytes old new said said' =
-    (said' ≡ said ++ reply_line (offered feed bytes old.history).reply) × (new ≡ record old { history = (offered feed bytes old.history).history; begun = true })
+    (said' ≡ said ++ reply_line (offer_outcome feed bytes old.history).reply) × (new ≡ record old { history = (offer_outcome feed bytes old.history).history; begun = true })
 OffersTo (Err e) feed bytes old new said said' = (extra : List ℕ) × (said' ≡ said ++ extra)

@@ -3,7 +3,7 @@ ghost use Rattle.std.specs.Prelude.{◌≡◌, ◌≤◌, ◌⊎◌, ◌++◌, I
 ghost use Rattle.std.specs.String.{string_bytes};
 ghost use Rattle.script_defs.specs.Output.{refused_line};
 ghost use Rattle.command_defs.specs.Words.{command_of};
-ghost use Rattle.command_defs.specs.Commands.{told_by};
+ghost use Rattle.command_defs.specs.Commands.{output_where_told};
 ghost use Rattle.hub_main.specs.Outcome.{Outcome, output_of_script, Last, Finishes};
 ghost use Rattle.hub_main.specs.Offline.{CheckOutcome, FileFaultOf, InputFaultOf, IsCheck, IsExitStatus, IsReplay, NoMemoryOf, OutputFaultOf, Wholly};
 
@@ -49,7 +49,7 @@ pub fn run_offline<F: Files, S: Source, K: Sink, C: Clock>(
     clock: &mut C,
 ) -> u8
     ensures status { IsExitStatus result }
-    ensures whole { Wholly (told_by (command_of words.now) (F.contents files.old) (S.left input.old)) result (K.written out.old) (K.written out.new) }
+    ensures whole { Wholly (output_where_told (command_of words.now) (F.contents files.old) (S.left input.old)) result (K.written out.old) (K.written out.new) }
     ensures usage { result ≡ 2 → command_of words.now ≡ None }
     ensures no_command { command_of words.now ≡ None → (result ≡ 2) ⊎ (result ≡ 5) ⊎ (result ≡ 6) }
     ensures input_fault { InputFaultOf (command_of words.now) result (S.left input.old) (S.left input.new) (K.written out.old) (K.written out.new) (S.faults input.old) (S.faults input.new) }

@@ -2,7 +2,7 @@
 use Rattle.std.specs.Prelude.{ℕ, ◌==◌, min, max, Bool, List, slice_get, if◌then◌else◌}
 use Rattle.std.specs.List.{list_any}
 use Rattle.std.specs.Option.{option_map_or}
-use Rattle.hub_outside.specs.Count.{counted}
+use Rattle.hub_outside.specs.Count.{one_more}
 
 -- the numbers, from 1 on, of the calls that fail, how many calls there were, and how many faults
 pub record Called : Type 0 where
@@ -16,15 +16,15 @@ uncalled failing = record { failing = failing; calls = 0; faults = 0 }
 
 -- whether the next call fails: whether its number is listed
 abbrev pub is_failing : Called → Bool
-is_failing c = list_any (λ n. n == counted c.calls) c.failing
+is_failing c = list_any (λ n. n == one_more c.calls) c.failing
 
 -- the calls after one more that went well
 abbrev pub with_call : Called → Called
-with_call c = record { failing = c.failing; calls = counted c.calls; faults = c.faults }
+with_call c = record { failing = c.failing; calls = one_more c.calls; faults = c.faults }
 
 -- the calls after one more that was a fault
 abbrev pub with_fault : Called → Called
-with_fault c = record { failing = c.failing; calls = counted c.calls; faults = counted c.faults }
+with_fault c = record { failing = c.failing; calls = one_more c.calls; faults = one_more c.faults }
 
 -- the calls after one more, which was a fault where it is listed
 abbrev pub after_call : Called → Called

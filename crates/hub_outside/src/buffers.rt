@@ -2,7 +2,7 @@
 ghost use Rattle.std.specs.Prelude.{◌≡◌, ℕ, ◌+◌, ◌-◌, ◌<◌, ◌≤◌, min, [], ◌++◌, length, IsOk, OnOk, OnErr, IfOk};
 ghost use Rattle.std.specs.Io.{StartsWith, appended_bytes};
 ghost use Rattle.std.specs.Io.KnownBytes.{Consumes, IsAtEnd};
-ghost use Rattle.hub_outside.specs.Buffer.{Held, room_of, MakesRoom, appended, cleared};
+ghost use Rattle.hub_outside.specs.Buffer.{BufferContents, room_of, MakesRoom, contents_with, cleared_contents};
 
 use crate::adapters::retry::read_once;
 use std::alloc::{AllocError, Global};
@@ -23,9 +23,9 @@ impl Model for Buf {
     ghost use Rattle.std.specs.Prelude.{◌+◌, ◌≤◌, vec_len, vec_capacity};
     ghost use Rattle.std.specs.Io.{StartsWith, appended_bytes};
     ghost use Rattle.std.specs.Io.KnownBytes.{Consumes, IsAtEnd};
-    ghost use Rattle.hub_outside.specs.Buffer.{Held};
+    ghost use Rattle.hub_outside.specs.Buffer.{BufferContents};
 
-    ghost Value = { Held };
+    ghost Value = { BufferContents };
 
     ghost view = { λ buffer. record { bytes = buffer.items.items; spare = buffer.spare } };
 
@@ -62,7 +62,7 @@ impl Buf {
     /// that from `spare`. No room is lost in any case.
     pub fn push_all(&mut self, bytes: &[u8]) -> Result<(), AllocError>
         ensures ok { OnOk result (self.new.bytes ≡ self.old.bytes ++ bytes.now) }
-        ensures within { length bytes.now ≤ self.old.spare → IsOk result × (self.new ≡ appended self.old bytes.now) }
+        ensures within { length bytes.now ≤ self.old.spare → IsOk result × (self.new ≡ contents_with self.old bytes.now) }
         ensures err { OnErr result (self.new ≡ self.old) }
         ensures room { room_of self.old ≤ room_of self.new }
     {
@@ -74,7 +74,7 @@ impl Buf {
 
     /// Empties the buffer. Its room stays: `spare` gets the length back.
     pub fn clear(&mut self)
-        ensures { self.new ≡ cleared self.old }
+        ensures { self.new ≡ cleared_contents self.old }
     {
         self.spare += self.items.len();
         self.items.clear();

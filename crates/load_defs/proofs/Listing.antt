@@ -9,7 +9,7 @@ use Rattle.std.specs.FinMap.Entries as entries
 use Rattle.std.specs.FinMap.Entries.{below_all, is_sorted, is_sorted-put, find-put, same_entries}
 use Rattle.std.proofs.lemmas.Bool.{cases_order}
 use Rattle.std.proofs.lemmas.List.Sorted.{Contains-permutation, IsPermutation-sym}
-use Rattle.load_defs.specs.Numbers.{keyed, listed}
+use Rattle.load_defs.specs.Numbers.{rows_with_keys, rows_by_key}
 
 value_or : {A : Type 0} → A → Option A → A
 value_or d None = d
@@ -113,14 +113,14 @@ module _ {K R : Type 0} (order : K → K → Ordering) (o : IsTotalOrder order) 
       both _ _ (below_rest (key row) rows (λ j y e. h.rise 0 (suc j) row y (omega arith) refl e))
       (sorted_pairs rows (record { rise = λ i j x y l a b. h.rise (suc i) (suc j) x y (omega (arith, l)) a b }))
 
-  pub keyed_sorted : (rows : List R) → T (is_sorted order (keyed order key rows))
+  pub keyed_sorted : (rows : List R) → T (is_sorted order (rows_with_keys order key rows))
   keyed_sorted [] = tt
-  keyed_sorted (row ∷ rows) = is_sorted-put order o (key row) row (keyed order key rows) (keyed_sorted rows)
+  keyed_sorted (row ∷ rows) = is_sorted-put order o (key row) row (rows_with_keys order key rows) (keyed_sorted rows)
 
-  pub find_keyed : (q : K) (rows : List R) → entries.find order q (keyed order key rows) ≡ find (λ row. eq_by_cmp order q (key row)) rows
+  pub find_keyed : (q : K) (rows : List R) → entries.find order q (rows_with_keys order key rows) ≡ find (λ row. eq_by_cmp order q (key row)) rows
   find_keyed q [] = refl
   find_keyed q (row ∷ rows) =
-      find-put order o q (key row) row (keyed order key rows)
+      find-put order o q (key row) row (rows_with_keys order key rows)
       ∙ ap (λ r. cond (eq_by_cmp order q (key row)) (Some row) r) (find_keyed q rows)
 
   pub find_paired : (q : K) (rows : List R) → entries.find order q (paired rows) ≡ find (λ row. eq_by_cmp order q (key row)) rows
@@ -143,10 +143,10 @@ module _ {K R : Type 0} (order : K → K → Ordering) (o : IsTotalOrder order) 
       (cases_order a.0 b.0)
 
   -- a list of the same rows whose keys strictly rise is what `listed` lists
-  pub listed-permutation : (rows sorted : List R) → IsPermutation rows sorted → Rises sorted → listed order key rows ≡ sorted
-  unfolding listed
+  pub listed-permutation : (rows sorted : List R) → IsPermutation rows sorted → Rises sorted → rows_by_key order key rows ≡ sorted
+  unfolding rows_by_key
   listed-permutation rows sorted p h =
-      ap (map (λ entry. entry.1)) (same_entries order o same (keyed order key rows) (paired sorted) (keyed_sorted rows) (sorted_pairs sorted h)
+      ap (map (λ entry. entry.1)) (same_entries order o same (rows_with_keys order key rows) (paired sorted) (keyed_sorted rows) (sorted_pairs sorted h)
       (λ q. find_keyed q rows
       ∙ find-permutation (λ row. eq_by_cmp order q (key row)) rows sorted p (one_row sorted h q)
       ∙ sym (find_paired q sorted)))

@@ -4,16 +4,16 @@ use Rattle.std.specs.Prelude.{Option, Some, None, nat_le, nat_lt, slice_get}
 use Rattle.std.specs.List.{list_all}
 use Rattle.std.proofs.Math.Nat.{div-le_of_le-mul, div-mul-le_self, mul-le-mul_left}
 use Rattle.std.proofs.lemmas.Nat.{le-div}
-use Rattle.load_defs.specs.Times.{Times, between, next_timed, timed, times_behind, is_timed, is_stay, are_moves, are_times, all_times}
+use Rattle.load_defs.specs.Times.{Times, share_between, next_timed, known_times, times_behind, is_timed, is_stay, are_moves, are_times, all_times}
 
 -- an untimed place is reached by the arrival at the timed place behind it
-between_before : (departure behind ahead arrival : ℕ) → departure ≤ arrival → between departure behind (Some (ahead, arrival)) ≤ arrival
+between_before : (departure behind ahead arrival : ℕ) → departure ≤ arrival → share_between departure behind (Some (ahead, arrival)) ≤ arrival
 between_before departure behind ahead arrival h =
     let share : (arrival - departure) * behind / (behind + ahead) ≤ arrival - departure = div-le_of_le-mul (behind + ahead) (grind arith) in
     omega (arith, share, h)
 
 -- and not before the timed place in front of it is left
-between_behind : (departure behind ahead arrival : ℕ) → departure ≤ between departure behind (Some (ahead, arrival))
+between_behind : (departure behind ahead arrival : ℕ) → departure ≤ share_between departure behind (Some (ahead, arrival))
 between_behind departure behind ahead arrival = omega arith
 
 share_rises : (a b n : ℕ) → 0 < n → a * b / n ≤ a * (b + 1) / n
@@ -23,7 +23,7 @@ share_rises a b n h =
     le-div (a * b / n) (a * (b + 1)) n h (omega (arith, less, back))
 
 -- and one step further it is reached no earlier
-between_rises : (departure behind ahead arrival : ℕ) → between departure behind (Some (ahead + 1, arrival)) ≤ between departure (behind + 1) (Some (ahead, arrival))
+between_rises : (departure behind ahead arrival : ℕ) → share_between departure behind (Some (ahead + 1, arrival)) ≤ share_between departure (behind + 1) (Some (ahead, arrival))
 between_rises departure behind ahead arrival =
     let e : behind + (ahead + 1) ≡ (behind + 1) + ahead = omega arith in
     let rise : (arrival - departure) * behind / (behind + 1 + ahead) ≤ (arrival - departure) * (behind + 1) / (behind + 1 + ahead) =
@@ -47,28 +47,28 @@ IsEnded (None ∷ place ∷ places) = IsEnded (place ∷ places)
 abbrev pub IsBefore : ℕ → ℕ → ℕ → List (Option Times) → Type 0
 IsBefore time departure behind [] = Unit {0}
 IsBefore time departure behind (Some times ∷ places) = time ≤ times.arrival
-IsBefore time departure behind (None ∷ places) = time ≤ between departure behind (next_timed 1 places)
+IsBefore time departure behind (None ∷ places) = time ≤ share_between departure behind (next_timed 1 places)
 
 -- the first untimed place is reached after the timed place in front of it is left
-after_timed : (departure steps behind : ℕ) (places : List (Option Times)) → IsEnded (None ∷ places) → departure ≤ between departure behind (next_timed steps places)
+after_timed : (departure steps behind : ℕ) (places : List (Option Times)) → IsEnded (None ∷ places) → departure ≤ share_between departure behind (next_timed steps places)
 after_timed departure steps behind [] e = absurd e
 after_timed departure steps behind (Some times ∷ places) e = between_behind departure behind steps times.arrival
 after_timed departure steps behind (None ∷ places) e = after_timed departure (steps + 1) behind places e
 
 -- the next untimed place is reached no earlier
-step_rises : (departure steps behind : ℕ) (places : List (Option Times)) → between departure behind (next_timed (steps + 1) places) ≤ between departure (behind + 1) (next_timed steps places)
+step_rises : (departure steps behind : ℕ) (places : List (Option Times)) → share_between departure behind (next_timed (steps + 1) places) ≤ share_between departure (behind + 1) (next_timed steps places)
 step_rises departure steps behind [] = omega arith
 step_rises departure steps behind (Some times ∷ places) = between_rises departure behind steps times.arrival
 step_rises departure steps behind (None ∷ places) = step_rises departure (steps + 1) behind places
 
 -- what follows a timed place is reached after it is left
-begins : (departure : ℕ) (places : List (Option Times)) → IsEnded places → InOrder departure (timed places) → IsBefore departure departure 1 places
+begins : (departure : ℕ) (places : List (Option Times)) → IsEnded places → InOrder departure (known_times places) → IsBefore departure departure 1 places
 begins departure [] e h = tt
 begins departure (Some times ∷ places) e h = h.0
 begins departure (None ∷ places) e h = after_timed departure 1 1 places e
 
 -- what follows an untimed place is reached after it
-goes_on : (departure behind : ℕ) (places : List (Option Times)) → InOrder departure (timed places) → IsBefore (between departure behind (next_timed 1 places)) departure (behind + 1) places
+goes_on : (departure behind : ℕ) (places : List (Option Times)) → InOrder departure (known_times places) → IsBefore (share_between departure behind (next_timed 1 places)) departure (behind + 1) places
 goes_on departure behind [] h = tt
 goes_on departure behind (Some times ∷ places) h = between_before departure behind 1 times.arrival h.0
 goes_on departure behind (None ∷ places) h = step_rises departure 1 behind places
@@ -78,13 +78,13 @@ ended_rest [] e = absurd e
 ended_rest (place ∷ places) e = e
 
 -- all places are in order where the timed ones are, and the last is timed
-pub in_order : (time departure behind : ℕ) (places : List (Option Times)) → IsEnded places → InOrder departure (timed places) → IsBefore time departure behind places → InOrder time (times_behind departure behind places)
+pub in_order : (time departure behind : ℕ) (places : List (Option Times)) → IsEnded places → InOrder departure (known_times places) → IsBefore time departure behind places → InOrder time (times_behind departure behind places)
 unfolding times_behind
 in_order time departure behind [] e h before = tt
 in_order time departure behind (Some times ∷ places) e h before =
     (before, h.1, in_order times.departure times.departure 1 places e h.2 (begins times.departure places e h.2))
 in_order time departure behind (None ∷ places) e h before =
-    (before, omega arith, in_order (between departure behind (next_timed 1 places)) departure (behind + 1) places (ended_rest places e) h (goes_on departure behind places h))
+    (before, omega arith, in_order (share_between departure behind (next_timed 1 places)) departure (behind + 1) places (ended_rest places e) h (goes_on departure behind places h))
 
 true_false : true ≡ false → ⊥
 true_false e = subst T e tt
@@ -141,4 +141,4 @@ all_in_order places l e =
     let times = first_of_both _ _ tests in
     let ends = first_of_both _ _ times in
     in_order 0 0 0 places (ended_at places (length places - 1) (omega (arith, l)) (second_of_both _ _ ends))
-    (ordered_all (timed places) (second_of_both _ _ times) (second_of_both _ _ tests)) (from_start 0 0 places)
+    (ordered_all (known_times places) (second_of_both _ _ times) (second_of_both _ _ tests)) (from_start 0 0 places)

@@ -5,16 +5,16 @@ use lib.Utf8.{encode}
 use Rattle.csv.specs.Machine.{next_record}
 use Rattle.csv.specs.Reading.{records_from, strip_bom}
 use Rattle.jiff.proofs.OnLiterals.{jiff_on_literals}
-use Rattle.gtfs_rows.specs.Files.{rows_from, rows_of, trimmed}
-use Rattle.gtfs_rows.specs.Tables.{judged}
+use Rattle.gtfs_rows.specs.Files.{rows_from, rows_of, trimmed_text}
+use Rattle.gtfs_rows.specs.Tables.{cell_value}
 use Rattle.gtfs_rows.specs.Values.{number, date, clock_time}
-use Rattle.service_day.specs.Calendar.{day_number, next_day, date_plus}
+use Rattle.text_defs.specs.Dates.{day_number, next_day, date_plus}
 use Rattle.service_day.specs.Service.{is_active}
 use Rattle.service_day.specs.Zone.{base_of}
 use Rattle.load_defs.specs.Loading.{dataset_in, with_times, timetable}
-use Rattle.load_defs.specs.Numbers.{listed, numbered}
+use Rattle.load_defs.specs.Numbers.{rows_by_key, timetable_of}
 use Rattle.load_defs.specs.Times.{times_behind}
 
 unfoldable pub loading_on_files : ⊤
-unfolding timetable dataset_in with_times numbered listed times_behind rows_of records_from next_record strip_bom rows_from trimmed judged number date clock_time is_utf8 chars encode jiff_on_literals base_of day_number next_day date_plus is_active
+unfolding timetable dataset_in with_times timetable_of rows_by_key times_behind rows_of records_from next_record strip_bom rows_from trimmed_text cell_value number date clock_time is_utf8 chars encode jiff_on_literals base_of day_number next_day date_plus is_active
 loading_on_files = tt

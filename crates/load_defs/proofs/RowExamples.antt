@@ -1,6 +1,6 @@
 -- The rules on rows, one by one: each line computes.
 use Rattle.std.specs.Prelude.{◌≡◌, refl, ℕ, true, false, List, codes, [], ◌∷◌, map, Some, None, Err}
-use Rattle.service_day.specs.Calendar.{day_number, next_day, date_plus}
+use Rattle.text_defs.specs.Dates.{day_number, next_day, date_plus}
 use Rattle.service_day.specs.Service.{is_active}
 use Rattle.gtfs_rows.specs.declared.column.Column.TheVariants as column
 use Rattle.gtfs_rows.specs.declared.rows.AgencyRow.{AgencyRow}
@@ -12,8 +12,8 @@ use Rattle.load_defs.specs.declared.fault.File.TheVariants as file
 use Rattle.load_defs.specs.declared.fault.LoadFault.TheVariants as fault
 use Rattle.load_defs.specs.References.{consistent_agencies, consistent_routes, consistent_stop_times}
 use Rattle.load_defs.specs.Services.{active_days}
-use Rattle.load_defs.specs.Times.{Times, times_of, all_times, are_times, passing, times_behind}
-use Rattle.load_defs.specs.Numbers.{Dataset, agency_of, agency_ids, service_ids, stop_times_of, listed}
+use Rattle.load_defs.specs.Times.{Times, times_of, all_times, are_times, times_at, times_behind}
+use Rattle.load_defs.specs.Numbers.{Dataset, agency_of, agency_ids, service_ids, stop_times_of, rows_by_key}
 
 -- ---- times
 
@@ -29,17 +29,17 @@ one_time = refl
 
 -- two places between 100 and 201 lie a third and two thirds of 101 seconds behind, rounded down; the time
 -- at which the place before is left counts, and the time at which the one behind is reached
-two_between : all_times (Some (stays 90 100) ∷ None ∷ None ∷ Some (stays 201 300) ∷ []) ≡ stays 90 100 ∷ passing 133 ∷ passing 167 ∷ stays 201 300 ∷ []
+two_between : all_times (Some (stays 90 100) ∷ None ∷ None ∷ Some (stays 201 300) ∷ []) ≡ stays 90 100 ∷ times_at 133 ∷ times_at 167 ∷ stays 201 300 ∷ []
 unfolding times_behind
 two_between = refl
 
 -- after a timed place the count begins anew
-two_gaps : all_times (Some (stays 0 0) ∷ None ∷ Some (stays 10 20) ∷ None ∷ Some (stays 31 31) ∷ []) ≡ stays 0 0 ∷ passing 5 ∷ stays 10 20 ∷ passing 25 ∷ stays 31 31 ∷ []
+two_gaps : all_times (Some (stays 0 0) ∷ None ∷ Some (stays 10 20) ∷ None ∷ Some (stays 31 31) ∷ []) ≡ stays 0 0 ∷ times_at 5 ∷ stays 10 20 ∷ times_at 25 ∷ stays 31 31 ∷ []
 unfolding times_behind
 two_gaps = refl
 
 -- the one place of a trip, which is untimed
-lone_place : all_times (None ∷ []) ≡ passing 0 ∷ []
+lone_place : all_times (None ∷ []) ≡ times_at 0 ∷ []
 unfolding times_behind
 lone_place = refl
 
@@ -133,7 +133,7 @@ no_agency = refl
 -- ids by rising bytes: capitals first, and a beginning before what goes on
 rising_ids : agency_ids (record no_rows { agencies = agency (codes "b") ∷ agency (codes "ab") ∷ agency (codes "B") ∷ agency (codes "a") ∷ [] })
     ≡ codes "B" ∷ codes "a" ∷ codes "ab" ∷ codes "b" ∷ []
-unfolding listed
+unfolding rows_by_key
 rising_ids = refl
 
 -- services from each of three files, each once
@@ -141,11 +141,11 @@ all_services : service_ids (record no_rows {
   trips = trip (codes "t") (codes "r") ∷ [];
   exceptions = record { service_id = codes "A"; date = 20250304; exception_type = 1 } ∷ record { service_id = codes "A"; date = 20250305; exception_type = 1 } ∷ [];
 }) ≡ codes "A" ∷ codes "X" ∷ []
-unfolding listed
+unfolding rows_by_key
 all_services = refl
 
 -- places go by stop_sequence, and not by their order in the file
 by_sequence : map (λ row. row.stop_sequence) (stop_times_of (stop_time (codes "t") (codes "s") 9 ∷ stop_time (codes "u") (codes "s") 3 ∷ stop_time (codes "t") (codes "s") 2 ∷ []) (codes "t"))
     ≡ 2 ∷ 9 ∷ []
-unfolding listed
+unfolding rows_by_key
 by_sequence = refl

@@ -13,7 +13,7 @@ use Rattle.load_defs.specs.declared.fault.LoadFault.TheVariants as fault
 use Rattle.load_defs.specs.Files.{◌>>=◌, unless, path_of, required_rows, optional_rows}
 use Rattle.load_defs.specs.References.{first_fault, row_at, consistent_agencies, consistent_stops, consistent_routes, consistent_trips, consistent_stop_times, consistent_calendar, consistent_exceptions}
 use Rattle.load_defs.specs.Times.{are_times}
-use Rattle.load_defs.specs.Numbers.{Dataset, stop_times_of, given_times, numbered}
+use Rattle.load_defs.specs.Numbers.{Dataset, stop_times_of, given_times, timetable_of}
 
 -- the rule of a zone
 abbrev pub zone_of : List ℕ → Result TzText LoadFault
@@ -48,4 +48,4 @@ timetable files folder conf = do
   rule ← zone_of conf.zone
   rows ← dataset_in files folder
   dataset ← with_times rows
-  Ok (numbered rule conf.first conf.days dataset)
+  Ok (timetable_of rule conf.first conf.days dataset)

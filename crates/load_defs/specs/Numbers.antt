@@ -13,7 +13,7 @@ use Rattle.gtfs_rows.specs.declared.rows.TripRow.{TripRow}
 use Rattle.gtfs_rows.specs.declared.rows.StopTimeRow.{StopTimeRow}
 use Rattle.gtfs_rows.specs.declared.rows.CalendarRow.{CalendarRow}
 use Rattle.gtfs_rows.specs.declared.rows.ExceptionRow.{ExceptionRow}
-use Rattle.service_day.specs.Calendar.{date_plus}
+use Rattle.text_defs.specs.Dates.{date_plus}
 use Rattle.service_day.specs.Zone.{TzText, base_of}
 use Rattle.sched_types.specs.declared.rows.Stop.{Stop}
 use Rattle.sched_types.specs.declared.rows.Route.{Route}
@@ -34,17 +34,17 @@ pub record Dataset : Type 0 where
   pub exceptions : List ExceptionRow
 
 -- rows under their keys, by rising keys; of rows with one key the first counts
-abbrev pub keyed : {K R : Type 0} → (K → K → Ordering) → (R → K) → List R → List (K × R)
-keyed order key [] = []
-keyed order key (row ∷ rows) = put order (key row) row (keyed order key rows)
+abbrev pub rows_with_keys : {K R : Type 0} → (K → K → Ordering) → (R → K) → List R → List (K × R)
+rows_with_keys order key [] = []
+rows_with_keys order key (row ∷ rows) = put order (key row) row (rows_with_keys order key rows)
 
 -- rows by rising keys
-unfoldable pub listed : {K R : Type 0} → (K → K → Ordering) → (R → K) → List R → List R
-listed order key rows = map (λ entry. entry.1) (keyed order key rows)
+unfoldable pub rows_by_key : {K R : Type 0} → (K → K → Ordering) → (R → K) → List R → List R
+rows_by_key order key rows = map (λ entry. entry.1) (rows_with_keys order key rows)
 
 -- rows by rising bytes of their ids
 abbrev pub by_id : {R : Type 0} → (R → List ℕ) → List R → List R
-by_id id_of rows = listed (slice_cmp nat_cmp) id_of rows
+by_id id_of rows = rows_by_key (slice_cmp nat_cmp) id_of rows
 
 -- the agency_ids
 abbrev pub agency_ids : Dataset → List (List ℕ)
@@ -103,7 +103,7 @@ trip_of dataset row = record {
 
 -- the stop times of a trip, in order of stop_sequence
 abbrev pub stop_times_of : List StopTimeRow → List ℕ → List StopTimeRow
-stop_times_of rows trip_id = listed nat_cmp (λ row. row.stop_sequence) (filter (λ row. bytes_eq row.trip_id trip_id) rows)
+stop_times_of rows trip_id = rows_by_key nat_cmp (λ row. row.stop_sequence) (filter (λ row. bytes_eq row.trip_id trip_id) rows)
 
 -- their times, where they have any
 abbrev pub given_times : List StopTimeRow → List (Option Times)
@@ -124,8 +124,8 @@ abbrev pub places_with : Dataset → List StopTimeRow → List Place
 places_with dataset rows = map (place_of dataset) (zip rows (all_times (given_times rows)))
 
 -- the timetable of rows that are consistent, in a zone, for a window of days from a first one on
-unfoldable pub numbered : TzText → ℕ → ℕ → Dataset → Timetable
-numbered rule first days dataset = record {
+unfoldable pub timetable_of : TzText → ℕ → ℕ → Dataset → Timetable
+timetable_of rule first days dataset = record {
   agencies = agency_ids dataset;
   stops = map (stop_of dataset) (stop_rows dataset);
   routes = map (route_of dataset) (route_rows dataset);

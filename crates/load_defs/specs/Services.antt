@@ -4,7 +4,7 @@ use Rattle.std.specs.Prelude.{ℕ, ◌+◌, ◌*◌, Bool, bytes_eq, List, map, 
 use Rattle.std.specs.List.{range_with_len}
 use Rattle.gtfs_rows.specs.declared.rows.CalendarRow.{CalendarRow}
 use Rattle.gtfs_rows.specs.declared.rows.ExceptionRow.{ExceptionRow}
-use Rattle.service_day.specs.Calendar.{date_plus}
+use Rattle.text_defs.specs.Dates.{date_plus}
 use Rattle.service_day.specs.Service.{is_active}
 use Rattle.service_day.specs.declared.services.Exception.{Exception}
 

@@ -32,8 +32,8 @@ are_moves (a ∷ []) = true
 are_moves (a ∷ b ∷ rest) = nat_le a.departure b.arrival && are_moves (b ∷ rest)
 
 -- the timed places
-abbrev pub timed : List (Option Times) → List Times
-timed places = filter_map (λ place. place) places
+abbrev pub known_times : List (Option Times) → List Times
+known_times places = filter_map (λ place. place) places
 
 -- the times of a trip's places, in order of stop_sequence, are in order: its first and last place are
 -- timed, and its timed places follow one another. A trip with fewer than two places may have any times
@@ -41,7 +41,7 @@ abbrev pub are_times : List (Option Times) → Bool
 are_times places =
     nat_lt (length places) 2
     || (is_timed (slice_get places 0) && is_timed (slice_get places (length places - 1))
-    && list_all is_stay (timed places) && are_moves (timed places))
+    && list_all is_stay (known_times places) && are_moves (known_times places))
 
 -- the next timed place at or behind a number of steps: how many steps away it is, and when it is reached
 abbrev pub next_timed : ℕ → List (Option Times) → Option (ℕ × ℕ)
@@ -52,13 +52,13 @@ next_timed steps (None ∷ places) = next_timed (steps + 1) places
 -- when a place is reached and left that lies some steps behind a timed place, of which the departure is
 -- given, and before the next one: by its share of the steps between them, rounded down; 0 with no place
 -- behind it. In order, a departure isn't after the arrival that follows it
-abbrev pub between : ℕ → ℕ → Option (ℕ × ℕ) → ℕ
-between departure behind None = 0
-between departure behind (Some (ahead, arrival)) = departure + (arrival - departure) * behind / (behind + ahead)
+abbrev pub share_between : ℕ → ℕ → Option (ℕ × ℕ) → ℕ
+share_between departure behind None = 0
+share_between departure behind (Some (ahead, arrival)) = departure + (arrival - departure) * behind / (behind + ahead)
 
 -- a place that is left in the second at which it is reached
-abbrev pub passing : ℕ → Times
-passing time = record { arrival = time; departure = time }
+abbrev pub times_at : ℕ → Times
+times_at time = record { arrival = time; departure = time }
 
 -- the times of all places: those that they have, and of an untimed one those between. The first of them
 -- lies some steps behind a timed place, of which the departure is given
@@ -66,7 +66,7 @@ unfoldable pub times_behind : ℕ → ℕ → List (Option Times) → List Times
 times_behind departure behind [] = []
 times_behind departure behind (Some times ∷ places) = times ∷ times_behind times.departure 1 places
 times_behind departure behind (None ∷ places) =
-    passing (between departure behind (next_timed 1 places)) ∷ times_behind departure (behind + 1) places
+    times_at (share_between departure behind (next_timed 1 places)) ∷ times_behind departure (behind + 1) places
 
 -- the times of all places of a trip, untimed places between timed ones lying evenly by their number; the
 -- one untimed place of a trip has 0

@@ -1,13 +1,13 @@
 -- The texts of a TripDescriptor.
 use Rattle.std.specs.Prelude.{ℕ, ◌+◌, ◌-◌, ◌*◌, ◌&&◌, ◌==◌, nat_le, nat_lt, if◌then◌else◌, Option, Some, None, option_and_then, option_map, List, [], ◌∷◌, length, take, drop}
 use Rattle.std.specs.Char.{is_ascii_digit}
-use Rattle.service_day.specs.Calendar.{is_day}
+use Rattle.text_defs.specs.Dates.{is_day}
 
 -- a text that is present but empty counts as absent; this is a rule of this project
-abbrev pub given : Option (List ℕ) → Option (List ℕ)
-given None = None
-given (Some []) = None
-given (Some (b ∷ bytes)) = Some (b ∷ bytes)
+abbrev pub text_given : Option (List ℕ) → Option (List ℕ)
+text_given None = None
+text_given (Some []) = None
+text_given (Some (b ∷ bytes)) = Some (b ∷ bytes)
 
 -- the number that decimal digits write behind those of the number `value`; none where a byte is no digit
 abbrev pub digits_after : ℕ → List ℕ → Option ℕ

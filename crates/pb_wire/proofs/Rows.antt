@@ -12,7 +12,7 @@ use Rattle.wire_defs.specs.Field.{Field, Fault, Payload, deepest_group}
 use Rattle.wire_defs.specs.Field.Payload.{Varint, Eight, Span, Four, Group}
 use Rattle.wire_defs.specs.Spelling.{IsPayload, IsGroup, IsField, HasFields}
 use Rattle.wire_defs.specs.Reading.{field_at, fields_of}
-use Rattle.wire_defs.proofs.Steps.{bind_ok, ok_is}
+use Rattle.answer_defs.proofs.Steps.{bind_ok, ok_is}
 use Rattle.wire_defs.proofs.Bytes.{AreBytes, AreBytes-behind}
 use Rattle.wire_defs.proofs.Found.{field_found, field_long, fields_found, fields_only}
 use Rattle.pb_wire.specs.Parts.{FailsOr, Fails}

@@ -6,9 +6,9 @@ use Rattle.std.proofs.lemmas.Bool.{lt-ltb, le-ltb}
 use Rattle.std.proofs.lemmas.List.{nil_from_length}
 use Rattle.wire_defs.specs.Field.{Fault}
 use Rattle.wire_defs.specs.Field.Fault.{Cut, Overlong}
-use Rattle.wire_defs.specs.Steps.{◌>>=◌}
+use Rattle.answer_defs.specs.Steps.{◌>>=◌}
 use Rattle.wire_defs.specs.Reading.{groups_at, varint_at}
-use Rattle.wire_defs.proofs.Steps.{bind_same, bind_bind}
+use Rattle.answer_defs.proofs.Steps.{bind_same, bind_bind}
 
 -- the value so far, and the groups ahead at this scale
 pub so_far : ℕ → ℕ → ℕ → List ℕ → Result (ℕ × List ℕ) Fault

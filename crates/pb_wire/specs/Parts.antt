@@ -3,7 +3,7 @@ use Rattle.std.specs.Prelude.{◌≡◌, List, ◌++◌, map, Result, Ok, Err}
 use Rattle.wire_defs.specs.Field as wire
 use Rattle.wire_defs.specs.Field.Payload.{Varint, Eight, Span, Four, Group}
 use Rattle.wire_defs.specs.Field.Fault.{Cut, Overlong, BadTag, BadGroup}
-use Rattle.wire_defs.specs.Steps.{◌>>=◌}
+use Rattle.answer_defs.specs.Steps.{◌>>=◌}
 use Rattle.pb_wire.specs.declared.fault.WireFault.{WireFault}
 use Rattle.pb_wire.specs.declared.fault.WireFault.TheVariants as named
 use Rattle.pb_wire.specs.declared.part.PartPayload.{PartPayload}

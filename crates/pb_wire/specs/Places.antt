@@ -2,7 +2,7 @@
 use Rattle.std.specs.Prelude.{◌≡◌, ℕ, ◌+◌, ◌-◌, ◌<◌, ◌≤◌, List, [], ◌∷◌, length, map, slice_range, Result, Ok, Err}
 use Rattle.wire_defs.specs.Field as wire
 use Rattle.wire_defs.specs.Field.Payload.{Varint, Eight, Span, Four, Group}
-use Rattle.wire_defs.specs.Steps.{◌>>=◌}
+use Rattle.answer_defs.specs.Steps.{◌>>=◌}
 use Rattle.pb_wire.specs.declared.fault.WireFault.{WireFault}
 use Rattle.pb_wire.specs.declared.field.Payload.{Payload}
 use Rattle.pb_wire.specs.declared.field.Payload.TheVariants as placed

@@ -2,7 +2,7 @@
 
 ghost use Rattle.std.specs.Prelude.{◌≡◌, ℕ, List, ◌++◌, ◌≤◌, OnOk, OnErr};
 ghost use Rattle.wire_defs.specs.Field.Payload.{Varint, Span, Four};
-ghost use Rattle.wire_defs.specs.Writing.{varint, spelled};
+ghost use Rattle.wire_defs.specs.Writing.{varint, field_bytes};
 
 use std::alloc::AllocError;
 
@@ -34,7 +34,7 @@ pub fn write_scalar(number: u32, value: u64, out: &mut Vec<u8>) -> Result<(), Al
     requires first { 1 ≤ number }
     requires last { number ≤ 536870911 }
     ensures written { OnOk result
-        (out.new.items ≡ out.old.items ++ spelled (record { number = number; payload = Varint value })) }
+        (out.new.items ≡ out.old.items ++ field_bytes (record { number = number; payload = Varint value })) }
     ensures kept { OnErr result (out.new.items ≡ out.old.items) }
 {
     let length = out.len();
@@ -51,7 +51,7 @@ pub fn write_field(number: u32, bytes: &[u8], out: &mut Vec<u8>) -> Result<(), A
     requires first { 1 ≤ number }
     requires last { number ≤ 536870911 }
     ensures written { OnOk result
-        (out.new.items ≡ out.old.items ++ spelled (record { number = number; payload = Span bytes.now })) }
+        (out.new.items ≡ out.old.items ++ field_bytes (record { number = number; payload = Span bytes.now })) }
     ensures kept { OnErr result (out.new.items ≡ out.old.items) }
 {
     let length = out.len();
@@ -68,7 +68,7 @@ pub fn write_four(number: u32, value: u32, out: &mut Vec<u8>) -> Result<(), Allo
     requires first { 1 ≤ number }
     requires last { number ≤ 536870911 }
     ensures written { OnOk result
-        (out.new.items ≡ out.old.items ++ spelled (record { number = number; payload = Four value })) }
+        (out.new.items ≡ out.old.items ++ field_bytes (record { number = number; payload = Four value })) }
     ensures kept { OnErr result (out.new.items ≡ out.old.items) }
 {
     let length = out.len();
@@ -79,22 +79,22 @@ pub fn write_four(number: u32, value: u32, out: &mut Vec<u8>) -> Result<(), Allo
     answer
 }
 
-#[tactic(auto, unfolding(wire_defs::specs::Writing::spelled, wire_defs::specs::Writing::payload_bytes))]
+#[tactic(auto, unfolding(wire_defs::specs::Writing::field_bytes, wire_defs::specs::Writing::payload_bytes))]
 fn append_scalar(number: u32, value: u64, out: &mut Vec<u8>) -> Result<(), AllocError>
     requires { number ≤ 536870911 }
     ensures written { OnOk result
-        (out.new.items ≡ out.old.items ++ spelled (record { number = number; payload = Varint value })) }
+        (out.new.items ≡ out.old.items ++ field_bytes (record { number = number; payload = Varint value })) }
     ensures begins { OnErr result ((more : List ℕ) × (out.new.items ≡ out.old.items ++ more)) }
 {
     write_varint(u64::from(number) * 8, out)?;
     write_varint(value, out)
 }
 
-#[tactic(auto, unfolding(wire_defs::specs::Writing::spelled, wire_defs::specs::Writing::payload_bytes))]
+#[tactic(auto, unfolding(wire_defs::specs::Writing::field_bytes, wire_defs::specs::Writing::payload_bytes))]
 fn append_field(number: u32, bytes: &[u8], out: &mut Vec<u8>) -> Result<(), AllocError>
     requires { number ≤ 536870911 }
     ensures written { OnOk result
-        (out.new.items ≡ out.old.items ++ spelled (record { number = number; payload = Span bytes.now })) }
+        (out.new.items ≡ out.old.items ++ field_bytes (record { number = number; payload = Span bytes.now })) }
     ensures begins { OnErr result ((more : List ℕ) × (out.new.items ≡ out.old.items ++ more)) }
 {
     write_varint(u64::from(number) * 8 + 2, out)?;
@@ -102,11 +102,11 @@ fn append_field(number: u32, bytes: &[u8], out: &mut Vec<u8>) -> Result<(), Allo
     out.extend_from_slice(bytes)
 }
 
-#[tactic(auto, unfolding(wire_defs::specs::Writing::spelled, wire_defs::specs::Writing::payload_bytes))]
+#[tactic(auto, unfolding(wire_defs::specs::Writing::field_bytes, wire_defs::specs::Writing::payload_bytes))]
 fn append_four(number: u32, value: u32, out: &mut Vec<u8>) -> Result<(), AllocError>
     requires { number ≤ 536870911 }
     ensures written { OnOk result
-        (out.new.items ≡ out.old.items ++ spelled (record { number = number; payload = Four value })) }
+        (out.new.items ≡ out.old.items ++ field_bytes (record { number = number; payload = Four value })) }
     ensures begins { OnErr result ((more : List ℕ) × (out.new.items ≡ out.old.items ++ more)) }
 {
     write_varint(u64::from(number) * 8 + 5, out)?;

@@ -1,6 +1,6 @@
 // Alerts (GTFS Realtime 2.0, Alert).
 
-use crate::copied::Copied;
+use copying::Copied;
 use crate::descriptor::TripRef;
 use crate::enums::{Cause, Effect};
 use crate::items::Items;

@@ -2,7 +2,7 @@
 
 ghost use Rattle.std.specs.Prelude.{◌≡◌, IfOk};
 
-use crate::copied::Copied;
+use copying::Copied;
 use std::alloc::{AllocError, Global};
 use std::marker::Model;
 

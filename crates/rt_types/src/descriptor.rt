@@ -1,6 +1,6 @@
 // Which trip a message speaks of (GTFS Realtime 2.0, TripDescriptor).
 
-use crate::copied::Copied;
+use copying::Copied;
 use crate::enums::TripRelation;
 use crate::text::{Bytes, Text};
 use std::alloc::AllocError;

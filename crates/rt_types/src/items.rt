@@ -2,7 +2,7 @@
 
 ghost use Rattle.std.specs.Prelude.{◌≡◌};
 
-use crate::copied::Copied;
+use copying::Copied;
 use std::alloc::AllocError;
 use std::marker::Model;
 

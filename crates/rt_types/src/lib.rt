@@ -5,12 +5,12 @@
 //! `Text` and `Bytes` as a list of bytes and a list type as a list, so it compares messages by what they
 //! say. `Copied::copy` gives an equal value. `Kind` and `What` name a message and what may be wrong in it.
 //!
-//! The crate stands on nothing of this repository; the definitions of the crates above speak of its types.
+//! The crate stands on `copying` and `texts`; the definitions of the crates above speak of its types.
 #![tactic(auto)]
 
 mod alert;
 mod boxed;
-mod copied;
+mod bytes;
 mod descriptor;
 mod enums;
 mod fault;
@@ -18,7 +18,6 @@ mod items;
 mod message;
 #[cfg(test)]
 mod tests;
-mod text;
 mod trip_update;
 mod vehicle;
 
@@ -26,13 +25,14 @@ pub use alert::{
     Alert, Period, Periods, Selector, Selectors, Translated, Translation, Translations,
 };
 pub use boxed::Boxed;
-pub use copied::Copied;
+pub use bytes::Bytes;
+pub use copying::Copied;
 pub use descriptor::TripRef;
 pub use enums::{Cause, Effect, Incrementality, StopRelation, StopStatus, TripRelation};
 pub use fault::{Kind, What};
 pub use items::Items;
 pub use message::{Entities, Entity, FeedMessage, Header};
 pub use std::alloc::AllocError as NoMemory;
-pub use text::{Bytes, Text};
+pub use texts::ShortText as Text;
 pub use trip_update::{Event, StopProps, StopUpdate, StopUpdates, TripUpdate};
 pub use vehicle::{Degrees, Position, Vehicle, VehicleRef};

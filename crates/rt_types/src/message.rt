@@ -2,7 +2,7 @@
 
 use crate::alert::Alert;
 use crate::boxed::Boxed;
-use crate::copied::Copied;
+use copying::Copied;
 use crate::enums::Incrementality;
 use crate::items::Items;
 use crate::text::{Bytes, Text};

@@ -1,6 +1,6 @@
 // Updates of trips (GTFS Realtime 2.0, TripUpdate).
 
-use crate::copied::Copied;
+use copying::Copied;
 use crate::descriptor::TripRef;
 use crate::enums::StopRelation;
 use crate::items::Items;

@@ -1,6 +1,6 @@
 // Positions of vehicles (GTFS Realtime 2.0, VehiclePosition).
 
-use crate::copied::Copied;
+use copying::Copied;
 use crate::descriptor::TripRef;
 use crate::enums::StopStatus;
 use crate::text::{Bytes, Text};

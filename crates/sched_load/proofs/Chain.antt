@@ -8,7 +8,7 @@ use Rattle.load_defs.specs.declared.fault.LoadFault.TheVariants as fault
 use Rattle.load_defs.specs.Files.{◌>>=◌}
 use Rattle.load_defs.specs.declared.conf.PlanConf.{PlanConf}
 use Rattle.load_defs.specs.Loading.{dataset_in, timetable, with_times, zone_of}
-use Rattle.load_defs.specs.Numbers.{Dataset, numbered}
+use Rattle.load_defs.specs.Numbers.{Dataset, timetable_of}
 use Rattle.sched_types.specs.Timetable.{Timetable}
 use Rattle.sched_load.specs.Built.{IsBuilt}
 use Rattle.sched_load.specs.declared.tables.Tables.{Tables}
@@ -163,6 +163,6 @@ built contents t count (Ok plan) h = record { loads = if_some contents _ (ap (λ
 built contents t count (Err e) h = rw h (no_memory contents (λ _. Ok t) count)
 
 -- the timetable, step by step
-pub timetable_is : (folder : List ℕ) (conf : PlanConf) (fs : List (List ℕ × List ℕ)) → (zone_of conf.zone >>= (λ rule. dataset_in fs folder >>= (λ rows. with_times rows >>= (λ d. Ok (numbered rule conf.first conf.days d))))) ≡ timetable fs folder conf
+pub timetable_is : (folder : List ℕ) (conf : PlanConf) (fs : List (List ℕ × List ℕ)) → (zone_of conf.zone >>= (λ rule. dataset_in fs folder >>= (λ rows. with_times rows >>= (λ d. Ok (timetable_of rule conf.first conf.days d))))) ≡ timetable fs folder conf
 unfolding timetable
 timetable_is folder conf fs = refl

@@ -3,7 +3,7 @@ use Rattle.std.proofs.Common.{◌≡◌, ℕ, ◌≤◌, Bool, true, false, ◌&
 use Rattle.std.specs.Prelude.{Option, Some, None, ok_or, option_and_then, option_map, Result, Ok, Err, if◌then◌else◌}
 use Rattle.std.specs.Str.{is_utf8}
 use Rattle.std.proofs.lemmas.Bool.Decides.{nat_tests}
-use Rattle.gtfs_rows.specs.Tables.{Columns, and_then, ◌⊕◌, table, judged, required, optional, weekday, exceptions, calendar, routes, trips, stop_times}
+use Rattle.gtfs_rows.specs.Tables.{Columns, and_then, ◌⊕◌, table, cell_value, required, optional, weekday, exceptions, calendar, routes, trips, stop_times}
 use Rattle.gtfs_rows.specs.Values.{id_text, any_text, number, or_empty, within, digits, date, clock_time}
 use Rattle.gtfs_rows.specs.declared.column.Column.{Column}
 use Rattle.gtfs_rows.specs.declared.column.Column.TheVariants as column
@@ -31,8 +31,8 @@ table_within make a P Q p f row cells x e =
 any_within : {A : Type 0} (a : Columns A) → AreWithin a (λ _. Unit {0})
 any_within a row cells x e = tt
 
-judged_ok : {A : Type 0} (form : List ℕ → Option A) (row : ℕ) (column : Column) (cell : List ℕ) (x : A) → judged form row column cell ≡ Ok x → form cell ≡ Some x
-unfolding judged
+judged_ok : {A : Type 0} (form : List ℕ → Option A) (row : ℕ) (column : Column) (cell : List ℕ) (x : A) → cell_value form row column cell ≡ Ok x → form cell ≡ Some x
+unfolding cell_value
 judged_ok {A} form row column cell x e = by (is_utf8 cell) (form cell) refl e
   where
     by : (b : Bool) (o : Option A) → form cell ≡ o → (if b then ok_or o (fault.BadValue row column) else Err (fault.NotText row column)) ≡ Ok x → form cell ≡ Some x

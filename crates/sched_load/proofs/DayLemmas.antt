@@ -8,10 +8,10 @@ use Rattle.sched_load.specs.Days.{Flagged}
 use Rattle.std.specs.FinMap.Entries.{find}
 use Rattle.std.proofs.lemmas.List.{append-nil}
 use Rattle.std.proofs.lemmas.List.Elements.{filter-append}
-use Rattle.service_day.specs.Calendar.{date_plus, day_number, is_day, next_day}
+use Rattle.text_defs.specs.Dates.{date_plus, day_number, is_day, next_day}
 use Rattle.service_day.specs.Zone.{TzText, base_of}
-use Rattle.service_day.proofs.CalendarLaws.{date_plus-window, day_number-lt}
-use Rattle.service_day.proofs.CalendarLemmas.{IsDay-is_day}
+use Rattle.text_defs.proofs.DateLaws.{date_plus-window, day_number-lt}
+use Rattle.text_defs.proofs.DateLemmas.{IsDay-is_day}
 use Rattle.std.proofs.lemmas.Bool.{cases_lt}
 use Rattle.std.proofs.lemmas.List.FromFn.{map-range_with_len_more}
 use Rattle.std.proofs.lemmas.Option.{none-some as none_some, same_Some}

@@ -24,7 +24,7 @@ use Rattle.std.proofs.lemmas.Map.Text.{is_eq-slice_cmp}
 use Rattle.std.proofs.lemmas.Option.{none-some as none_some, same_Some, slice_get-map, slice_get_within}
 use Rattle.sched_types.specs.Timetable.{RisesById, number_of}
 use Rattle.sched_types.proofs.TimetableLaws.{number_leads, one_row}
-use Rattle.load_defs.specs.Numbers.{keyed}
+use Rattle.load_defs.specs.Numbers.{rows_with_keys}
 use Rattle.std.specs.Cmp.{tied_itself}
 use Rattle.std.specs.Prelude.{option_map}
 use Rattle.load_defs.proofs.Listing.{find_keyed, equal_is}
@@ -145,8 +145,8 @@ module _ {R V X : Type 0} (gid : R → List ℕ) (key : V → ℕ) (value : R �
         any_found (λ v. eq_by_cmp nat_cmp (key (value row)) (key v)) vs
         ∙ sym (ap is_some (find_keyed nat_cmp nat_cmp_total nat_cmp-IsAntisymmetric key (key (value row)) vs))
         ∙ sym (ap (λ es. is_some (entries.find nat_cmp (key (value row)) es)) own_group) ∙ group_twin ∙ fresh in
-        ap (λ rs. keyed nat_cmp key (map value rs)) (filter_more (gid row) true (text_itself (gid row)))
-        ∙ ap (keyed nat_cmp key) (map-append value (filter (λ e. bytes_eq (gid e) (gid row)) (take n rows)) (row ∷ []))
+        ap (λ rs. rows_with_keys nat_cmp key (map value rs)) (filter_more (gid row) true (text_itself (gid row)))
+        ∙ ap (rows_with_keys nat_cmp key) (map-append value (filter (λ e. bytes_eq (gid e) (gid row)) (take n rows)) (row ∷ []))
         ∙ keyed_push nat_cmp nat_cmp_total nat_cmp-IsAntisymmetric key vs (value row)
         (λ k v is tied. absurd (true_false (sym (ap is_eq tied) ∙ not_any (λ w. eq_by_cmp nat_cmp (key (value row)) (key w)) vs k v none is)))
 
@@ -156,7 +156,7 @@ module _ {R V X : Type 0} (gid : R → List ℕ) (key : V → ℕ) (value : R �
         puts.1
         ∙ ap (λ es. set (groups_taken n) g (put nat_cmp (key (value row)) (value row) es)) own_group
         ∙ map_set_at (λ x. group_of gid key value (take n rows) (id_of x)) (λ x. group_of gid key value (take (n + 1) rows) (id_of x)) xs g (put nat_cmp (key (value row)) (value row) (group_of gid key value (take n rows) (gid row)))
-        (λ i x is apart. ap (λ rs. keyed nat_cmp key (map value rs)) (sym (filter_more (id_of x) false (other_id i x is apart) ∙ append-nil _)))
+        (λ i x is apart. ap (λ rs. rows_with_keys nat_cmp key (map value rs)) (sym (filter_more (id_of x) false (other_id i x is apart) ∙ append-nil _)))
         (λ x is. let own = number_leads id_of xs (gid row) g number in ap (group_of gid key value (take (n + 1) rows)) (ap id_of (same_Some _ _ (sym is ∙ own.at)) ∙ own.has) ∙ group_push none)
 
     pub group_judged : (after : List (List (ℕ × V))) (fresh : Bool) → PutsNew (groups_taken n) after g (key (value row)) (value row) fresh → list_any (λ e. bytes_eq (gid e) (gid row) && (key (value e) == key (value row))) (take n rows) ≡ not fresh

@@ -9,7 +9,7 @@ use Rattle.std.specs.declared.cmp.Ordering.{Ordering}
 use Rattle.std.specs.declared.cmp.Ordering.TheVariants.{Less, Equal, Greater}
 use Rattle.std.specs.FinMap.Entries as entries
 use Rattle.std.specs.FinMap.Entries.{put, by_order, below_all, is_sorted, is_sorted-put, find-put, same_entries}
-use Rattle.load_defs.specs.Numbers.{keyed, listed}
+use Rattle.load_defs.specs.Numbers.{rows_with_keys, rows_by_key}
 use Rattle.std.proofs.lemmas.List.{length-map}
 use Rattle.std.proofs.lemmas.Option.{none-some as none_some, same_Some}
 use Rattle.load_defs.proofs.Listing.{find_keyed, keyed_sorted, find_paired, paired, equal_is, less_equal, Rises}
@@ -48,14 +48,14 @@ any_found test (x ∷ xs) = by (test x) (any_found test xs)
 
 module _ {K R : Type 0} (order : K → K → Ordering) (o : IsTotalOrder order) (same : (x y : K) → order x y ≡ Equal → x ≡ y) (key : R → K) where
   -- rows with one more, which is the one with its key where another row has it
-  pub keyed_push : (rows : List R) (row : R) → ((k : ℕ) (x : R) → slice_get rows k ≡ Some x → order (key row) (key x) ≡ Equal → x ≡ row) → keyed order key (rows ++ row ∷ []) ≡ put order (key row) row (keyed order key rows)
+  pub keyed_push : (rows : List R) (row : R) → ((k : ℕ) (x : R) → slice_get rows k ≡ Some x → order (key row) (key x) ≡ Equal → x ≡ row) → rows_with_keys order key (rows ++ row ∷ []) ≡ put order (key row) row (rows_with_keys order key rows)
   keyed_push rows row alone =
-      same_entries order o same (keyed order key (rows ++ row ∷ [])) (put order (key row) row (keyed order key rows))
-      (keyed_sorted order o same key (rows ++ row ∷ [])) (is_sorted-put order o (key row) row (keyed order key rows) (keyed_sorted order o same key rows))
+      same_entries order o same (rows_with_keys order key (rows ++ row ∷ [])) (put order (key row) row (rows_with_keys order key rows))
+      (keyed_sorted order o same key (rows ++ row ∷ [])) (is_sorted-put order o (key row) row (rows_with_keys order key rows) (keyed_sorted order o same key rows))
       (λ q. find_keyed order o same key q (rows ++ row ∷ [])
       ∙ find_push (λ r. eq_by_cmp order q (key r)) rows row (λ k x at p r. alone k x at (sym (o.congr q (key row) (key x) (equal_is _ r)) ∙ equal_is _ p))
       ∙ ap (cond (eq_by_cmp order q (key row)) (Some row)) (sym (find_keyed order o same key q rows))
-      ∙ sym (find-put order o q (key row) row (keyed order key rows)))
+      ∙ sym (find-put order o q (key row) row (rows_with_keys order key rows)))
 
   put_paired : (row : R) (rows : List R) → (rest : List R) × (put order (key row) row (paired order o same key rows) ≡ paired order o same key rest)
   put_paired row [] = (row ∷ [], refl)
@@ -68,7 +68,7 @@ module _ {K R : Type 0} (order : K → K → Ordering) (o : IsTotalOrder order) 
       by Greater e more = (r ∷ more.0, ap (λ rest. (key r, r) ∷ rest) more.1)
 
   -- each row stands under its key
-  some_paired : (rows : List R) → (rest : List R) × (keyed order key rows ≡ paired order o same key rest)
+  some_paired : (rows : List R) → (rest : List R) × (rows_with_keys order key rows ≡ paired order o same key rest)
   some_paired [] = ([], refl)
   some_paired (row ∷ rows) =
       let more = some_paired rows in
@@ -79,8 +79,8 @@ module _ {K R : Type 0} (order : K → K → Ordering) (o : IsTotalOrder order) 
   values_of_paired [] = refl
   values_of_paired (row ∷ rows) = ap (λ rest. row ∷ rest) (values_of_paired rows)
 
-  pub keyed_paired : (rows : List R) → keyed order key rows ≡ paired order o same key (listed order key rows)
-  unfolding listed
+  pub keyed_paired : (rows : List R) → rows_with_keys order key rows ≡ paired order o same key (rows_by_key order key rows)
+  unfolding rows_by_key
   keyed_paired rows =
       let some = some_paired rows in
       some.1 ∙ ap (paired order o same key) (sym (ap (map (λ entry. entry.1)) some.1 ∙ values_of_paired some.0))
@@ -97,13 +97,13 @@ module _ {K R : Type 0} (order : K → K → Ordering) (o : IsTotalOrder order) 
   rises_paired (row ∷ rows) h (suc i) (suc j) x y l a b = rises_paired rows (second_of _ _ h) i j x y (omega (arith, l)) a b
 
   -- rows that are listed have rising keys
-  pub listed_rises : (rows : List R) → Rises order o same key (listed order key rows)
-  listed_rises rows = record { rise = rises_paired (listed order key rows) (subst (λ es. T (is_sorted order es)) (keyed_paired rows) (keyed_sorted order o same key rows)) }
+  pub listed_rises : (rows : List R) → Rises order o same key (rows_by_key order key rows)
+  listed_rises rows = record { rise = rises_paired (rows_by_key order key rows) (subst (λ es. T (is_sorted order es)) (keyed_paired rows) (keyed_sorted order o same key rows)) }
 
   -- what is found among rows is found among the same rows by rising keys
-  pub find_listed : (q : K) (rows : List R) → find (λ row. eq_by_cmp order q (key row)) (listed order key rows) ≡ find (λ row. eq_by_cmp order q (key row)) rows
+  pub find_listed : (q : K) (rows : List R) → find (λ row. eq_by_cmp order q (key row)) (rows_by_key order key rows) ≡ find (λ row. eq_by_cmp order q (key row)) rows
   find_listed q rows =
-      sym (find_paired order o same key q (listed order key rows)) ∙ ap (entries.find order q) (sym (keyed_paired rows)) ∙ find_keyed order o same key q rows
+      sym (find_paired order o same key q (rows_by_key order key rows)) ∙ ap (entries.find order q) (sym (keyed_paired rows)) ∙ find_keyed order o same key q rows
 
 -- rows that are made of others are listed as these
 module _ {K R S : Type 0} (order : K → K → Ordering) (key : S → K) (f : R → S) where
@@ -118,17 +118,17 @@ module _ {K R S : Type 0} (order : K → K → Ordering) (key : S → K) (f : R 
       by Equal r = refl
       by Greater r = ap (λ rest. (e.0, f e.1) ∷ rest) r
 
-  pub keyed_map : (rows : List R) → keyed order key (map f rows) ≡ map (λ e. (e.0, f e.1)) (keyed order (λ row. key (f row)) rows)
+  pub keyed_map : (rows : List R) → rows_with_keys order key (map f rows) ≡ map (λ e. (e.0, f e.1)) (rows_with_keys order (λ row. key (f row)) rows)
   keyed_map [] = refl
-  keyed_map (row ∷ rows) = ap (put order (key (f row)) (f row)) (keyed_map rows) ∙ put_map (key (f row)) row (keyed order (λ r. key (f r)) rows)
+  keyed_map (row ∷ rows) = ap (put order (key (f row)) (f row)) (keyed_map rows) ∙ put_map (key (f row)) row (rows_with_keys order (λ r. key (f r)) rows)
 
   values_map : (es : List (K × R)) → map (λ (e : K × S). e.1) (map (λ e. (e.0, f e.1)) es) ≡ map f (map (λ e. e.1) es)
   values_map [] = refl
   values_map (e ∷ es) = ap (λ rest. f e.1 ∷ rest) (values_map es)
 
-  pub listed_map : (rows : List R) → listed order key (map f rows) ≡ map f (listed order (λ row. key (f row)) rows)
-  unfolding listed
-  listed_map rows = ap (map (λ (e : K × S). e.1)) (keyed_map rows) ∙ values_map (keyed order (λ row. key (f row)) rows)
+  pub listed_map : (rows : List R) → rows_by_key order key (map f rows) ≡ map f (rows_by_key order (λ row. key (f row)) rows)
+  unfolding rows_by_key
+  listed_map rows = ap (map (λ (e : K × S). e.1)) (keyed_map rows) ∙ values_map (rows_with_keys order (λ row. key (f row)) rows)
 
 -- there are no more keys than rows
 module _ {K R : Type 0} (order : K → K → Ordering) (key : R → K) where
@@ -141,10 +141,10 @@ module _ {K R : Type 0} (order : K → K → Ordering) (key : R → K) where
       by Equal h = omega arith
       by Greater h = omega arith
 
-  pub keyed_short : (rows : List R) → length (keyed order key rows) ≤ length rows
+  pub keyed_short : (rows : List R) → length (rows_with_keys order key rows) ≤ length rows
   keyed_short [] = omega arith
-  keyed_short (row ∷ rows) = let one = put_short (key row) row (keyed order key rows) in let rest = keyed_short rows in omega (arith, one, rest)
+  keyed_short (row ∷ rows) = let one = put_short (key row) row (rows_with_keys order key rows) in let rest = keyed_short rows in omega (arith, one, rest)
 
-  pub listed_short : (rows : List R) → length (listed order key rows) ≤ length rows
-  unfolding listed
-  listed_short rows = let h = keyed_short rows in let l = length-map (keyed order key rows) (λ (e : K × R). e.1) in omega (arith, h, l)
+  pub listed_short : (rows : List R) → length (rows_by_key order key rows) ≤ length rows
+  unfolding rows_by_key
+  listed_short rows = let h = keyed_short rows in let l = length-map (rows_with_keys order key rows) (λ (e : K × R). e.1) in omega (arith, h, l)

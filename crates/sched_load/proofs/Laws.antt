@@ -6,7 +6,7 @@ use Rattle.std.proofs.lemmas.Bool.Decides.{nat_tests}
 use Rattle.std.proofs.lemmas.Option.{none-some as none_some, same_Some}
 use Rattle.csv.specs.Reading.{records, default_config, strip_bom}
 use Rattle.gtfs_rows.specs.Files.{rows_of, rows_of_records, rows_under, rows_from, row_of, all_ok, unless_missing, first_missing, cell_of}
-use Rattle.gtfs_rows.specs.Tables.{Columns, and_then, ◌⊕◌, table, judged, one_column}
+use Rattle.gtfs_rows.specs.Tables.{Columns, and_then, ◌⊕◌, table, cell_value, one_column}
 use Rattle.gtfs_rows.specs.declared.column.Column.{Column}
 use Rattle.gtfs_rows.specs.declared.fault.RowFault.{RowFault}
 use Rattle.gtfs_rows.specs.declared.fault.RowFault.TheVariants as fault

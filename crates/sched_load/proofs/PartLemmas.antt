@@ -22,14 +22,14 @@ use Rattle.sched_types.specs.declared.rows.Stop.{Stop}
 use Rattle.sched_types.specs.declared.rows.Route.{Route}
 use Rattle.sched_types.specs.declared.rows.Trip.{Trip}
 use Rattle.sched_types.specs.declared.rows.Place.{Place}
-use Rattle.service_day.specs.Calendar.{date_plus}
+use Rattle.text_defs.specs.Dates.{date_plus}
 use Rattle.service_day.specs.Service as service
 use Rattle.service_day.specs.Service.{exception_on, is_active, is_regular}
 use Rattle.service_day.specs.declared.services.Exception.{Exception}
 use Rattle.sched_types.specs.Timetable.{number_of}
 use Rattle.sched_types.proofs.TimetableLaws.{number_leads, own_number}
 use Rattle.load_defs.specs.declared.fault.File.TheVariants as file
-use Rattle.load_defs.specs.Numbers.{Dataset, agency_ids, agency_of, by_id, given_times, keyed, listed, numbered, place_of, places_with, route_of, route_rows, service_ids, stop_of, stop_rows, stop_times_of, trip_of, trip_rows}
+use Rattle.load_defs.specs.Numbers.{Dataset, agency_ids, agency_of, by_id, given_times, rows_with_keys, rows_by_key, timetable_of, place_of, places_with, route_of, route_rows, service_ids, stop_of, stop_rows, stop_times_of, trip_of, trip_rows}
 use Rattle.load_defs.specs.Services.{active_days, calendar_of, exceptions_of, flags_of, is_active_by}
 use Rattle.load_defs.specs.Times.{Times, all_times}
 use Rattle.load_defs.proofs.Listing.{find_keyed}
@@ -175,8 +175,8 @@ pub table_made : (rule : TzText) (first days : ℕ) (d : Dataset) (agencies : Li
     → agencies ≡ agency_ids d → stops ≡ map (stop_of d) (stop_rows d) → routes ≡ map (route_of d) (route_rows d) → trips ≡ map (trip_of d) (trip_rows d)
     → places ≡ map (λ trip. places_with d (stop_times_of d.stop_times trip.trip_id)) (trip_rows d) → active ≡ map (active_days d.calendar d.exceptions first days) (service_ids d)
     → bases ≡ map (λ day. base_of rule (date_plus first day)) (range_with_len 0 days)
-    → record { agencies = agencies; stops = stops; routes = routes; trips = trips; places = places; active = active; first = first; bases = bases } ≡ numbered rule first days d
-unfolding numbered
+    → record { agencies = agencies; stops = stops; routes = routes; trips = trips; places = places; active = active; first = first; bases = bases } ≡ timetable_of rule first days d
+unfolding timetable_of
 table_made rule first days d agencies stops routes trips places active bases e1 e2 e3 e4 e5 e6 e7 =
     ap (λ x. record { agencies = x; stops = stops; routes = routes; trips = trips; places = places; active = active; first = first; bases = bases }) e1
     ∙ ap (λ x. record { agencies = agency_ids d; stops = x; routes = routes; trips = trips; places = places; active = active; first = first; bases = bases }) e2

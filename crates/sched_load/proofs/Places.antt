@@ -18,7 +18,7 @@ use Rattle.std.proofs.lemmas.List.{length-map}
 use Rattle.std.proofs.lemmas.List.FromFn.{fill_by_all, map-range_with_len_more}
 use Rattle.std.proofs.lemmas.Option.{none-some as none_some, same_Some, slice_get_within}
 use Rattle.std.proofs.lemmas.Map.Text.{is_eq-slice_cmp}
-use Rattle.load_defs.specs.Numbers.{by_id, keyed, listed}
+use Rattle.load_defs.specs.Numbers.{by_id, rows_with_keys, rows_by_key}
 use Rattle.load_defs.proofs.Listing.{find_keyed}
 use Rattle.sched_load.specs.Listed.{IsOrder, same_id, texts_seen}
 use Rattle.sched_load.proofs.Keyed.{any_found, keyed_push, listed_map}
@@ -99,7 +99,7 @@ module _ {R : Type 0} (id_of : R → List ℕ) where
 
   -- the places of the first rows by rising ids
   abbrev pub places_taken : List R → ℕ → List (List ℕ × ℕ)
-  places_taken rows n = keyed (slice_cmp nat_cmp) (id_at rows) (range_with_len 0 n)
+  places_taken rows n = rows_with_keys (slice_cmp nat_cmp) (id_at rows) (range_with_len 0 n)
 
   id_taken : (rows : List R) (n k : ℕ) → n ≤ length rows → k < n → get_or (map id_of (take n rows)) k [] ≡ id_at rows k
   id_taken [] n k h l = absurd (omega (arith, h, l))
@@ -136,7 +136,7 @@ module _ {R : Type 0} (id_of : R → List ℕ) where
       let none : list_any (λ i. eq_by_cmp (slice_cmp nat_cmp) (id_of row) (id_at rows i)) (range_with_len 0 n) ≡ false =
       twin_any rows n row (let within = slice_get_within rows n row at in omega (arith, within)) ∙ fresh in
       let more : 0 + n ≡ n = omega arith in
-      ap (keyed (slice_cmp nat_cmp) (id_at rows)) (range_more 0 n n more)
+      ap (rows_with_keys (slice_cmp nat_cmp) (id_at rows)) (range_more 0 n n more)
       ∙ keyed_push (slice_cmp nat_cmp) nat_list_cmp_total text_same (id_at rows) (range_with_len 0 n) n
       (λ k x is tied. absurd (true_false (sym (ap is_eq (ap (λ i. slice_cmp nat_cmp i (id_at rows x)) (sym (ap id_in at)) ∙ tied)) ∙ not_any (λ i. eq_by_cmp (slice_cmp nat_cmp) (id_of row) (id_at rows i)) (range_with_len 0 n) k x none is)))
       ∙ ap (λ i. put (slice_cmp nat_cmp) i n (places_taken rows n)) (ap id_in at)
@@ -151,11 +151,11 @@ module _ {R : Type 0} (id_of : R → List ℕ) where
 
   -- the places of all rows are their order
   pub places_order : (rows : List R) → IsOrder id_of rows (map (λ entry. entry.1) (places_taken rows (length rows)))
-  unfolding listed
+  unfolding rows_by_key
   places_order rows = record {
     rows_are =
         sym (listed_map (slice_cmp nat_cmp) id_in (slice_get rows) (range_with_len 0 (length rows)))
-        ∙ ap (listed (slice_cmp nat_cmp) id_in) (sym (rows_read rows))
+        ∙ ap (rows_by_key (slice_cmp nat_cmp) id_in) (sym (rows_read rows))
         ∙ listed_map (slice_cmp nat_cmp) id_in (λ row. Some row) rows;
   }
 

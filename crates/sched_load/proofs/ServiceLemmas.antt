@@ -17,7 +17,7 @@ use Rattle.service_day.specs.declared.services.Exception.{Exception}
 use Rattle.sched_types.specs.Timetable.{RisesById, number_of}
 use Rattle.load_defs.specs.declared.fault.File.TheVariants as file
 use Rattle.load_defs.specs.declared.fault.LoadFault.TheVariants as fault
-use Rattle.load_defs.specs.Numbers.{by_id, keyed, listed}
+use Rattle.load_defs.specs.Numbers.{by_id, rows_with_keys, rows_by_key}
 use Rattle.load_defs.specs.References.{refers_to_none, consistent_exceptions, row_at}
 use Rattle.load_defs.proofs.Listing.{paired}
 use Rattle.sched_load.specs.Groups.{exceptions_of, exception_of}
@@ -36,7 +36,7 @@ or_true false b e = e
 gathered_push : (ids : List (List ℕ)) (id : List ℕ) → ids_gathered (ids ++ id ∷ []) ≡ put (slice_cmp nat_cmp) id tt (ids_gathered ids)
 gathered_push ids id =
     ap (map (λ (entry : List ℕ × List ℕ). (entry.0, tt))) (keyed_push (slice_cmp nat_cmp) nat_list_cmp_total text_same (λ i. i) ids id (λ k x at tied. sym (text_same id x tied)))
-    ∙ sym (put_map (slice_cmp nat_cmp) (λ (i : Unit {0}). id) (λ (i : List ℕ). tt) id id (keyed (slice_cmp nat_cmp) (λ i. i) ids))
+    ∙ sym (put_map (slice_cmp nat_cmp) (λ (i : Unit {0}). id) (λ (i : List ℕ). tt) id id (rows_with_keys (slice_cmp nat_cmp) (λ i. i) ids))
 
 -- the service of one row more
 pub gathered_more : {R : Type 0} (service_of : R → List ℕ) (rows : List R) (i : ℕ) (row : R) (k : Bor (List ℕ)) (before : List (List ℕ)) (old new : List (Bor (List ℕ) × Unit {0})) → i < length rows → row ≡ get_or rows i row → k.now ≡ service_of row → new ≡ insert_entry text_cmp old k tt

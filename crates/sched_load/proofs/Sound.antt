@@ -22,7 +22,7 @@ use Rattle.gtfs_rows.specs.declared.rows.StopRow.{StopRow}
 use Rattle.gtfs_rows.specs.declared.rows.RouteRow.{RouteRow}
 use Rattle.gtfs_rows.specs.declared.rows.TripRow.{TripRow}
 use Rattle.gtfs_rows.specs.declared.rows.StopTimeRow.{StopTimeRow}
-use Rattle.service_day.specs.Calendar.{is_day, date_plus}
+use Rattle.text_defs.specs.Dates.{is_day, date_plus}
 use Rattle.service_day.specs.Zone.{TzText, base_of}
 use Rattle.sched_types.specs.Timetable.{Timetable, IsTimetable, IsSmall, RisesById, number_of, places_of, days_of}
 use Rattle.sched_types.specs.declared.rows.Place.{Place}
@@ -34,7 +34,7 @@ use Rattle.load_defs.specs.declared.fault.LoadFault.TheVariants as fault
 use Rattle.load_defs.specs.Files.{unless}
 use Rattle.load_defs.specs.Loading.{times_fault, with_times}
 use Rattle.load_defs.specs.References.{consistent, first_fault, has_id, row_fault, unless_known, unknown_in_trip, unknown_in_stop_time}
-use Rattle.load_defs.specs.Numbers.{Dataset, agency_ids, agency_of, by_id, given_times, keyed, known_number, listed, numbered, place_of, places_with, route_of, route_rows, service_ids, stop_of, stop_rows, stop_times_of, trip_of, trip_rows}
+use Rattle.load_defs.specs.Numbers.{Dataset, agency_ids, agency_of, by_id, given_times, rows_with_keys, known_number, rows_by_key, timetable_of, place_of, places_with, route_of, route_rows, service_ids, stop_of, stop_rows, stop_times_of, trip_of, trip_rows}
 use Rattle.load_defs.specs.Services.{active_days}
 use Rattle.load_defs.specs.Times.{Times, all_times, are_times, times_of}
 use Rattle.load_defs.proofs.Moves.{InOrder, all_in_order}
@@ -69,13 +69,13 @@ module _ {K R : Type 0} (order : K → K → Ordering) (key : R → K) (P : R �
       by Greater zero is rest = h 0 e is
       by Greater (suc j) is rest = rest j e is
 
-  pub keyed_each : (rows : List R) → Each P rows → Each (λ e. P e.1) (keyed order key rows)
+  pub keyed_each : (rows : List R) → Each P rows → Each (λ e. P e.1) (rows_with_keys order key rows)
   keyed_each [] h = λ i e at. absurd (none_some e at)
-  keyed_each (row ∷ rows) h = put_each (key row) row (keyed order key rows) (keyed_each rows (λ i x is. h (suc i) x is)) (h 0 row refl)
+  keyed_each (row ∷ rows) h = put_each (key row) row (rows_with_keys order key rows) (keyed_each rows (λ i x is. h (suc i) x is)) (h 0 row refl)
 
-  pub listed_each : (rows : List R) → Each P rows → Each P (listed order key rows)
-  unfolding listed
-  listed_each rows h i x at = let e = mapped_at (λ (e : K × R). e.1) (keyed order key rows) i x at in subst P e.2 (keyed_each rows h i e.0 e.1)
+  pub listed_each : (rows : List R) → Each P rows → Each P (rows_by_key order key rows)
+  unfolding rows_by_key
+  listed_each rows h i x at = let e = mapped_at (λ (e : K × R). e.1) (rows_with_keys order key rows) i x at in subst P e.2 (keyed_each rows h i e.0 e.1)
 
 pub filter_each : {X : Type 0} (P : X → Type 0) (test : X → Bool) (xs : List X) → Each P xs → Each P (filter test xs)
 filter_each P test [] h = λ i x at. absurd (none_some x at)
@@ -267,7 +267,7 @@ module _ {X R : Type 0} (id : X → List ℕ) (gid : R → List ℕ) where
   sum_le f g (x ∷ xs) h = let this = h x in let rest = sum_le f g xs h in let a = sum_cons f x xs in let b = sum_cons g x xs in omega (arith, this, rest, a, b)
 
 one_id : (rows : List AgencyRow) → length rows ≡ 1 → length (by_id (λ i. i) (map (λ (row : AgencyRow). row.agency_id) rows)) ≡ 1
-unfolding listed
+unfolding rows_by_key
 one_id [] e = e
 one_id (row ∷ []) e = refl
 one_id (row ∷ r ∷ rows) e = absurd (omega (arith, e))
@@ -424,8 +424,8 @@ module _ (rule : TzText) (first days : ℕ) (d : Dataset) (c : IsConsistent d) (
       by false h = number_within (λ i. i) (agency_ids d) id n h
 
   -- the timetable of consistent rows is one
-  pub timetable_sound : IsTrue (is_day first) → 19700101 ≤ first → first ≤ 29991231 → days ≤ 400 → Fits rule first days d → IsTimetable (numbered rule first days d)
-  unfolding numbered
+  pub timetable_sound : IsTrue (is_day first) → 19700101 ≤ first → first ≤ 29991231 → days ≤ 400 → Fits rule first days d → IsTimetable (timetable_of rule first days d)
+  unfolding timetable_of
   timetable_sound day early late window fits = record {
     few_agencies = fits_32 _ (omega (arith, few_agencies));
     few_stops = let l = length-map (stop_rows d) (stop_of d) in let f = few_stops in fits_32 _ (omega (arith, l, f));

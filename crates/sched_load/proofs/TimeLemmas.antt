@@ -4,7 +4,7 @@ use Rattle.std.specs.Prelude.{Option, Some, None, option_map, slice_get, zip, If
 use Rattle.std.specs.List.{list_all}
 use Rattle.std.proofs.Math.Nat.{div-le_of_le-mul, mul-le-mul_left, mul-le-mul_right}
 use Rattle.std.proofs.lemmas.Bool.Decides.{nat_tests}
-use Rattle.load_defs.specs.Times.{Times, timed, is_stay, are_moves, next_timed, between, passing, times_behind}
+use Rattle.load_defs.specs.Times.{Times, known_times, is_stay, are_moves, next_timed, share_between, times_at, times_behind}
 use Rattle.sched_load.specs.declared.visits.Visit.{Visit}
 use Rattle.sched_load.specs.declared.visits.Stay.{Stay}
 use Rattle.sched_load.specs.Course.{AllFit, FitsPlace, IsNearer, Knows, Remembers, Steps, ahead_seen, given_of, place_in, places_in, stay_times}
@@ -48,7 +48,7 @@ follow_all (t ∷ ts) = follow_is 0 t ts ∙ ap (λ b. b && (list_all is_stay (t
 
 -- what is told of all visits is what is told of those from a place on
 pub record Follows (visits : List Visit) (i before : ℕ) : Type 0 where
-  pub told : follow 0 (timed (given_of visits)) ≡ follow before (timed (given_of (drop i visits)))
+  pub told : follow 0 (known_times (given_of visits)) ≡ follow before (known_times (given_of (drop i visits)))
 
 pub follows_start : (visits : List Visit) → Follows visits 0 0
 follows_start visits = record { told = refl }
@@ -56,17 +56,17 @@ follows_start visits = record { told = refl }
 pub follows_untimed : (visits : List Visit) (i before : ℕ) (visit : Visit) → Follows visits i before → slice_get visits i ≡ Some visit → visit.stay ≡ None → Follows visits (i + 1) before
 follows_untimed visits i before visit f at none = record {
   told =
-      f.told ∙ ap (λ vs. follow before (timed (given_of vs))) (drop_at visits i visit at)
-      ∙ ap (λ o. follow before (timed (times_seen o ∷ given_of (drop (i + 1) visits)))) none;
+      f.told ∙ ap (λ vs. follow before (known_times (given_of vs))) (drop_at visits i visit at)
+      ∙ ap (λ o. follow before (known_times (times_seen o ∷ given_of (drop (i + 1) visits)))) none;
 }
 
 timed_told : (visits : List Visit) (i before : ℕ) (visit : Visit) (stay : Stay) (a b : Bool) → Follows visits i before → slice_get visits i ≡ Some visit → visit.stay ≡ Some stay → nat_le before stay.arrival ≡ a → nat_le stay.arrival stay.departure ≡ b
-    → follow 0 (timed (given_of visits)) ≡ (a && (b && follow stay.departure (timed (given_of (drop (i + 1) visits)))))
+    → follow 0 (known_times (given_of visits)) ≡ (a && (b && follow stay.departure (known_times (given_of (drop (i + 1) visits)))))
 timed_told visits i before visit stay a b f at some e h =
-    f.told ∙ ap (λ vs. follow before (timed (given_of vs))) (drop_at visits i visit at)
-    ∙ ap (λ o. follow before (timed (times_seen o ∷ given_of (drop (i + 1) visits)))) some
-    ∙ ap (λ c. c && (nat_le stay.arrival stay.departure && follow stay.departure (timed (given_of (drop (i + 1) visits))))) e
-    ∙ ap (λ c. a && (c && follow stay.departure (timed (given_of (drop (i + 1) visits))))) h
+    f.told ∙ ap (λ vs. follow before (known_times (given_of vs))) (drop_at visits i visit at)
+    ∙ ap (λ o. follow before (known_times (times_seen o ∷ given_of (drop (i + 1) visits)))) some
+    ∙ ap (λ c. c && (nat_le stay.arrival stay.departure && follow stay.departure (known_times (given_of (drop (i + 1) visits))))) e
+    ∙ ap (λ c. a && (c && follow stay.departure (known_times (given_of (drop (i + 1) visits))))) h
 
 not_le : (a b : ℕ) → b < a → nat_le a b ≡ false
 not_le a b h = grind (arith, nat_tests)
@@ -77,19 +77,19 @@ is_le a b h = grind (arith, nat_tests)
 pub follows_timed : (visits : List Visit) (i before : ℕ) (visit : Visit) (stay : Stay) → Follows visits i before → slice_get visits i ≡ Some visit → visit.stay ≡ Some stay → before ≤ stay.arrival → stay.arrival ≤ stay.departure → Follows visits (i + 1) stay.departure
 follows_timed visits i before visit stay f at some b s = record { told = timed_told visits i before visit stay true true f at some (is_le _ _ b) (is_le _ _ s) }
 
-pub late : (visits : List Visit) (i before : ℕ) (visit : Visit) (stay : Stay) → Follows visits i before → slice_get visits i ≡ Some visit → visit.stay ≡ Some stay → stay.arrival < before → false ≡ (list_all is_stay (timed (given_of visits)) && are_moves (timed (given_of visits)))
-late visits i before visit stay f at some l = sym (sym (follow_all (timed (given_of visits))) ∙ timed_told visits i before visit stay false (nat_le stay.arrival stay.departure) f at some (not_le _ _ l) refl)
+pub late : (visits : List Visit) (i before : ℕ) (visit : Visit) (stay : Stay) → Follows visits i before → slice_get visits i ≡ Some visit → visit.stay ≡ Some stay → stay.arrival < before → false ≡ (list_all is_stay (known_times (given_of visits)) && are_moves (known_times (given_of visits)))
+late visits i before visit stay f at some l = sym (sym (follow_all (known_times (given_of visits))) ∙ timed_told visits i before visit stay false (nat_le stay.arrival stay.departure) f at some (not_le _ _ l) refl)
 
 and_false : (a : Bool) → (a && false) ≡ false
 and_false true = refl
 and_false false = refl
 
-pub left_early : (visits : List Visit) (i before : ℕ) (visit : Visit) (stay : Stay) → Follows visits i before → slice_get visits i ≡ Some visit → visit.stay ≡ Some stay → stay.departure < stay.arrival → false ≡ (list_all is_stay (timed (given_of visits)) && are_moves (timed (given_of visits)))
+pub left_early : (visits : List Visit) (i before : ℕ) (visit : Visit) (stay : Stay) → Follows visits i before → slice_get visits i ≡ Some visit → visit.stay ≡ Some stay → stay.departure < stay.arrival → false ≡ (list_all is_stay (known_times (given_of visits)) && are_moves (known_times (given_of visits)))
 left_early visits i before visit stay f at some l =
-    sym (sym (follow_all (timed (given_of visits))) ∙ timed_told visits i before visit stay (nat_le before stay.arrival) false f at some refl (not_le _ _ l) ∙ and_false (nat_le before stay.arrival))
+    sym (sym (follow_all (known_times (given_of visits))) ∙ timed_told visits i before visit stay (nat_le before stay.arrival) false f at some refl (not_le _ _ l) ∙ and_false (nat_le before stay.arrival))
 
-pub follows_all : (visits : List Visit) (i before : ℕ) → Follows visits i before → length visits ≤ i → true ≡ (list_all is_stay (timed (given_of visits)) && are_moves (timed (given_of visits)))
-follows_all visits i before f h = sym (sym (follow_all (timed (given_of visits))) ∙ f.told ∙ ap (λ vs. follow before (timed (given_of vs))) (drop_past visits i h))
+pub follows_all : (visits : List Visit) (i before : ℕ) → Follows visits i before → length visits ≤ i → true ≡ (list_all is_stay (known_times (given_of visits)) && are_moves (known_times (given_of visits)))
+follows_all visits i before f h = sym (sym (follow_all (known_times (given_of visits))) ∙ f.told ∙ ap (λ vs. follow before (known_times (given_of vs))) (drop_past visits i h))
 
 -- a place that lies one step further lies one step nearer to the next
 next_further : (steps : ℕ) (places : List (Option Times)) → next_timed (steps + 1) places ≡ option_map (λ p. (p.0 + 1, p.1)) (next_timed steps places)
@@ -111,14 +111,14 @@ nearer_is far near places n is = by (next_timed 0 places) far n (is ∙ next_fur
         let arrives : a.arrival ≡ t = ap (λ (q : ℕ × ℕ). q.1) same in
         m ∙ ap (λ n. Some (n, a.arrival)) less ∙ ap (λ n. Some (s, n)) arrives
 
-pub step_untimed : (course : Course) (visit : Visit) (rest : List Visit) (ahead near : Option Ahead) (time : ℕ) → visit.stay ≡ None → ahead_seen ahead ≡ next_timed 1 (given_of rest) → IsNearer ahead near → time ≡ between course.departure course.behind (ahead_seen ahead)
+pub step_untimed : (course : Course) (visit : Visit) (rest : List Visit) (ahead near : Option Ahead) (time : ℕ) → visit.stay ≡ None → ahead_seen ahead ≡ next_timed 1 (given_of rest) → IsNearer ahead near → time ≡ share_between course.departure course.behind (ahead_seen ahead)
     → Steps course (record { departure = course.departure; behind = course.behind + 1; ahead = Some near }) (record { arrival = time; departure = time }) visit rest
 unfolding times_behind
 step_untimed course visit rest ahead near time none is n at = record {
   times =
       ap (λ o. times_behind course.departure course.behind (times_seen o ∷ given_of rest)) none
-      ∙ ap (λ o. passing (between course.departure course.behind o) ∷ times_behind course.departure (course.behind + 1) (given_of rest)) (sym is)
-      ∙ ap (λ t. passing t ∷ times_behind course.departure (course.behind + 1) (given_of rest)) (sym at);
+      ∙ ap (λ o. times_at (share_between course.departure course.behind o) ∷ times_behind course.departure (course.behind + 1) (given_of rest)) (sym is)
+      ∙ ap (λ t. times_at t ∷ times_behind course.departure (course.behind + 1) (given_of rest)) (sym at);
   ahead = nearer_is ahead near (given_of rest) n is;
   behind = omega arith;
 }

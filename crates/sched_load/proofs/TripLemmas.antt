@@ -13,7 +13,7 @@ use Rattle.sched_types.proofs.TimetableLaws.{number_leads}
 use Rattle.load_defs.specs.declared.fault.LoadFault.TheVariants as fault
 use Rattle.load_defs.specs.Files.{unless}
 use Rattle.load_defs.specs.Loading.{times_fault, with_times}
-use Rattle.load_defs.specs.Numbers.{Dataset, by_id, given_times, keyed, listed, stop_times_of}
+use Rattle.load_defs.specs.Numbers.{Dataset, by_id, given_times, rows_with_keys, rows_by_key, stop_times_of}
 use Rattle.load_defs.specs.References.{row_at}
 use Rattle.load_defs.specs.Times.{Times, are_times, times_of}
 use Rattle.sched_load.specs.declared.visits.Visit.{Visit}
@@ -40,7 +40,7 @@ given_rows stops (row ∷ rows) = ap (λ t. t ∷ given_of (map (visit_of stops)
 
 -- the visits of a trip are those of its stop times
 pub group_listed : (stops : List StopRow) (rows : List StopTimeRow) (id : List ℕ) → map (λ entry. entry.1) (group_of (λ row. row.trip_id) (λ visit. visit.sequence) (visit_of stops) rows id) ≡ map (visit_of stops) (stop_times_of rows id)
-unfolding listed
+unfolding rows_by_key
 group_listed stops rows id = listed_map nat_cmp (λ (visit : Visit). visit.sequence) (visit_of stops) (filter (λ row. bytes_eq row.trip_id id) rows)
 
 map_at : {V : Type 0} (maps : List (BTreeMap ℕ V Global)) (n : ℕ) (m : BTreeMap ℕ V Global) (es : List (ℕ × V)) → slice_get (entries_of maps) n ≡ Some es → m ≡ get_or maps n m → m.entries ≡ es

@@ -11,7 +11,7 @@ use Rattle.gtfs_rows.specs.declared.rows.StopRow.{StopRow}
 use Rattle.load_defs.specs.declared.fault.File.{File}
 use Rattle.load_defs.specs.declared.fault.LoadFault.{LoadFault}
 use Rattle.load_defs.specs.Files.{required_rows, optional_rows}
-use Rattle.load_defs.specs.Numbers.{by_id, keyed, known_number}
+use Rattle.load_defs.specs.Numbers.{by_id, rows_with_keys, known_number}
 use Rattle.load_defs.specs.Times.{Times}
 use Rattle.sched_load.specs.declared.visits.Stay.{Stay}
 use Rattle.sched_load.specs.declared.visits.Visit.{Visit}
@@ -65,7 +65,7 @@ visit_of stops row = record {
 
 -- the rows of a group, by rising keys
 abbrev pub group_of : {R V : Type 0} → (R → List ℕ) → (V → ℕ) → (R → V) → List R → List ℕ → List (ℕ × V)
-group_of id_of key value rows id = keyed nat_cmp key (map value (filter (λ row. bytes_eq (id_of row) id) rows))
+group_of id_of key value rows id = rows_with_keys nat_cmp key (map value (filter (λ row. bytes_eq (id_of row) id) rows))
 
 -- the entries of maps
 abbrev pub entries_of : {V : Type 0} → List (BTreeMap ℕ V Global) → List (List (ℕ × V))

@@ -5,11 +5,11 @@ use Rattle.std.specs.Ordering.{nat_cmp}
 use Rattle.gtfs_rows.specs.declared.rows.TripRow.{TripRow}
 use Rattle.gtfs_rows.specs.declared.rows.CalendarRow.{CalendarRow}
 use Rattle.gtfs_rows.specs.declared.rows.ExceptionRow.{ExceptionRow}
-use Rattle.load_defs.specs.Numbers.{by_id, keyed}
+use Rattle.load_defs.specs.Numbers.{by_id, rows_with_keys}
 
 -- ids by rising bytes, each once
 abbrev pub ids_gathered : List (List ℕ) → List (List ℕ × Unit {0})
-ids_gathered ids = map (λ entry. (entry.0, tt)) (keyed (slice_cmp nat_cmp) (λ id. id) ids)
+ids_gathered ids = map (λ entry. (entry.0, tt)) (rows_with_keys (slice_cmp nat_cmp) (λ id. id) ids)
 
 -- every service_id that a file names
 abbrev pub services_of : List TripRow → List CalendarRow → List ExceptionRow → List (List ℕ)

@@ -2,11 +2,11 @@
 
 ghost use Rattle.std.specs.Prelude.{◌≡◌, ◌≤◌, ◌<◌, ◌^◌, ◌+◌, ℕ, IsTrue, IfOk, IfSome, Some, length, map, slice_get, [], bytes_eq, unwrap_or};
 ghost use Rattle.std.specs.List.{range_with_len};
-ghost use Rattle.service_day.specs.Calendar.{is_day, date_plus};
+ghost use Rattle.text_defs.specs.Dates.{is_day, date_plus};
 ghost use Rattle.service_day.specs.Zone.{base_of};
 ghost use Rattle.sched_types.specs.Parts.{table_of};
 ghost use Rattle.sched_types.specs.Timetable.{IsTimetable, RisesById, number_of};
-ghost use Rattle.load_defs.specs.Numbers.{by_id, numbered};
+ghost use Rattle.load_defs.specs.Numbers.{by_id, timetable_of};
 ghost use Rattle.sched_load.specs.Built.{IsBuilt, IsInOrder, AreSmall, ListsFit, agency_in, listed_places, route_in, stop_in, trip_in};
 ghost use Rattle.sched_load.specs.Listed.{entries_of, most_rows};
 ghost use Rattle.sched_load.specs.Tables.{AreRead, dataset_of};
@@ -198,7 +198,7 @@ fn parts_of(
     requires early { 19700201 ≤ first }
     requires late { first ≤ 29991231 }
     requires few { days ≤ 400 }
-    ensures table { IfOk result (λ parts. table_of parts ≡ numbered zone.now first days (dataset_of tables.now)) }
+    ensures table { IfOk result (λ parts. table_of parts ≡ timetable_of zone.now first days (dataset_of tables.now)) }
     ensures sound { IfOk result (λ parts. IsTimetable (table_of parts)) }
 {
     let services = tables.services.as_slice();
@@ -242,7 +242,7 @@ pub(crate) fn build_plan(
     requires early { 19700201 ≤ first }
     requires late { first ≤ 29991231 }
     requires few { days ≤ 400 }
-    ensures { IsBuilt (numbered zone.now first days (dataset_of tables.now)) result }
+    ensures { IsBuilt (timetable_of zone.now first days (dataset_of tables.now)) result }
 {
     let parts = parts_of(alloc, zone, first, days, tables)?;
     Ok(Plan::build(alloc, parts)?)

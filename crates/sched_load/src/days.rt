@@ -2,7 +2,7 @@
 
 ghost use Rattle.std.specs.Prelude.{◌≡◌, ◌≤◌, ℕ, IsTrue, IfOk, IfSome, Some, OnOk, length, map, slice_get, zip, filter, option_copied, [], ◌∷◌, ◌++◌, ◌+◌, ◌<◌, if◌then◌else◌};
 ghost use Rattle.std.specs.List.{range_with_len};
-ghost use Rattle.service_day.specs.Calendar.{date_plus, day_number, is_day};
+ghost use Rattle.text_defs.specs.Dates.{date_plus, day_number, is_day};
 ghost use Rattle.load_defs.specs.Services.{flags_of, is_active_by};
 ghost use Rattle.std.specs.Bool.{OnTrue};
 ghost use Rattle.gtfs_rows.specs.declared.rows.CalendarRow.{CalendarRow};
@@ -16,7 +16,8 @@ ghost use Rattle.std.specs.Ordering.{nat_cmp};
 use crate::table::Table;
 use gtfs_rows::CalendarRow;
 use sched_types::PlanName;
-use service_day::{Exception, Zone, active, base, day_after};
+use service_day::{Exception, Zone, active, base};
+use texts::day_after;
 use std::alloc::{AllocError, Global};
 use std::collections::BTreeMap;
 

@@ -2,7 +2,7 @@
 
 ghost use Rattle.std.specs.Prelude.{◌≡◌, ◌≤◌, IfSome, IfOk};
 ghost use Rattle.load_defs.specs.Loading.{timetable, with_times, zone_of};
-ghost use Rattle.load_defs.specs.Numbers.{numbered};
+ghost use Rattle.load_defs.specs.Numbers.{timetable_of};
 ghost use Rattle.sched_load.specs.Answer.{HasLoadCause, IsPlainAnswer, Judges, Loads};
 ghost use Rattle.sched_load.specs.Built.{IsBuilt, IsInOrder};
 ghost use Rattle.sched_load.specs.Tables.{AreRead, dataset_of};

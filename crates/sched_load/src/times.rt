@@ -3,7 +3,7 @@
 ghost use Rattle.std.specs.Prelude.{◌≡◌, ◌≤◌, ◌<◌, ◌+◌, ◌^◌, ◌∷◌, ℕ, List, length, map, Some, slice_get, IfOk, IfSome, OnOk, ◌&&◌};
 ghost use Rattle.std.specs.List.{list_all};
 ghost use Rattle.std.specs.Option.{ForSome};
-ghost use Rattle.load_defs.specs.Times.{are_moves, are_times, between, is_stay, next_timed, timed};
+ghost use Rattle.load_defs.specs.Times.{are_moves, are_times, share_between, is_stay, next_timed, known_times};
 ghost use Rattle.load_defs.specs.Loading.{with_times};
 ghost use Rattle.sched_load.specs.Listed.{most_rows, times_seen};
 ghost use Rattle.sched_load.specs.Course.{AllFit, FitsPlace, Remembers, IsNearer, Knows, Steps, ahead_seen, given_of, place_in, places_in, stay_times};
@@ -50,7 +50,7 @@ pub(crate) fn list_visits(
 
 /// Whether no place is left before it is reached, nor reached before the timed place in front of it is left.
 fn are_in_order(visits: &[Visit]) -> bool
-    ensures { result ≡ (list_all is_stay (timed (given_of visits.now)) && are_moves (timed (given_of visits.now))) }
+    ensures { result ≡ (list_all is_stay (known_times (given_of visits.now)) && are_moves (known_times (given_of visits.now))) }
 {
     let mut before = 0;
     for visit in visits {
@@ -98,7 +98,7 @@ fn next_timed(visits: &[Visit]) -> Option<Ahead>
 /// When an untimed place is reached, which lies so many steps behind a timed one.
 fn between(departure: u32, behind: u32, ahead: Option<Ahead>) -> u32
     requires { IfSome ahead (λ a. 1 ≤ a.steps) }
-    ensures { result ≡ between departure behind (ahead_seen ahead) }
+    ensures { result ≡ share_between departure behind (ahead_seen ahead) }
 {
     match ahead {
         Some(ahead) => {

@@ -4,7 +4,7 @@ use Rattle.std.specs.Cmp.Lexicographic.{slice_cmp}
 use Rattle.std.specs.declared.cmp.Ordering.{Ordering}
 use Rattle.std.specs.Ordering.{nat_cmp, is_lt}
 use Rattle.std.proofs.lemmas.Bool.{ltb-true}
-use Rattle.service_day.specs.Calendar.{is_day, date_plus, next_day}
+use Rattle.text_defs.specs.Dates.{is_day, date_plus, next_day}
 use Rattle.sched_types.specs.declared.rows.PlanParts.{PlanParts}
 use Rattle.sched_types.specs.Parts.{table_of}
 use Rattle.sched_types.specs.City.{city, city_stops}

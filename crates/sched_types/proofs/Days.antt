@@ -4,9 +4,9 @@ use Rattle.std.specs.List.{range_with_len}
 use Rattle.std.proofs.lemmas.Bool.{cases_lt}
 use Rattle.std.proofs.lemmas.Bool.Decides.{nat_tests}
 use Rattle.std.proofs.lemmas.List.FromFn.{get_or-map-range_with_len, length-map-range_with_len, map-range_with_len_more}
-use Rattle.service_day.specs.Calendar.{is_day, day_number, next_day, date_plus}
-use Rattle.service_day.proofs.CalendarLemmas.{IsDay, IsDay-is_day, is_day-IsDay}
-use Rattle.service_day.proofs.CalendarLaws.{day_number-lt, date_plus-number, date_plus-is, date_plus-window, before_last}
+use Rattle.text_defs.specs.Dates.{is_day, day_number, next_day, date_plus}
+use Rattle.text_defs.proofs.DateLemmas.{IsDay, IsDay-is_day, is_day-IsDay}
+use Rattle.text_defs.proofs.DateLaws.{day_number-lt, date_plus-number, date_plus-is, date_plus-window, before_last}
 use Rattle.sched_types.specs.Timetable.{Timetable, IsTimetable, dates_of, day_with_date}
 use Rattle.sched_types.proofs.Found.{position_present, position_absent}
 

@@ -1,6 +1,6 @@
 -- The timetable without rows is a timetable.
 use Rattle.std.proofs.Common.{◌≡◌, [], refl, arith}
-use Rattle.service_day.specs.Calendar.{is_day}
+use Rattle.text_defs.specs.Dates.{is_day}
 use Rattle.sched_types.specs.declared.plan.Plan.TheInside.{Inside}
 use Rattle.sched_types.specs.Timetable.{IsTimetable, no_timetable}
 use Rattle.sched_types.specs.Departures.{AreInOrder}

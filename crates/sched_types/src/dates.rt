@@ -1,9 +1,9 @@
 //! The dates of a window's days.
 ghost use Rattle.std.specs.Prelude.{◌≡◌, ◌+◌, ◌<◌, IsTrue, IfOk, map};
 ghost use Rattle.std.specs.List.{range_with_len};
-ghost use Rattle.service_day.specs.Calendar.{is_day, day_number, date_plus};
+ghost use Rattle.text_defs.specs.Dates.{is_day, day_number, date_plus};
 
-use service_day::day_after;
+use texts::day_after;
 use std::alloc::{AllocError, Global};
 
 /// So many dates one after another, as the numbers of eight digits YYYYMMDD.

@@ -3,7 +3,7 @@ ghost use Rattle.std.specs.Prelude.{◌≡◌, ◌^◌, ◌<◌, ◌≤◌, leng
 ghost use Rattle.std.specs.List.{range_with_len};
 ghost use Rattle.std.specs.Bool.{OnTrue};
 ghost use Rattle.std.specs.Option.{ForSome};
-ghost use Rattle.service_day.specs.Calendar.{date_plus};
+ghost use Rattle.text_defs.specs.Dates.{date_plus};
 ghost use Rattle.sched_types.specs.Timetable.{IsTimetable, IsSmall, number_of, places_of, is_run, children_of, day_with_date, counts_of, no_timetable};
 ghost use Rattle.sched_types.specs.Departures.{departs_so};
 ghost use Rattle.sched_types.specs.Parts.{table_of};
@@ -14,7 +14,7 @@ use crate::departures::{Departure, by_departure, departing};
 use crate::names::PlanName;
 use crate::numbers::number_by_id;
 use crate::rows::{Counts, Place, PlanParts, Route, Run, Stop, Trip};
-use service_day::{day_number, is_valid_date};
+use texts::{day_number, is_valid_date};
 use std::alloc::{AllocError, Global};
 use std::marker::Model;
 

@@ -4,7 +4,7 @@ use Rattle.std.specs.List.{list_any, list_all, position_from}
 use Rattle.std.specs.Str.{is_utf8, bytes_eq}
 use Rattle.std.specs.Fmt.{decimal}
 use Rattle.feed_defs.specs.declared.history.Entry.{Entry}
-use Rattle.feed_defs.specs.History.{Refusal, offered}
+use Rattle.feed_defs.specs.History.{Refusal, offer_outcome}
 use Rattle.feed_defs.specs.Combined.{combined}
 use Rattle.script_defs.specs.Texts.{refusal_words}
 
@@ -118,8 +118,8 @@ feed_reply hub schedule = if bytes_eq schedule (codes "plain") then (let bytes =
 abbrev pub may_declare : Hub → List ℕ → Bool
 may_declare hub name = not hub.begun && is_name name && not (list_any (bytes_eq name) hub.names) && nat_lt (length hub.names) most_feeds
 
-abbrev pub declared : Hub → List ℕ → List ℕ → Option Turn
-declared hub name rest = only_if (may_declare hub name) (record { said = []; hub = record hub { names = hub.names ++ name ∷ [] }; rest = rest; ended = false })
+abbrev pub declaration_turn : Hub → List ℕ → List ℕ → Option Turn
+declaration_turn hub name rest = only_if (may_declare hub name) (record { said = []; hub = record hub { names = hub.names ++ name ∷ [] }; rest = rest; ended = false })
 
 -- the payload of a message: so many bytes and one LF behind them
 unfoldable pub payload_at : ℕ → List ℕ → Option (List ℕ × List ℕ)
@@ -130,11 +130,11 @@ payload_at n bytes = only_if (unwrap_eq (slice_get bytes n)) (take n bytes, drop
     unwrap_eq (Some b) = b == 10
 
 abbrev pub offered_turn : Hub → ℕ → List ℕ × List ℕ → Turn
-offered_turn hub feed (bytes, rest) = let after = offered feed bytes hub.history in record { said = reply_line after.reply; hub = record hub { history = after.history; begun = true }; rest = rest; ended = false }
+offered_turn hub feed (bytes, rest) = let after = offer_outcome feed bytes hub.history in record { said = reply_line after.reply; hub = record hub { history = after.history; begun = true }; rest = rest; ended = false }
 
 -- the record of a line, with the bytes behind the line
 abbrev pub act : Hub → Head → List ℕ → Option Turn
-act hub (Feed name) rest = declared hub name rest
+act hub (Feed name) rest = declaration_turn hub name rest
 act hub (Message feed n) rest = position_from (bytes_eq feed) 0 hub.names >>= λ k. payload_at n rest >>= λ found. Some (offered_turn hub k found)
 act hub (Combined schedule) rest = Some (record { said = feed_reply hub schedule; hub = record hub { begun = true }; rest = rest; ended = false })
 act hub End rest = Some (record { said = []; hub = hub; rest = rest; ended = true })

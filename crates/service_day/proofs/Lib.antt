@@ -1,4 +1,2 @@
-pub mod CalendarLemmas
 pub mod ZoneLemmas
 pub mod WorkedRows
-pub mod CalendarLaws

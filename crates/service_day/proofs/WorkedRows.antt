@@ -1,7 +1,7 @@
 -- Rows of the definitions, computed: days of the calendar, days of services, and bases of service days.
 use Rattle.std.specs.Prelude.{◌≡◌, pos, negsuc, true, false, [], ◌∷◌, map, refl, codes, Some, None}
 use Rattle.jiff.proofs.OnLiterals.{jiff_on_literals}
-use Rattle.service_day.specs.Calendar.{is_day, day_number, epoch_day, weekday, next_day}
+use Rattle.text_defs.specs.Dates.{is_day, day_number, epoch_day, weekday, next_day}
 use Rattle.service_day.specs.Service.{is_active}
 use Rattle.service_day.specs.Zone.{base_of, base_in, rule_of}
 

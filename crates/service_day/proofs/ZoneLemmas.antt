@@ -23,9 +23,9 @@ use Rattle.jiff_tz.specs.declared.posix.DayTime.{DayTime}
 use Rattle.jiff_tz.specs.declared.posix.Dst.{Dst}
 use Rattle.jiff_tz.specs.declared.timezone.TimeZone.{TimeZone}
 use Rattle.jiff_tz.specs.declared.timezone.TimeZone.TheVariants.{UTC, Unknown, Fixed, Posix, Tzif}
-use Rattle.service_day.specs.Calendar.{year_of, month_of, day_of, days_before_year, days_before_month, day_number, epoch_day}
+use Rattle.text_defs.specs.Dates.{year_of, month_of, day_of, days_before_year, days_before_month, day_number, epoch_day}
 use Rattle.service_day.specs.Zone.{rule_in, is_by_rule, moment, offset_ahead, offset_behind, offset_between, offset_with, offset_of, noon_of, base_of}
-use Rattle.service_day.proofs.CalendarLemmas.{IsDay, day_number_bound}
+use Rattle.text_defs.proofs.DateLemmas.{IsDay, day_number_bound}
 
 -- the days of the years before, counted from the year -10000
 years_is : (year : ℕ) → days_of_years (year + 10_000) ≡ days_before_year year + 3_652_425

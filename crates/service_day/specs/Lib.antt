@@ -1,3 +1,2 @@
-pub mod Calendar
 pub mod Service
 pub mod Zone

@@ -1,7 +1,7 @@
 -- On which days a service runs: GTFS Schedule, calendar.txt and calendar_dates.txt.
 use Rattle.std.specs.Prelude.{ℕ, Bool, ◌&&◌, ◌==◌, nat_le, List, find, Option, Some, None}
 use Rattle.std.specs.Int.{bit_at}
-use Rattle.service_day.specs.Calendar.{weekday}
+use Rattle.text_defs.specs.Dates.{weekday}
 use Rattle.service_day.specs.declared.services.Exception.{Exception}
 
 -- the exception for the date, the first if the list has several

@@ -10,7 +10,7 @@ use Rattle.jiff_tz.specs.PosixRule.{match_some, clamp_to, first_nanosecond, last
 pub use Rattle.jiff_tz.specs.PosixText.{TzText}
 use Rattle.jiff_tz.specs.PosixText.{DstText, tz_view}
 use Rattle.jiff_core.specs.Timestamp.{nanos_of_seconds}
-use Rattle.service_day.specs.Calendar.{year_of, epoch_day}
+use Rattle.text_defs.specs.Dates.{year_of, epoch_day}
 
 -- the rule that a text writes, if it writes one
 abbrev pub rule_of : List ℕ → Option TzText

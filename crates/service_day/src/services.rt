@@ -1,9 +1,9 @@
 //! On which days a service runs.
 ghost use Rattle.std.specs.Prelude.{◌≡◌, IsTrue};
-ghost use Rattle.service_day.specs.Calendar.{is_day};
+ghost use Rattle.text_defs.specs.Dates.{is_day};
 ghost use Rattle.service_day.specs.Service as service;
 
-use crate::calendar::weekday;
+use texts::weekday;
 
 /// A row of calendar_dates.txt, of one service (GTFS Schedule, calendar_dates.txt).
 #[derive(Clone, Copy, Debug, PartialEq, Eq)]

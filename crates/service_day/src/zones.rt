@@ -1,13 +1,13 @@
 //! Time zones by a rule, and the instant from which the times of a service day are counted.
 ghost use Rattle.std.specs.Prelude.{◌≡◌, ◌↔◌, ◌≤◌, IsTrue, IsOkAnd, IsOk, IsSome, IfOk, IsErrOf, Some, None};
-ghost use Rattle.service_day.specs.Calendar.{is_day};
+ghost use Rattle.text_defs.specs.Dates.{is_day};
 ghost use Rattle.service_day.specs.Zone.{rule_of, base_of};
 
-use crate::calendar::{Parts, parts_of};
 use jiff::civil;
 use jiff::tz::TimeZone;
 pub use std::alloc::AllocError as NoMemory;
 use std::marker::Model;
+use texts::{Parts, parts_of};
 use thiserror::Error;
 
 /// Half a day, in seconds.
@@ -62,7 +62,7 @@ pub fn read_zone(text: &str) -> Result<Zone, ZoneFault>
 /// the clock skips noon or shows it twice, the offset before the change counts.
 ///
 /// The date is a valid day up to the year 3001. It takes no memory, so it always succeeds.
-#[tactic(auto, unfolding(crate::specs::Calendar::is_day))]
+#[tactic(auto, unfolding(text_defs::specs::Dates::is_day))]
 pub fn base(zone: &Zone, date: u32) -> Result<i64, NoMemory>
     requires valid { IsTrue (is_day date) }
     requires in_time { date ≤ 30_011_231 }

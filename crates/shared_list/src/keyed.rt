@@ -3,7 +3,7 @@
 ghost use Rattle.std.specs.Prelude.{◌≡◌, ℕ, List};
 ghost use Rattle.shared_list.specs.Order.{key_cmp};
 
-use rt_types::Copied;
+use copying::Copied;
 use std::cmp::Ordering;
 
 /// An item of a list that is ordered by keys. A copy of it should cost little: share what is large.

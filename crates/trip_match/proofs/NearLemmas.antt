@@ -14,7 +14,7 @@ use Rattle.sched_types.specs.Timetable.{Timetable, IsSmall, places_of}
 use Rattle.match_defs.specs.declared.found.Near.{Near}
 use Rattle.match_defs.specs.declared.found.Found.TheVariants as found
 use Rattle.match_defs.specs.declared.found.Why.TheVariants as why
-use Rattle.match_defs.specs.Matching.{gap, near_at, nearer, nearest, is_near, runs_near, run_near, by_near}
+use Rattle.match_defs.specs.Matching.{seconds_outside, near_at, nearer, nearest, is_near, runs_near, run_near, by_near}
 
 -- ---- sums of seconds fit 64 bits
 
@@ -40,7 +40,7 @@ module _ (base instant : ℤ) (small : IsSmall base) (positive : pos 0 ≤ℤ in
   -- behind the last time
   pub gap_behind : (f l : ℤ) (first last : ℕ) → first < 2 ^ 32 → last < 2 ^ 32 → f ≡ pos first → l ≡ pos last
       → int_lt (wrapped instant) (wrapped (wrapped base +ℤ wrapped f)) ≡ false → int_lt (wrapped (wrapped base +ℤ wrapped l)) (wrapped instant) ≡ true
-      → wrapped (wrapped instant -ℤ wrapped (wrapped base +ℤ wrapped l)) ≡ gap (base +ℤ pos first) (base +ℤ pos last) instant
+      → wrapped (wrapped instant -ℤ wrapped (wrapped base +ℤ wrapped l)) ≡ seconds_outside (base +ℤ pos first) (base +ℤ pos last) instant
   gap_behind f l first last few less f_is l_is not_before behind =
       let i = to_z-of_z w64 instant instant_fits in
       let from = time_is f first few f_is in
@@ -56,18 +56,18 @@ module _ (base instant : ℤ) (small : IsSmall base) (positive : pos 0 ≤ℤ in
 
   -- the gap of a run, by its first and its last place
   pub near_is : (t : Timetable) (run : Run) (places : List Place) (none : Place) (r : ℤ) → places ≡ places_of t run.trip → 1 < length (places_of t run.trip) → slice_get t.bases run.day ≡ Some base → SFits w64 r
-      → r ≡ gap (wrapped base +ℤ pos (get_or places 0 none).departure) (wrapped base +ℤ pos (get_or places (length places - 1) none).arrival) (wrapped instant)
-      → let near : Near = record { day = run.day; gap = wrapped r } in near ≡ near_at t run.trip instant run.day
+      → r ≡ seconds_outside (wrapped base +ℤ pos (get_or places 0 none).departure) (wrapped base +ℤ pos (get_or places (length places - 1) none).arrival) (wrapped instant)
+      → let near : Near = record { day = run.day; seconds_outside = wrapped r } in near ≡ near_at t run.trip instant run.day
   near_is t run places none r lists many bases fits told =
       let own = places_of t run.trip in
       let first : slice_get own 0 ≡ Some (get_or own 0 none) = slice_get-get_or own 0 none (omega arith) in
       let last : slice_get own (length own - 1) ≡ Some (get_or own (length own - 1) none) = slice_get-get_or own (length own - 1) none (omega arith) in
-      let value : wrapped r ≡ gap (base +ℤ pos (get_or own 0 none).departure) (base +ℤ pos (get_or own (length own - 1) none).arrival) instant =
+      let value : wrapped r ≡ seconds_outside (base +ℤ pos (get_or own 0 none).departure) (base +ℤ pos (get_or own (length own - 1) none).arrival) instant =
       to_z-of_z w64 r fits ∙ told
-      ∙ ap (λ b. gap (b +ℤ pos (get_or places 0 none).departure) (b +ℤ pos (get_or places (length places - 1) none).arrival) (wrapped instant)) (to_z-of_z w64 base base_fits)
-      ∙ ap (gap (base +ℤ pos (get_or places 0 none).departure) (base +ℤ pos (get_or places (length places - 1) none).arrival)) (to_z-of_z w64 instant instant_fits)
-      ∙ ap (λ (xs : List Place). gap (base +ℤ pos (get_or xs 0 none).departure) (base +ℤ pos (get_or xs (length xs - 1) none).arrival) instant) lists in
-      rw (first, last, bases) (ap (λ g. record { day = run.day; gap = g }) value)
+      ∙ ap (λ b. seconds_outside (b +ℤ pos (get_or places 0 none).departure) (b +ℤ pos (get_or places (length places - 1) none).arrival) (wrapped instant)) (to_z-of_z w64 base base_fits)
+      ∙ ap (seconds_outside (base +ℤ pos (get_or places 0 none).departure) (base +ℤ pos (get_or places (length places - 1) none).arrival)) (to_z-of_z w64 instant instant_fits)
+      ∙ ap (λ (xs : List Place). seconds_outside (base +ℤ pos (get_or xs 0 none).departure) (base +ℤ pos (get_or xs (length xs - 1) none).arrival) instant) lists in
+      rw (first, last, bases) (ap (λ g. record { day = run.day; seconds_outside = g }) value)
 
 -- ---- one day more
 

@@ -3,7 +3,7 @@ ghost use Rattle.std.specs.Prelude.{◌≡◌, Some, pos};
 ghost use Rattle.sched_types.specs.Timetable.{day_with_date};
 ghost use Rattle.match_defs.specs.declared.found.Found.{Found};
 ghost use Rattle.match_defs.specs.Matching as rule;
-ghost use Rattle.match_defs.specs.Matching.{first_rule, rule_4, rule_5};
+ghost use Rattle.match_defs.specs.Matching.{first_rule, rule_4_trip_id, rule_5_nearest_day};
 
 use crate::near::by_near;
 use match_defs::{Found, Why};
@@ -28,7 +28,7 @@ fn run_on(plan: &Plan, trip: u32, date: u32) -> Found
 
 /// The run of the trip with that id on that date, or without a date on the nearest day.
 pub(crate) fn by_id(plan: &Plan, id: &str, date: Option<u32>, stamp: u64) -> Found
-    ensures { (later : Found) → result ≡ first_rule (rule_4 plan.now (Some id.now) date) (first_rule (rule_5 plan.now (pos stamp) (Some id.now)) later) }
+    ensures { (later : Found) → result ≡ first_rule (rule_4_trip_id plan.now (Some id.now) date) (first_rule (rule_5_nearest_day plan.now (pos stamp) (Some id.now)) later) }
 {
     match plan.trip_of(id) {
         Some(trip) => match date {

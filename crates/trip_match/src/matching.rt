@@ -1,7 +1,7 @@
 // The rules in their order.
 ghost use Rattle.std.specs.Prelude.{◌≡◌, None, Option, List, ℕ, pos, if◌then◌else◌};
 ghost use Rattle.match_defs.specs.Matching as rule;
-ghost use Rattle.match_defs.specs.Matching.{first_rule, matched, no_match, rule_1, rule_3, rule_4, rule_5, rule_6};
+ghost use Rattle.match_defs.specs.Matching.{first_rule, match_of, no_match, rule_1_relation, rule_3_added_trip, rule_4_trip_id, rule_5_nearest_day, rule_6_route_and_time};
 ghost use Rattle.match_defs.specs.Texts as text;
 ghost use Rattle.trip_match.specs.Reading.{IsRead};
 
@@ -14,7 +14,7 @@ use sched_types::Plan;
 
 /// Whether trips of that relation are about no run of a timetable.
 fn has_no_run(relation: TripRelation) -> bool
-    ensures { rule_1 relation ≡ (if result then no_match Why.Relation else None) }
+    ensures { rule_1_relation relation ≡ (if result then no_match Why.Relation else None) }
 {
     matches!(
         relation,
@@ -23,7 +23,7 @@ fn has_no_run(relation: TripRelation) -> bool
 }
 
 fn is_added(relation: TripRelation) -> bool
-    ensures { (id : Option (List ℕ)) → rule_3 relation id ≡ (if result then rule.added id else None) }
+    ensures { (id : Option (List ℕ)) → rule_3_added_trip relation id ≡ (if result then rule.added_trip id else None) }
 {
     matches!(relation, TripRelation::Added)
 }
@@ -43,7 +43,7 @@ fn start_day(trip: &TripRef) -> Result<Option<u32>, Why>
 
 /// What is known of an ADDED trip.
 fn added(trip: &TripRef) -> Found
-    ensures { (later : Found) → result ≡ first_rule (rule.added (text.given trip.now.trip_id)) later }
+    ensures { (later : Found) → result ≡ first_rule (rule.added_trip (text.text_given trip.now.trip_id)) later }
 {
     match given(&trip.trip_id) {
         Some(_) => Found::Added,
@@ -53,7 +53,7 @@ fn added(trip: &TripRef) -> Found
 
 /// What the descriptor of a trip of the timetable is about.
 fn scheduled(plan: &Plan, trip: &TripRef, date: Option<u32>, stamp: u64) -> Found
-    ensures { result ≡ first_rule (rule_4 plan.now (text.given trip.now.trip_id) date) (first_rule (rule_5 plan.now (pos stamp) (text.given trip.now.trip_id)) (rule_6 plan.now (text.given trip.now.route_id) trip.now.direction_id date (text.given trip.now.start_time))) }
+    ensures { result ≡ first_rule (rule_4_trip_id plan.now (text.text_given trip.now.trip_id) date) (first_rule (rule_5_nearest_day plan.now (pos stamp) (text.text_given trip.now.trip_id)) (rule_6_route_and_time plan.now (text.text_given trip.now.route_id) trip.now.direction_id date (text.text_given trip.now.start_time))) }
 {
     match given(&trip.trip_id) {
         Some(id) => by_id(plan, id, date, stamp),
@@ -63,9 +63,9 @@ fn scheduled(plan: &Plan, trip: &TripRef, date: Option<u32>, stamp: u64) -> Foun
 
 /// What a trip descriptor is about at an instant, in seconds since 1970: that of the update or message in which
 /// it stands (GTFS Realtime, TripDescriptor).
-#[tactic(auto, unfolding(match_defs::specs::Matching::matched))]
+#[tactic(auto, unfolding(match_defs::specs::Matching::match_of))]
 pub fn find(plan: &Plan, trip: &TripRef, stamp: u64) -> Found
-    ensures { result ≡ matched plan.now trip.now stamp }
+    ensures { result ≡ match_of plan.now trip.now stamp }
 {
     let relation = trip.relation.unwrap_or(TripRelation::Scheduled);
     if has_no_run(relation) {

@@ -38,7 +38,7 @@ fn gap(base: i64, first: u32, last: u32, instant: i64) -> i64
     requires small { IsSmall base }
     requires positive { pos 0 ≤ℤ instant }
     requires early { instant ≤ℤ pos 2_000_000_000_000 }
-    ensures { result ≡ rule.gap (base +ℤ pos first) (base +ℤ pos last) instant }
+    ensures { result ≡ rule.seconds_outside (base +ℤ pos first) (base +ℤ pos last) instant }
 {
     let first = base + i64::from(first);
     let last = base + i64::from(last);

@@ -2,7 +2,7 @@
 ghost use Rattle.std.specs.Prelude.{◌≡◌};
 ghost use Rattle.sched_types.specs.Timetable.{day_with_date};
 ghost use Rattle.match_defs.specs.Matching as rule;
-ghost use Rattle.match_defs.specs.Matching.{at_time, on_day, rule_6, running};
+ghost use Rattle.match_defs.specs.Matching.{at_time, on_day, rule_6_route_and_time, trips_running};
 ghost use Rattle.match_defs.specs.Texts as text;
 
 use crate::texts::{given, time_of};
@@ -12,7 +12,7 @@ use sched_types::{Plan, Run};
 
 /// The run on that day of the one of these trips that runs then.
 fn only(plan: &Plan, trips: &[u32], day: u32) -> Found
-    ensures { result ≡ rule.only day (running plan.now day trips.now) }
+    ensures { result ≡ rule.only_trip day (trips_running plan.now day trips.now) }
 {
     let mut found: Option<u32> = None;
     for trip in trips {
@@ -54,7 +54,7 @@ fn departing_at(plan: &Plan, route: &str, direction: u32, date: u32, time: &str)
 
 /// The run of the descriptor's route, direction and time on that date, if all are given.
 pub(crate) fn by_departure(plan: &Plan, trip: &TripRef, date: Option<u32>) -> Found
-    ensures { result ≡ rule_6 plan.now (text.given trip.now.route_id) trip.now.direction_id date (text.given trip.now.start_time) }
+    ensures { result ≡ rule_6_route_and_time plan.now (text.text_given trip.now.route_id) trip.now.direction_id date (text.text_given trip.now.start_time) }
 {
     match (
         given(&trip.route_id),

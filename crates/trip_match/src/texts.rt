@@ -5,11 +5,11 @@ ghost use Rattle.match_defs.specs.Texts as rule;
 ghost use Rattle.match_defs.specs.Texts.{clock_of, digits, digits_after, sixtieth};
 
 use rt_types::Text;
-use service_day::is_valid_date;
+use texts::is_valid_date;
 
 /// The text, if it is there and not empty.
 pub(crate) fn given(text: &Option<Text>) -> Option<&str>
-    ensures { option_copied result ≡ rule.given text.now }
+    ensures { option_copied result ≡ rule.text_given text.now }
 {
     match text {
         Some(text) => {

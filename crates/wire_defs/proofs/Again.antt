@@ -9,7 +9,7 @@ use Rattle.wire_defs.specs.Field.{Payload, Field, wire_type, tag_of, deepest_gro
 use Rattle.wire_defs.specs.Field.Payload.{Varint, Eight, Span, Four, Group}
 use Rattle.wire_defs.specs.Spelling.{IsGroups, IsVarint, IsPayload, IsGroup, IsField}
 use Rattle.wire_defs.specs.Reading.{fields_of}
-use Rattle.wire_defs.specs.Writing.{Written, groups, varint, payload_bytes, spelled}
+use Rattle.wire_defs.specs.Writing.{Written, groups, varint, payload_bytes, field_bytes}
 use Rattle.wire_defs.proofs.Bytes.{AreBytes, AreBytes-front, AreBytes-behind}
 use Rattle.wire_defs.proofs.Numbers.{IsShort, varint_below}
 use Rattle.wire_defs.proofs.Found.{fields_found, fields_only, wire_type_below}
@@ -86,7 +86,7 @@ pub record IsSpellable (w : Written) : Type 0 where
 
 -- a written field, as it is read
 abbrev pub as_field : Written → Field
-as_field w = record { number = w.number; payload = w.payload; raw = spelled w }
+as_field w = record { number = w.number; payload = w.payload; raw = field_bytes w }
 
 payload_spelled : (group : ℕ → List ℕ → Type 0) (number : ℕ) (payload : Payload) → IsInRange payload → IsPayload group number (payload_bytes payload) payload
 unfolding payload_bytes
@@ -98,7 +98,7 @@ payload_spelled group number Group fits = absurd fits
 
 -- what is written spells the field
 pub spelled_is_field : (w : Written) → IsSpellable w → IsField (as_field w)
-unfolding spelled
+unfolding field_bytes
 spelled_is_field w h =
     let below : wire_type w.payload < 8 = wire_type_below w.payload in
     let small : tag_of w.number w.payload < 2 ^ 32 = omega (arith, h.high) in
@@ -108,14 +108,14 @@ written_are_fields : (ws : List Written) (fields : List Field) → AllByRecursio
 written_are_fields [] fields each rest = rest
 written_are_fields (w ∷ ws) fields each rest = (spelled_is_field w each.0, written_are_fields ws fields each.1 rest)
 
-written_whole : (ws : List Written) (fields : List Field) → flat_map spelled ws ++ flat_map (λ field. field.raw) fields ≡ flat_map (λ field. field.raw) (map as_field ws ++ fields)
+written_whole : (ws : List Written) (fields : List Field) → flat_map field_bytes ws ++ flat_map (λ field. field.raw) fields ≡ flat_map (λ field. field.raw) (map as_field ws ++ fields)
 written_whole [] fields = refl
 written_whole (w ∷ ws) fields =
     let rest = flat_map (λ field. field.raw) fields in
-    ap (λ (r : List ℕ). r ++ rest) (flat_map-cons spelled w ws) ∙ append_assoc (spelled w) (flat_map spelled ws) rest ∙ ap (λ (r : List ℕ). spelled w ++ r) (written_whole ws fields) ∙ sym (flat_map-cons (λ field. field.raw) (as_field w) (map as_field ws ++ fields))
+    ap (λ (r : List ℕ). r ++ rest) (flat_map-cons field_bytes w ws) ∙ append_assoc (field_bytes w) (flat_map field_bytes ws) rest ∙ ap (λ (r : List ℕ). field_bytes w ++ r) (written_whole ws fields) ∙ sym (flat_map-cons (λ field. field.raw) (as_field w) (map as_field ws ++ fields))
 
 -- written fields, and behind them fields that stood in bytes, read back
-pub found_again : (ws : List Written) (fields : List Field) → AllByRecursion IsSpellable ws → AllByRecursion IsField fields → fields_of (flat_map spelled ws ++ flat_map (λ field. field.raw) fields) ≡ Ok (map as_field ws ++ fields)
+pub found_again : (ws : List Written) (fields : List Field) → AllByRecursion IsSpellable ws → AllByRecursion IsField fields → fields_of (flat_map field_bytes ws ++ flat_map (λ field. field.raw) fields) ≡ Ok (map as_field ws ++ fields)
 found_again ws fields each rest =
     fields_only _ (map as_field ws ++ fields) (record { each = written_are_fields ws fields each rest; whole = written_whole ws fields })
 

@@ -8,10 +8,10 @@ use Rattle.std.proofs.lemmas.List.Concat.{flat_map-cons}
 use Rattle.wire_defs.specs.Field.{Payload, Field, Fault, wire_type, tag_of, end_tag_of, deepest_group}
 use Rattle.wire_defs.specs.Field.Payload.{Varint, Eight, Span, Four, Group}
 use Rattle.wire_defs.specs.Field.Fault.{Cut, BadGroup}
-use Rattle.wire_defs.specs.Steps.{◌>>=◌}
+use Rattle.answer_defs.specs.Steps.{◌>>=◌}
 use Rattle.wire_defs.specs.Spelling.{IsVarint, IsPayload, IsFieldWith, IsEnded, IsGroup, IsField, HasFields}
 use Rattle.wire_defs.specs.Reading.{varint_at, span_at, tag_at, payload_at, field_with, behind_end, group_at, field_at, fields_within, fields_of}
-use Rattle.wire_defs.proofs.Steps.{ok_is, bind_ok, chosen, guard_ok, bind_same_at, bind_bind, bind_given}
+use Rattle.answer_defs.proofs.Steps.{ok_is, bind_ok, chosen, guard_ok, bind_same_at, bind_bind, bind_given}
 use Rattle.wire_defs.proofs.Bytes.{AreBytes, AreBytes-rest, AreBytes-behind, Takes, take-before}
 use Rattle.wire_defs.proofs.Numbers.{varint_found, varint_again, varint_long, fixed_found, fixed_again, IsFixed, wide32, wide64}
 use Rattle.wire_defs.proofs.Tags.{tag_found, tag_again, field_steps}

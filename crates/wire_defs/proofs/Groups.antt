@@ -4,9 +4,9 @@ use Rattle.std.proofs.lemmas.Bool.{eqb-true, eq-eqb, cases_Bool}
 use Rattle.wire_defs.specs.Field.{Payload, Field, Fault}
 use Rattle.wire_defs.specs.Field.Payload.{Group}
 use Rattle.wire_defs.specs.Field.Fault.{BadGroup}
-use Rattle.wire_defs.specs.Steps.{◌>>=◌}
+use Rattle.answer_defs.specs.Steps.{◌>>=◌}
 use Rattle.wire_defs.specs.Reading.{tag_at, payload_at, field_with, behind_end, group_at}
-use Rattle.wire_defs.proofs.Steps.{bind_same_at, bind_bind}
+use Rattle.answer_defs.proofs.Steps.{bind_same_at, bind_bind}
 use Rattle.wire_defs.proofs.Tags.{field_steps}
 use Rattle.wire_defs.proofs.Shorter.{LeavesLess, field_with_shorter, group_shorter}
 

@@ -6,10 +6,10 @@ use Rattle.std.proofs.lemmas.List.{take_at, drop_at, take-append-drop, length-ap
 use Rattle.std.proofs.lemmas.Nat.{le_bytes_4, le_bytes_8, from_le_bytes-to_le_bytes_4, from_le_bytes-to_le_bytes_8}
 use Rattle.wire_defs.specs.Field.{Payload}
 use Rattle.wire_defs.specs.Field.Fault.{Cut}
-use Rattle.wire_defs.specs.Steps.{◌>>=◌}
+use Rattle.answer_defs.specs.Steps.{◌>>=◌}
 use Rattle.wire_defs.specs.Spelling.{IsGroups, IsVarint}
 use Rattle.wire_defs.specs.Reading.{groups_at, varint_at, fixed_at}
-use Rattle.wire_defs.proofs.Steps.{ok_is, bind_ok, chosen, guard_ok}
+use Rattle.answer_defs.proofs.Steps.{ok_is, bind_ok, chosen, guard_ok}
 use Rattle.wire_defs.proofs.Bytes.{AreBytes, AreBytes-take, Takes}
 
 -- ---- groups

@@ -5,9 +5,9 @@ use Rattle.std.proofs.lemmas.List.{length-drop}
 use Rattle.wire_defs.specs.Field.{Payload, Field, Fault, deepest_group}
 use Rattle.wire_defs.specs.Field.Payload.{Varint, Eight, Span, Four, Group}
 use Rattle.wire_defs.specs.Field.Fault.{Cut, BadGroup}
-use Rattle.wire_defs.specs.Steps.{◌>>=◌}
+use Rattle.answer_defs.specs.Steps.{◌>>=◌}
 use Rattle.wire_defs.specs.Reading.{groups_at, varint_at, fixed_at, span_at, tag_at, payload_at, field_with, behind_end, group_at, field_at}
-use Rattle.wire_defs.proofs.Steps.{ok_is, bind_ok, chosen, guard_ok}
+use Rattle.answer_defs.proofs.Steps.{ok_is, bind_ok, chosen, guard_ok}
 use Rattle.wire_defs.proofs.Tags.{tag_found, field_steps}
 
 pub groups_shorter : (most : ℕ) (bytes : List ℕ) (x : ℕ × List ℕ) → groups_at most bytes ≡ Ok x → length x.1 < length bytes

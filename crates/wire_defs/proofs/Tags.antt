@@ -3,9 +3,9 @@ use Rattle.std.proofs.Common.{◌≡◌, ℕ, ◌-◌, ◌/◌, ◌%◌, ◌^◌
 use Rattle.std.proofs.lemmas.Bool.{ltb-false, cases_lt, le-leb, lt-leb, le-ltb}
 use Rattle.wire_defs.specs.Field.{Payload, Field, Fault}
 use Rattle.wire_defs.specs.Field.Fault.{BadTag}
-use Rattle.wire_defs.specs.Steps.{◌>>=◌}
+use Rattle.answer_defs.specs.Steps.{◌>>=◌}
 use Rattle.wire_defs.specs.Reading.{varint_at, tag_at, payload_at, field_with}
-use Rattle.wire_defs.proofs.Steps.{ok_is, bind_ok, guard_ok}
+use Rattle.answer_defs.proofs.Steps.{ok_is, bind_ok, guard_ok}
 
 -- a varint that is a tag
 pub record IsTagAt (bytes : List ℕ) (tag : ℕ × List ℕ) : Type 0 where

@@ -4,15 +4,15 @@ use Rattle.wire_defs.specs.Field.{Field, Fault}
 use Rattle.wire_defs.specs.Field.Payload.{Varint, Span, Group}
 use Rattle.wire_defs.specs.Field.Fault.{Cut, Overlong, BadTag, BadGroup}
 use Rattle.wire_defs.specs.Reading.{groups_at, varint_at, span_at, tag_at, payload_at, field_with, behind_end, group_at, field_at, fields_within, fields_of}
-use Rattle.wire_defs.specs.Writing.{groups, varint, payload_bytes, spelled}
+use Rattle.wire_defs.specs.Writing.{groups, varint, payload_bytes, field_bytes}
 
 -- field 1 with the value 150 is 08 96 01
 pub field_150 : fields_of (0x08 ∷ 0x96 ∷ 0x01 ∷ []) ≡ Ok (record { number = 1; payload = Varint 150; raw = 0x08 ∷ 0x96 ∷ 0x01 ∷ [] } ∷ [])
 unfolding fields_of fields_within field_at field_with group_at behind_end payload_at tag_at span_at varint_at groups_at
 field_150 = refl
 
-pub written_150 : spelled (record { number = 1; payload = Varint 150 }) ≡ 0x08 ∷ 0x96 ∷ 0x01 ∷ []
-unfolding spelled payload_bytes varint groups
+pub written_150 : field_bytes (record { number = 1; payload = Varint 150 }) ≡ 0x08 ∷ 0x96 ∷ 0x01 ∷ []
+unfolding field_bytes payload_bytes varint groups
 written_150 = refl
 
 -- field 2 with the text "testing" is 12 07 and the text

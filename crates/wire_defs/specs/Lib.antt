@@ -1,4 +1,3 @@
-pub mod Steps
 pub mod Field
 pub mod Spelling
 pub mod Reading

@@ -4,7 +4,7 @@ use Rattle.std.specs.Int.{Width, w32, w64, byte_len, from_le_bytes}
 use Rattle.wire_defs.specs.Field.{Payload, Field, Fault, deepest_group}
 use Rattle.wire_defs.specs.Field.Payload.{Varint, Eight, Span, Four, Group}
 use Rattle.wire_defs.specs.Field.Fault.{Cut, Overlong, BadTag, BadGroup}
-use Rattle.wire_defs.specs.Steps.{◌>>=◌}
+use Rattle.answer_defs.specs.Steps.{◌>>=◌}
 
 -- the groups in front, at most this many, with the bytes behind them
 unfoldable pub groups_at : ℕ → List ℕ → Result (ℕ × List ℕ) Fault

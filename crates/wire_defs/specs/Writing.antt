@@ -27,5 +27,5 @@ payload_bytes (Four n) = to_le_bytes w32 n
 payload_bytes Group = []
 
 -- the bytes of a field: its tag and its payload
-unfoldable pub spelled : Written → List ℕ
-spelled w = varint (tag_of w.number w.payload) ++ payload_bytes w.payload
+unfoldable pub field_bytes : Written → List ℕ
+field_bytes w = varint (tag_of w.number w.payload) ++ payload_bytes w.payload

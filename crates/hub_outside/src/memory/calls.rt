@@ -1,6 +1,6 @@
 // The calls of a form in memory, each numbered from 1 on, of which the listed ones fail.
 ghost use Rattle.std.specs.Prelude.{◌≡◌, ◌≤◌, if◌then◌else◌};
-ghost use Rattle.hub_outside.specs.Count.{counted};
+ghost use Rattle.hub_outside.specs.Count.{one_more};
 ghost use Rattle.hub_outside.specs.Calls.{uncalled, is_failing, with_call, with_fault, cut_at};
 
 use std::marker::Model;
@@ -54,7 +54,7 @@ impl Calls {
 
     // Counts a fault of the call that was counted last.
     pub(crate) fn fault(&mut self)
-        ensures after { self.new ≡ record self.old { faults = counted self.old.faults } }
+        ensures after { self.new ≡ record self.old { faults = one_more self.old.faults } }
         ensures faults { self.old.faults ≤ self.new.faults }
     {
         self.faults = self.faults.saturating_add(1);

@@ -1,12 +1,12 @@
 -- The configuration's fault, or the lines of its timetables.
 use Rattle.hub_check.specs.Told.{Checks}
-use Rattle.command_defs.specs.Checks.{checked}
+use Rattle.command_defs.specs.Checks.{check_output}
 use Rattle.hub_check.proofs.Telling.{both_told, check_refused, check_told, each_told, passed}
 use Rattle.hub_check.proofs.checking.check.Goals as goal
 
 pub returns-in_err-conf-clause-told : goal.returns-in_err-conf-clause-told
 returns-in_err-conf-clause-told g c =
-    each_told _ _ _ c.in_err-conf.ensures.told (λ fs told. passed (λ r. Checks (checked fs c.args.path.now) r) _ _ c.from_residual.ensures.1 (check_refused fs c.args.path.now _ told))
+    each_told _ _ _ c.in_err-conf.ensures.told (λ fs told. passed (λ r. Checks (check_output fs c.args.path.now) r) _ _ c.from_residual.ensures.1 (check_refused fs c.args.path.now _ told))
 
 pub returns-clause-told : goal.returns-clause-told
 returns-clause-told g c =

@@ -7,7 +7,7 @@ use Rattle.std.specs.declared.collections.BTreeMap.{BTreeMap}
 use Rattle.std.proofs.lemmas.List.{map-append}
 use Rattle.std.proofs.lemmas.Option.{slice_get-map, slice_get_read}
 use Rattle.gtfs_rows.specs.declared.rows.CalendarRow.{CalendarRow}
-use Rattle.service_day.specs.Calendar.{date_plus}
+use Rattle.text_defs.specs.Dates.{date_plus}
 use Rattle.service_day.specs.declared.services.Exception.{Exception}
 use Rattle.sched_load.specs.Days.{Flagged, active_by, runs_by}
 use Rattle.sched_load.specs.Listed.{entries_of}

@@ -1,6 +1,6 @@
 use Rattle.std.proofs.Common.{◌≡◌, map}
 use Rattle.std.specs.List.{range_with_len}
-use Rattle.service_day.specs.Calendar.{date_plus}
+use Rattle.text_defs.specs.Dates.{date_plus}
 use Rattle.service_day.specs.Zone.{base_of}
 use Rattle.sched_load.specs.Days.{EachSmall}
 use Rattle.sched_load.proofs.days.bases_of.Given as goal

@@ -1,7 +1,7 @@
 use Rattle.std.proofs.Common.{◌≡◌, ◌∙◌, sym, nat_cmp}
 use Rattle.std.specs.Prelude.{option_copied}
 use Rattle.std.specs.FinMap.Entries.{find}
-use Rattle.service_day.specs.Calendar.{date_plus}
+use Rattle.text_defs.specs.Dates.{date_plus}
 use Rattle.sched_types.proofs.Days.{window_day}
 use Rattle.sched_load.specs.Days.{runs_by}
 use Rattle.sched_load.proofs.DayLemmas.{date_next, date_start, days_more, runs_day}

@@ -2,7 +2,7 @@ use Rattle.std.proofs.Common.{◌≡◌, ◌+◌, nat_cmp}
 use Rattle.std.specs.Prelude.{filter, option_copied}
 use Rattle.std.specs.List.{range_with_len}
 use Rattle.std.specs.FinMap.Entries.{find}
-use Rattle.service_day.specs.Calendar.{date_plus}
+use Rattle.text_defs.specs.Dates.{date_plus}
 use Rattle.sched_load.specs.Days.{runs_by}
 use Rattle.sched_load.proofs.days.days_of.Given as goal
 

@@ -1,6 +1,6 @@
 -- The window of the example begins on a day and has three.
 use Rattle.std.proofs.Common.{refl, arith}
-use Rattle.service_day.specs.Calendar.{is_day}
+use Rattle.text_defs.specs.Dates.{is_day}
 use Rattle.sched_load.proofs.tests.outcome.Goals as goal
 
 pub load-requires : goal.load-requires

@@ -1,9 +1,9 @@
 use Rattle.std.proofs.Common.{arith, ap, ◌∙◌, int_div, ◌≤◌, pos, ◌-ℤ◌, w64, to_z, of_z}
-use Rattle.service_day.specs.Calendar.{year_of}
+use Rattle.text_defs.specs.Dates.{year_of}
 use Rattle.service_day.specs.Zone.{base_of}
 use Rattle.service_day.proofs.ZoneLemmas.{base_is, IsNoon-parts, noon_in_range, seconds_kept}
 use Rattle.jiff.specs.ZoneView.{plain_zone}
-use Rattle.service_day.proofs.CalendarLemmas.{IsDay-is_day}
+use Rattle.text_defs.proofs.DateLemmas.{IsDay-is_day}
 use Rattle.service_day.proofs.zones.base.Goals as goal
 
 pub returns-in-Ok : goal.returns-in-Ok

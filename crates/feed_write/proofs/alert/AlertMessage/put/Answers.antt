@@ -1,5 +1,5 @@
 -- The fields stand one behind another.
-use Rattle.feed_defs.specs.Rows.{written}
+use Rattle.feed_defs.specs.Rows.{message_bytes}
 use Rattle.feed_write.proofs.Spelling.{starts_on, last_row, row_then}
 use Rattle.feed_write.proofs.alert.AlertMessage.put.Goals as goal
 
@@ -10,7 +10,7 @@ pub returns-in_err-put_embedded-2-clause-begins : goal.returns-in_err-put_embedd
 returns-in_err-put_embedded-2-clause-begins c = starts_on _ _ _ (starts_on _ _ _ (starts_on _ _ _ (starts_on _ _ _ (starts_on _ _ _ (c.in_ok-put_items.ensures.begins) c.in_ok-put_items-2.ensures.begins) c.in_ok-put_scalar.ensures.begins) c.in_ok-put_scalar-2.ensures.begins) c.in_ok-put_embedded.ensures.begins) c.in_err-put_embedded-2.ensures.begins
 
 pub returns-clause-written : goal.returns-clause-written
-unfolding written
+unfolding message_bytes
 returns-clause-written c =
     row_then c.put_unknown.result _ _ _ _ _ _ c.in_ok-put_items.ensures.written
     (row_then c.put_unknown.result _ _ _ _ _ _ c.in_ok-put_items-2.ensures.written

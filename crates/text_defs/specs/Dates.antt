@@ -1,6 +1,8 @@
 -- Days of the Gregorian calendar as GTFS Schedule writes them, "Field Types", Date: the number of eight
 -- digits YYYYMMDD. The calendar is carried back to the year 0, as ISO 8601 does.
-use Rattle.std.specs.Prelude.{ℕ, zero, suc, ◌+◌, ◌-◌, ◌*◌, ◌/◌, ◌%◌, Bool, not, ◌&&◌, ◌||◌, ◌==◌, nat_le, nat_lt, [], ◌∷◌, if◌then◌else◌, slice_index, ℤ, pos, ◌-ℤ◌}
+use Rattle.std.specs.Prelude.{ℕ, zero, suc, ◌+◌, ◌-◌, ◌*◌, ◌/◌, ◌%◌, Bool, not, ◌&&◌, ◌||◌, ◌==◌, nat_le, nat_lt, List, [], ◌∷◌, if◌then◌else◌, slice_index, ℤ, pos, ◌-ℤ◌, Option, Some, None}
+use Rattle.std.specs.Option.{option_and_then}
+use Rattle.text_defs.specs.Numbers.{digits}
 
 -- the year that the first four digits write
 abbrev pub year_of : ℕ → ℕ
@@ -69,3 +71,11 @@ next_day date =
 unfoldable pub date_plus : ℕ → ℕ → ℕ
 date_plus first zero = first
 date_plus first (suc days) = next_day (date_plus first days)
+
+-- the number, where it writes a day
+abbrev pub day_or_none : ℕ → Option ℕ
+day_or_none date = if is_day date then Some date else None
+
+-- the date that eight digits YYYYMMDD write, where it is a day of the calendar
+unfoldable pub date_in : List ℕ → Option ℕ
+date_in bytes = option_and_then day_or_none (digits 8 8 bytes)

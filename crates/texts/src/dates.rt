@@ -1,19 +1,25 @@
 //! Days of the Gregorian calendar, as the number of eight digits YYYYMMDD.
-ghost use Rattle.std.specs.Prelude.{◌≡◌, ◌+◌, ◌-◌, ◌*◌, ◌/◌, ◌%◌, ◌<◌, ◌≤◌, IsTrue, slice_index, List, [], ◌∷◌};
-ghost use Rattle.service_day.specs.Calendar as calendar;
+ghost use Rattle.std.specs.Prelude.{◌≡◌, ◌+◌, ◌-◌, ◌*◌, ◌/◌, ◌%◌, ◌<◌, ◌≤◌, IsTrue, slice_index, List, [], ◌∷◌, IfSome};
+ghost use Rattle.text_defs.specs.Dates as calendar;
+
+use crate::numbers::digits_of;
 
 /// The days of the year before each month, where 29 February is left out.
 const DAYS_BEFORE_MONTH: [u32; 12] = [0, 31, 59, 90, 120, 151, 181, 212, 243, 273, 304, 334];
 
 /// The digits of a date, taken apart.
 #[derive(Clone, Copy)]
-pub(crate) struct Parts {
-    pub(crate) year: u32,
-    pub(crate) month: u32,
-    pub(crate) day: u32,
+pub struct Parts {
+    /// The first four digits: 0 to 9999 in a valid date.
+    pub year: u32,
+    /// The next two: 1 for January to 12 in a valid date.
+    pub month: u32,
+    /// The last two: 1 to 31 in a valid date.
+    pub day: u32,
 }
 
-pub(crate) fn parts_of(date: u32) -> Parts
+/// The digits of the number YYYYMMDD, whether they write a day or not.
+pub fn parts_of(date: u32) -> Parts
     ensures year { result.year ≡ calendar.year_of date }
     ensures month { result.month ≡ calendar.month_of date }
     ensures day { result.day ≡ calendar.day_of date }
@@ -44,7 +50,7 @@ fn days_in_month(year: u32, month: u32) -> u32
 
 /// Whether the eight digits YYYYMMDD write a day of the Gregorian calendar, of the years 0 to 9999
 /// (GTFS Schedule, "Field Types", Date).
-#[tactic(auto, unfolding(crate::specs::Calendar::is_day))]
+#[tactic(auto, unfolding(text_defs::specs::Dates::is_day))]
 pub fn is_valid_date(date: u32) -> bool
     ensures { result ≡ calendar.is_day date }
 {
@@ -53,7 +59,7 @@ pub fn is_valid_date(date: u32) -> bool
 }
 
 /// How many days lie between 1 January of the year 0 and a valid date.
-#[tactic(auto, unfolding(crate::specs::Calendar::is_day, crate::specs::Calendar::day_number))]
+#[tactic(auto, unfolding(text_defs::specs::Dates::is_day, text_defs::specs::Dates::day_number))]
 pub fn day_number(date: u32) -> u32
     requires { IsTrue (calendar.is_day date) }
     ensures value { result ≡ calendar.day_number date }
@@ -70,7 +76,7 @@ pub fn day_number(date: u32) -> u32
 }
 
 /// The day of the week of a valid date, from 0 for Monday to 6 for Sunday.
-pub(crate) fn weekday(date: u32) -> u32
+pub fn weekday(date: u32) -> u32
     requires { IsTrue (calendar.is_day date) }
     ensures value { result ≡ calendar.weekday date }
     ensures range { result < 7 }
@@ -79,7 +85,7 @@ pub(crate) fn weekday(date: u32) -> u32
 }
 
 /// The day after a valid date, which is not the last day of the year 9999.
-#[tactic(auto, unfolding(crate::specs::Calendar::is_day, crate::specs::Calendar::next_day))]
+#[tactic(auto, unfolding(text_defs::specs::Dates::is_day, text_defs::specs::Dates::next_day))]
 pub fn day_after(date: u32) -> u32
     requires valid { IsTrue (calendar.is_day date) }
     requires not_last { date < 99991231 }
@@ -98,7 +104,7 @@ pub fn day_after(date: u32) -> u32
 }
 
 /// The date so many days after a valid date, which lies within the year 9999.
-#[tactic(auto, unfolding(crate::specs::Calendar::date_plus))]
+#[tactic(auto, unfolding(text_defs::specs::Dates::date_plus))]
 pub fn date_plus(first: u32, days: u32) -> u32
     requires valid { IsTrue (calendar.is_day first) }
     requires in_time { calendar.day_number first + days < 3_652_425 }
@@ -111,4 +117,18 @@ pub fn date_plus(first: u32, days: u32) -> u32
         date = day_after(date);
     }
     date
+}
+
+/// The date that eight digits YYYYMMDD write, where it is a day of the Gregorian calendar of the years 0 to
+/// 9999 (GTFS Schedule, "Field Types", Date).
+#[tactic(auto, unfolding(text_defs::specs::Dates::date_in))]
+pub fn read_date(bytes: &[u8]) -> Option<u32>
+    ensures value { result ≡ calendar.date_in bytes.now }
+    ensures valid { IfSome result (λ date. IsTrue (calendar.is_day date)) }
+{
+    if bytes.len() != 8 {
+        return None;
+    }
+    let date = digits_of(bytes)? as u32;
+    if is_valid_date(date) { Some(date) } else { None }
 }

@@ -1,7 +1,7 @@
 use Rattle.std.proofs.Common.{◌≡◌, ◌∙◌, ap, ◌+◌, ◌*◌, ◌<◌, arith}
-use Rattle.service_day.specs.Calendar.{day_number, days_in_month, year_of, month_of, day_of, date_of}
-use Rattle.service_day.proofs.CalendarLemmas.{IsDay, IsDay-is_day, is_day-IsDay, day_number-same_month, is_day-same_month, day_number-next_month, day_number-next_year}
-use Rattle.service_day.proofs.calendar.day_after.Goals as goal
+use Rattle.text_defs.specs.Dates.{day_number, days_in_month, year_of, month_of, day_of, date_of}
+use Rattle.text_defs.proofs.DateLemmas.{IsDay, IsDay-is_day, is_day-IsDay, day_number-same_month, is_day-same_month, day_number-next_month, day_number-next_year}
+use Rattle.texts.proofs.dates.day_after.Goals as goal
 
 -- the date is a day, and the length of its month
 before_end : (c : goal.Then-day-days_in_month) → IsDay c.args.date × (day_of c.args.date < days_in_month (year_of c.args.date) (month_of c.args.date))

@@ -1,8 +1,8 @@
 use Rattle.std.proofs.Common.{◌≡◌, ◌∙◌, ap, sym, add-one, arith}
-use Rattle.service_day.specs.Calendar.{is_day, next_day, date_plus, day_number}
-use Rattle.service_day.proofs.CalendarLemmas.{IsDay-is_day, is_day-IsDay}
-use Rattle.service_day.proofs.CalendarLaws.{date_plus-number, before_last}
-use Rattle.service_day.proofs.calendar.date_plus.Goals as goal
+use Rattle.text_defs.specs.Dates.{is_day, next_day, date_plus, day_number}
+use Rattle.text_defs.proofs.DateLemmas.{IsDay-is_day, is_day-IsDay}
+use Rattle.text_defs.proofs.DateLaws.{date_plus-number, before_last}
+use Rattle.texts.proofs.dates.date_plus.Goals as goal
 
 pub day_after-date-requires-clause-valid : goal.day_after-date-requires-clause-valid
 day_after-date-requires-clause-valid c =

@@ -3,8 +3,8 @@
 use Rattle.std.proofs.Common.{◌≡◌, ℕ, zero, suc, ◌+◌, ◌-◌, ◌<◌, ◌≤◌, inl, inr, cond, nat_lt, refl, sym, ap, subst, ◌∙◌, arith}
 use Rattle.std.proofs.lemmas.Bool.{cases_lt, cases_order}
 use Rattle.std.proofs.lemmas.Bool.Decides.{nat_tests}
-use Rattle.service_day.specs.Calendar.{year_of, month_of, day_of, date_of, days_in_month, is_day, days_before_year, days_before_month, day_number, next_day, date_plus}
-use Rattle.service_day.proofs.CalendarLemmas.{IsDay, IsDay-is_day, days_before_year-suc, days_before_month-suc, days_before_month_bound, digits-date_of, day_number-same_month, is_day-same_month, day_number-next_month, day_number-next_year}
+use Rattle.text_defs.specs.Dates.{year_of, month_of, day_of, date_of, days_in_month, is_day, days_before_year, days_before_month, day_number, next_day, date_plus}
+use Rattle.text_defs.proofs.DateLemmas.{IsDay, IsDay-is_day, days_before_year-suc, days_before_month-suc, days_before_month_bound, digits-date_of, day_number-same_month, is_day-same_month, day_number-next_month, day_number-next_year}
 
 next_if : (a b x y : ℕ) → a < b → cond (nat_lt a b) x y ≡ x
 next_if a b x y h = grind (arith, nat_tests)

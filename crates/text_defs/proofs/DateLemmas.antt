@@ -1,7 +1,7 @@
 -- The day numbers of neighbouring days.
 use Rattle.std.proofs.Common.{◌≡◌, ℕ, zero, suc, ◌+◌, ◌-◌, ◌<◌, ◌≤◌, true, cond, refl, sym, ap, ◌∙◌, arith}
 use Rattle.std.proofs.lemmas.Bool.Decides.{nat_tests}
-use Rattle.service_day.specs.Calendar.{year_of, month_of, day_of, date_of, is_leap_year, days_in_month, is_day, days_before_year, days_before_month, day_number}
+use Rattle.text_defs.specs.Dates.{year_of, month_of, day_of, date_of, is_leap_year, days_in_month, is_day, days_before_year, days_before_month, day_number}
 
 -- 1 for a leap year, and else 0
 abbrev pub leap_day : ℕ → ℕ

@@ -1,6 +1,6 @@
 -- Steps that may fail, and tests, taken apart.
 use Rattle.std.proofs.Common.{◌≡◌, Bool, true, false, cond, Result, Ok, Err, refl, inl, inr, ◌⊎◌}
-use Rattle.wire_defs.specs.Steps.{◌>>=◌}
+use Rattle.answer_defs.specs.Steps.{◌>>=◌}
 
 -- a value that a step gave
 abbrev given : {A E : Type 0} → A → Result A E
