@@ -130,5 +130,9 @@ pub fn read_date(bytes: &[u8]) -> Option<u32>
         return None;
     }
     let date = digits_of(bytes)? as u32;
-    if is_valid_date(date) { Some(date) } else { None }
+    if is_valid_date(date) {
+        Some(date)
+    } else {
+        None
+    }
 }

@@ -17,7 +17,9 @@ mod tests;
 mod times;
 
 pub use cleaned::push_cleaned;
-pub use dates::{Parts, date_plus, day_after, day_number, is_valid_date, parts_of, read_date, weekday};
+pub use dates::{
+    Parts, date_plus, day_after, day_number, is_valid_date, parts_of, read_date, weekday,
+};
 pub use names::is_name;
 pub use numbers::read_number;
 pub use short_text::ShortText;

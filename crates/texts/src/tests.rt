@@ -19,6 +19,6 @@ fn texts_are_kept(rt: HostRuntime) -> Result<(), Fail> {
     }
     let mut line = Vec::new(rt.alloc());
     push_cleaned(b"a\tb\x7f", &mut line)?;
-    assert_eq!(rt; line.as_slice(), b"a b ");
+    assert_eq!(rt; line.as_slice(), b"a b ".as_slice());
     Ok(())
 }
