@@ -1,0 +1,5 @@
+pub mod Fold
+pub mod Choice
+pub mod Rows
+pub mod Feed
+pub mod Views

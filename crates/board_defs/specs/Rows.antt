@@ -1,0 +1,205 @@
+-- The rows of a board: of all runs of a timetable all places at which passengers may board at the asked stop.
+use Rattle.std.specs.Prelude.{ℕ, ◌+◌, ◌-◌, Bool, true, false, not, ◌&&◌, ◌||◌, ◌==◌, if◌then◌else◌, is_empty, List, [], ◌∷◌, ◌++◌, length, map, take, filter, slice_get, Option, Some, None, unwrap_or, ℤ, pos, ◌+ℤ◌, int_le, int_lt, codes}
+use Rattle.std.specs.Cmp.Lexicographic.{slice_cmp}
+use Rattle.std.specs.Fmt.{decimal}
+use Rattle.std.specs.List.{filter_map, flat_map, enumerate_from, range_with_len}
+use Rattle.std.specs.Option.{option_map}
+use Rattle.std.specs.Ordering.{bool_cmp, int_cmp, nat_cmp, ordering_then}
+use Rattle.std.specs.declared.cmp.Ordering.{Ordering}
+use Rattle.rt_types.specs.declared.enums.TripRelation.{TripRelation}
+use Rattle.rt_types.specs.declared.enums.TripRelation.TheVariants as relation
+use Rattle.sched_types.specs.declared.plans.NamedPlan.{NamedPlan}
+use Rattle.sched_types.specs.declared.rows.Place.{Place}
+use Rattle.sched_types.specs.declared.rows.Route.{Route}
+use Rattle.sched_types.specs.declared.rows.Run.{Run}
+use Rattle.sched_types.specs.declared.rows.Stop.{Stop}
+use Rattle.sched_types.specs.declared.rows.Trip.{Trip}
+use Rattle.sched_types.specs.Schedules.{Schedules}
+use Rattle.sched_types.specs.Timetable.{Timetable, number_of, places_of, is_run, is_given, base_of, dates_of}
+use Rattle.delay_defs.specs.declared.state.StopState.{StopState}
+use Rattle.delay_defs.specs.Delays.{states}
+use Rattle.match_defs.specs.Matching.{relation_of}
+use Rattle.order.specs.Order.{ordered}
+use Rattle.board_defs.specs.declared.query.BoardQuery.{BoardQuery}
+use Rattle.board_defs.specs.declared.row.Row.{Row}
+use Rattle.board_defs.specs.declared.row.RowState.{RowState}
+use Rattle.board_defs.specs.declared.row.RowState.TheVariants as state
+use Rattle.board_defs.specs.Fold.{FeedFold}
+use Rattle.board_defs.specs.Choice.{Update, updates_at, chosen}
+
+-- what a row is about: a run of the timetable, or an added trip by its trip_id, its start_date and its route
+pub data Subject : Type 0 where
+  RunOf : Run → Subject
+  AddedTrip : List ℕ → List ℕ → Option ℕ → Subject
+
+-- a row, with what it is about, the place of its trip, and the stop at which it stands
+pub record BoardRow : Type 0 where
+  pub row : Row
+  pub subject : Subject
+  pub place : ℕ
+  pub stop : ℕ
+
+-- ---- which places count
+
+-- all runs of a timetable, by day and then by trip
+unfoldable pub all_runs : Timetable → List Run
+all_runs t =
+    filter (is_run t)
+    (flat_map (λ day. map (λ trip. record { trip = trip; day = day }) (range_with_len 0 (length t.trips)))
+    (range_with_len 0 (length t.bases)))
+
+-- the stop at which a place of a run stands
+abbrev pub stands_at : Place → ℕ
+stands_at place = place.stop
+
+-- the stop is the asked one, or names it as its parent_station (GTFS Schedule, stops.txt)
+abbrev pub is_child : ℕ → Option Stop → Bool
+is_child asked None = false
+is_child asked (Some stop) = is_given asked stop.parent
+
+abbrev pub is_asked : Timetable → ℕ → ℕ → Bool
+is_asked t asked stop = (stop == asked) || is_child asked (slice_get t.stops stop)
+
+-- passengers may board there (GTFS Schedule, stop_times.txt, pickup_type: 1 is no pickup)
+abbrev pub may_board : Place → Bool
+may_board place = not (place.pickup == 1)
+
+-- the places of a trip but the last, at which nobody boards, with their numbers
+abbrev pub departures_of : Timetable → ℕ → List (ℕ × Place)
+departures_of t trip = let places = places_of t trip in enumerate_from 0 (take (length places - 1) places)
+
+-- ---- what a board says of a place
+
+-- a state, and a delay where it is known
+pub record Shown : Type 0 where
+  pub state : RowState
+  pub delay : Option ℤ
+
+abbrev pub as_scheduled : Shown
+as_scheduled = record { state = state.Scheduled; delay = None }
+
+abbrev pub by_delay : Option ℤ → Shown
+by_delay None = as_scheduled
+by_delay (Some delay) = record { state = state.Live; delay = Some delay }
+
+-- by the state of the place under the run's update
+abbrev pub by_state : Option StopState → Shown
+by_state None = as_scheduled
+by_state (Some s) =
+    if s.skipped then record { state = state.Skipped; delay = None } else by_delay s.departure
+
+-- by the relation of the run's update: a deleted run is not shown, a canceled one keeps its times
+abbrev pub by_relation : TripRelation → Option StopState → Option Shown
+by_relation relation.Scheduled s = Some (by_state s)
+by_relation relation.Added s = Some (by_state s)
+by_relation relation.Unscheduled s = Some (by_state s)
+by_relation relation.Canceled s = Some (record { state = state.Canceled; delay = None })
+by_relation relation.Replacement s = Some (by_state s)
+by_relation relation.Duplicated s = Some (by_state s)
+by_relation relation.Deleted s = None
+
+-- by the update that counts for the run, if there is one
+abbrev pub shown_at : Timetable → Run → Option Update → ℕ → Option Shown
+shown_at t run None i = Some as_scheduled
+shown_at t run (Some u) i = by_relation (relation_of u.update.trip) (slice_get (states t run u.update) i)
+
+-- ---- the row of a place
+
+-- the short name of a route, else its long name
+abbrev pub route_name : Option Route → List ℕ
+route_name None = []
+route_name (Some route) = if is_empty route.short then route.long else route.short
+
+abbrev pub route_text : Timetable → Option Trip → List ℕ
+route_text t None = []
+route_text t (Some trip) = route_name (slice_get t.routes trip.route)
+
+abbrev pub stop_id_of : Timetable → ℕ → List ℕ
+stop_id_of t stop = unwrap_or (option_map (λ s. s.id) (slice_get t.stops stop)) []
+
+-- the date of a run, in eight digits
+abbrev pub date_text : Timetable → ℕ → List ℕ
+date_text t day = decimal (unwrap_or (slice_get (dates_of t) day) 0)
+
+abbrev pub scheduled_at : Timetable → Run → Place → ℤ
+scheduled_at t run place = base_of t run.day +ℤ pos place.departure
+
+abbrev pub row_of : Timetable → Run → Place → Shown → Row
+row_of t run place shown = let trip = slice_get t.trips run.trip in record {
+  expected = scheduled_at t run place +ℤ unwrap_or shown.delay (pos 0);
+  scheduled = Some (scheduled_at t run place);
+  delay = shown.delay;
+  state = shown.state;
+  route = route_text t trip;
+  headsign = unwrap_or (option_map (λ x. x.headsign) trip) [];
+  trip = unwrap_or (option_map (λ x. x.id) trip) [];
+  date = date_text t run.day;
+  platform = stop_id_of t (stands_at place);
+}
+
+abbrev pub place_row : Timetable → ℕ → Run → Option Update → ℕ × Place → Option BoardRow
+place_row t asked run update (i, place) =
+    if may_board place && is_asked t asked (stands_at place)
+    then
+      option_map
+      (λ shown. record { row = row_of t run place shown; subject = RunOf run; place = i; stop = stands_at place })
+      (shown_at t run update i)
+    else None
+
+-- the rows of a run at the asked stop
+unfoldable pub run_rows : Timetable → ℕ → List Update → Run → List BoardRow
+run_rows t asked updates run =
+    filter_map (place_row t asked run (chosen t updates run)) (departures_of t run.trip)
+
+-- the rows of trips that were added to the timetable: none are shown
+abbrev pub added_rows : Timetable → ℕ → List Update → List BoardRow
+added_rows t asked updates = []
+
+abbrev pub all_rows : Timetable → ℕ → List Update → List BoardRow
+all_rows t asked updates = flat_map (run_rows t asked updates) (all_runs t) ++ added_rows t asked updates
+
+-- ---- their order
+
+abbrev pub is_added : Subject → Bool
+is_added (RunOf run) = false
+is_added (AddedTrip trip date route) = true
+
+-- by the expected instant, the trip_id, the date, trips of the timetable before added ones, the place
+abbrev pub row_cmp : BoardRow → BoardRow → Ordering
+row_cmp a b =
+    ordering_then (int_cmp a.row.expected b.row.expected)
+    (ordering_then (slice_cmp nat_cmp a.row.trip b.row.trip)
+    (ordering_then (slice_cmp nat_cmp a.row.date b.row.date)
+    (ordering_then (bool_cmp (is_added a.subject) (is_added b.subject)) (nat_cmp a.place b.place))))
+
+-- expected from a moment on, for so many seconds
+abbrev pub is_within : ℕ → ℕ → BoardRow → Bool
+is_within at span row = int_le (pos at) row.row.expected && int_lt row.row.expected (pos (at + span))
+
+-- the first rows at a stop
+unfoldable pub board_at : Timetable → ℕ → List Update → BoardQuery → List BoardRow
+board_at t asked updates query =
+    take query.limit (ordered row_cmp (filter (is_within query.at query.span) (all_rows t asked updates)))
+
+abbrev pub board_in : Timetable → List Update → BoardQuery → Option ℕ → Option (List BoardRow)
+board_in t updates query None = None
+board_in t updates query (Some asked) = Some (board_at t asked updates query)
+
+-- the timetable of a schedule; one without rows past the last
+abbrev pub timetable_in : Schedules → ℕ → Option Timetable
+timetable_in schedules plan = option_map (λ named. named.plan) (slice_get schedules.plans plan)
+
+-- The rows of a board with what they are about, of what all feeds say; None where no row of stops.txt has
+-- the asked id.
+abbrev pub board_of : Schedules → List FeedFold → BoardQuery → Option Timetable → Option (List BoardRow)
+board_of schedules folds query None = None
+board_of schedules folds query (Some t) =
+    board_in t (updates_at query.plan query.at schedules.feeds folds) query
+    (number_of (λ stop. stop.id) t.stops query.stop)
+
+unfoldable pub board : Schedules → List FeedFold → BoardQuery → Option (List BoardRow)
+board schedules folds query = board_of schedules folds query (timetable_in schedules query.plan)
+
+-- the rows alone
+abbrev pub rows : Schedules → List FeedFold → BoardQuery → Option (List Row)
+rows schedules folds query = option_map (map (λ b. b.row)) (board schedules folds query)
