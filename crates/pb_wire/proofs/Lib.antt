@@ -1,4 +1,5 @@
 pub mod Spelt
+pub mod Lengths
 pub mod Faults
 pub mod Varints
 pub mod Nested

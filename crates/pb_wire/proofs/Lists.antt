@@ -1,5 +1,4 @@
 -- A reader's loop over the fields of bytes.
-use Rattle.std.specs.Prelude.{OnErr}
 use Rattle.std.proofs.Common.{◌≡◌, ℕ, zero, suc, ◌<◌, false, eqb, List, [], ◌∷◌, ◌++◌, length, Result, Ok, Err, refl, sym, ap, ◌∙◌, append_assoc, arith}
 use Rattle.std.proofs.lemmas.List.{append-nil, nil_from_length}
 use Rattle.wire_defs.specs.Field.{Field, Fault}
@@ -52,8 +51,3 @@ module _ (old now : List Field) (rest bytes : List ℕ) (so_far : Progress old n
 pub some_left : (n : ℕ) → false ≡ eqb n 0 → 0 < n
 some_left zero e = absurd cc
 some_left (suc n) e = omega arith
-
--- what holds anyway holds after a failure
-pub on_err : {A E : Type 0} (answer : Result A E) (P : Type 0) → P → OnErr answer P
-on_err (Ok x) P p = tt
-on_err (Err e) P p = p

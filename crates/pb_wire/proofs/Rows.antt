@@ -8,6 +8,7 @@ use Rattle.std.proofs.lemmas.List.{append-nil, length-append}
 use Rattle.std.proofs.lemmas.List.Concat.{flat_map-cons}
 use Rattle.std.proofs.lemmas.List.Elements.{All-from_recursion}
 use Rattle.std.proofs.Math.Seq.{take-append_seam, drop-append_seam}
+use Rattle.answer_defs.specs.Defined.{AsDefined, IsCause}
 use Rattle.wire_defs.specs.Field.{Field, Fault, Payload, deepest_group}
 use Rattle.wire_defs.specs.Field.Payload.{Varint, Eight, Span, Four, Group}
 use Rattle.wire_defs.specs.Spelling.{IsPayload, IsGroup, IsField, HasFields}
@@ -15,13 +16,13 @@ use Rattle.wire_defs.specs.Reading.{field_at, fields_of}
 use Rattle.answer_defs.proofs.Steps.{bind_ok, ok_is}
 use Rattle.wire_defs.proofs.Bytes.{AreBytes, AreBytes-behind}
 use Rattle.wire_defs.proofs.Found.{field_found, field_long, fields_found, fields_only}
-use Rattle.pb_wire.specs.Parts.{FailsOr, Fails}
-use Rattle.pb_wire.specs.Places.{place, payload_place, places, told_places, FitsIn, payload_in, field_in, fields_in, LiesBetween, LiesWithin, AreInRow, Reads}
+use Rattle.pb_wire.specs.Parts.{cause_of, IsFault}
+use Rattle.pb_wire.specs.Places.{place, payload_place, places, told_places, FitsIn, payload_in, field_in, fields_in, LiesBetween, LiesWithin, AreInRow}
 use Rattle.pb_wire.specs.declared.field.Field as placed
 use Rattle.pb_wire.specs.declared.fault.WireFault.{WireFault}
 use Rattle.pb_wire.specs.declared.fault.WireFault.TheVariants as named
 use Rattle.pb_wire.proofs.Lists as lists
-use Rattle.pb_wire.proofs.Faults.{fails_on}
+use Rattle.pb_wire.proofs.Faults.{fails_on, causes}
 
 -- the bytes of fields
 abbrev pub bytes_of : List Field → List ℕ
@@ -91,9 +92,9 @@ module _ (noted : List placed.Field) (at : ℕ) (rest bytes : List ℕ) (so_far 
         progress = lists.goes_on [] so_far.done rest bytes so_far.progress (so_far.done ++ x ∷ []) x after found refl;
       }
 
-  pub stops : (fault : WireFault) → 0 < length rest → FailsOr ⊥ (field_at rest) fault → Fails (told_places (fields_of bytes)) fault
+  pub stops : (fault : WireFault) → 0 < length rest → IsFault (field_at rest) fault → IsCause (told_places (fields_of bytes)) (cause_of fault)
   stops fault some found =
-      fails_on (Unit {0}) (field_at rest) (told_places (fields_of bytes)) fault (λ told e. rw (lists.stops [] so_far.done rest bytes so_far.progress told some e) refl) found
+      causes (told_places (fields_of bytes)) fault (fails_on (field_at rest) (told_places (fields_of bytes)) fault (λ told e. rw (lists.stops [] so_far.done rest bytes so_far.progress told some e) refl) found)
 
   pub ends : length rest ≡ 0 → told_places (fields_of bytes) ≡ Ok noted
   ends none =
@@ -140,7 +141,7 @@ fields_right (f ∷ fs) front bytes each whole =
 payload_between : (payload : Payload) (start size : ℕ) → FitsIn payload size → LiesBetween start (start + size) (payload_place (start + size) payload)
 payload_between (Varint n) start size fits = tt
 payload_between (Eight n) start size fits = tt
-payload_between (Span content) start size fits = (omega arith, omega arith, omega arith)
+payload_between (Span content) start size fits = (omega arith, omega arith, refl)
 payload_between (Four n) start size fits = tt
 payload_between Group start size fits = tt
 
@@ -168,7 +169,7 @@ module _ (bytes : List ℕ) (fits : AreBytes bytes) where
       let b = bind_ok (fields_of bytes) (λ fields. Ok (places 0 fields)) v.items e in
       (b.0, b.1, sym (ok_is (places 0 b.0) v.items b.2), fields_found bytes b.0 fits b.1)
 
-  pub is_exact : (answer : Result (Vec placed.Field) WireFault) → Reads (λ v. v.items) (told_places (fields_of bytes)) answer → Reads (λ v. fields_in bytes v.items) (fields_of bytes) answer
+  pub is_exact : (answer : Result (Vec placed.Field) WireFault) → AsDefined (λ v. v.items) cause_of (told_places (fields_of bytes)) answer → AsDefined (λ v. fields_in bytes v.items) cause_of (fields_of bytes) answer
   is_exact (Ok v) h =
       let t = told v h in
       t.1 ∙ ap (λ (fs : List Field). Ok fs) (sym (ap (fields_in bytes) t.2 ∙ fields_right t.0 [] bytes t.3.each t.3.whole))
@@ -180,47 +181,47 @@ module _ (bytes : List ℕ) (fits : AreBytes bytes) where
       told_fault (Ok fields) first e = absurd cc
       told_fault (Err other) first e = cc
 
-      fails_told : (fault : WireFault) → Fails (told_places (fields_of bytes)) fault → Fails (fields_of bytes) fault
+      fails_told : (fault : WireFault) → IsCause (told_places (fields_of bytes)) (cause_of fault) → IsCause (fields_of bytes) (cause_of fault)
       fails_told named.Cut h = told_fault (fields_of bytes) _ h
       fails_told named.Varint h = told_fault (fields_of bytes) _ h
       fails_told named.Tag h = told_fault (fields_of bytes) _ h
       fails_told named.Group h = told_fault (fields_of bytes) _ h
       fails_told named.NoMemory h = tt
 
-  pub is_found : (answer : Result (Vec placed.Field) WireFault) → Reads (λ v. v.items) (told_places (fields_of bytes)) answer → IfOk answer (λ v. HasFields bytes (fields_in bytes v.items))
+  pub is_found : (answer : Result (Vec placed.Field) WireFault) → AsDefined (λ v. v.items) cause_of (told_places (fields_of bytes)) answer → IfOk answer (λ v. HasFields bytes (fields_in bytes v.items))
   is_found (Ok v) h =
       let t = told v h in
       subst (HasFields bytes) (sym (ap (fields_in bytes) t.2 ∙ fields_right t.0 [] bytes t.3.each t.3.whole)) t.3
   is_found (Err e) h = tt
 
-  pub is_within : (answer : Result (Vec placed.Field) WireFault) → Reads (λ v. v.items) (told_places (fields_of bytes)) answer → IfOk answer (λ v. All (LiesWithin (length bytes)) v.items)
+  pub is_within : (answer : Result (Vec placed.Field) WireFault) → AsDefined (λ v. v.items) cause_of (told_places (fields_of bytes)) answer → IfOk answer (λ v. All (LiesWithin (length bytes)) v.items)
   is_within (Ok v) h =
       let t = told v h in
       let each : AllByRecursion (LiesWithin (length bytes)) (places 0 t.0) = fields_within t.0 0 (length bytes) t.3.each (omega (arith, ap length t.3.whole)) in
       subst (All (LiesWithin (length bytes))) (sym t.2) (All-from_recursion (LiesWithin (length bytes)) (places 0 t.0) each)
   is_within (Err e) h = tt
 
-  pub is_row : (answer : Result (Vec placed.Field) WireFault) → Reads (λ v. v.items) (told_places (fields_of bytes)) answer → IfOk answer (λ v. AreInRow 0 (length bytes) v.items)
+  pub is_row : (answer : Result (Vec placed.Field) WireFault) → AsDefined (λ v. v.items) cause_of (told_places (fields_of bytes)) answer → IfOk answer (λ v. AreInRow 0 (length bytes) v.items)
   is_row (Ok v) h =
       let t = told v h in
       subst (AreInRow 0 (length bytes)) (sym t.2) (fields_in_row t.0 0 (length bytes) (omega (arith, ap length t.3.whole)))
   is_row (Err e) h = tt
 
 -- where the bytes spell fields, nothing but want of memory is answered
-pub is_none : (bytes : List ℕ) (answer : Result (Vec placed.Field) WireFault) (fault : WireFault) → Reads (λ v. v.items) (told_places (fields_of bytes)) answer → answer ≡ Err fault → (fault ≡ named.NoMemory → ⊥) → (fields : List Field) → HasFields bytes fields → ⊥
+pub is_none : (bytes : List ℕ) (answer : Result (Vec placed.Field) WireFault) (fault : WireFault) → AsDefined (λ v. v.items) cause_of (told_places (fields_of bytes)) answer → answer ≡ Err fault → (fault ≡ named.NoMemory → ⊥) → (fields : List Field) → HasFields bytes fields → ⊥
 is_none bytes (Ok v) fault h e other fields spelled = cc
 is_none bytes (Err first) fault h e other fields spelled =
     let first_is : first ≡ fault = cc in
     let ok : told_places (fields_of bytes) ≡ Ok (places 0 fields) = rw (fields_only bytes fields spelled) refl in
-    no_fault fault (told_places (fields_of bytes)) (places 0 fields) ok other (subst (Fails (told_places (fields_of bytes))) first_is h)
+    no_fault fault (told_places (fields_of bytes)) (places 0 fields) ok other (subst (λ (e : WireFault). IsCause (told_places (fields_of bytes)) (cause_of e)) first_is h)
   where
-    no_fault : (fault : WireFault) (told : Result (List placed.Field) Fault) (fs : List placed.Field) → told ≡ Ok fs → (fault ≡ named.NoMemory → ⊥) → Fails told fault → ⊥
+    no_fault : (fault : WireFault) (told : Result (List placed.Field) Fault) (fs : List placed.Field) → told ≡ Ok fs → (fault ≡ named.NoMemory → ⊥) → IsCause told (cause_of fault) → ⊥
     no_fault named.Cut told fs e other h = cc
     no_fault named.Varint told fs e other h = cc
     no_fault named.Tag told fs e other h = cc
     no_fault named.Group told fs e other h = cc
     no_fault named.NoMemory told fs e other h = other refl
 
-pub is_only : (bytes : List ℕ) (answer : Result (Vec placed.Field) WireFault) (fields : List Field) → HasFields bytes fields → Reads (λ v. fields_in bytes v.items) (fields_of bytes) answer → Reads (λ v. fields_in bytes v.items) (Ok fields) answer
+pub is_only : (bytes : List ℕ) (answer : Result (Vec placed.Field) WireFault) (fields : List Field) → HasFields bytes fields → AsDefined (λ v. fields_in bytes v.items) cause_of (fields_of bytes) answer → AsDefined (λ v. fields_in bytes v.items) cause_of (Ok fields) answer
 is_only bytes answer fields spelled exact =
-    subst (λ (r : Result (List Field) Fault). Reads (λ v. fields_in bytes v.items) r answer) (fields_only bytes fields spelled) exact
+    subst (λ (r : Result (List Field) Fault). AsDefined (λ v. fields_in bytes v.items) cause_of r answer) (fields_only bytes fields spelled) exact

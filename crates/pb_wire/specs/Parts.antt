@@ -1,5 +1,5 @@
 -- Fields that are read as borrows, seen as the fields of the wire, and what reading them gives.
-use Rattle.std.specs.Prelude.{◌≡◌, List, ◌++◌, map, Result, Ok, Err}
+use Rattle.std.specs.Prelude.{◌≡◌, List, ◌++◌, map, Option, Some, None, Result, Ok, Err}
 use Rattle.wire_defs.specs.Field as wire
 use Rattle.wire_defs.specs.Field.Payload.{Varint, Eight, Span, Four, Group}
 use Rattle.wire_defs.specs.Field.Fault.{Cut, Overlong, BadTag, BadGroup}
@@ -30,19 +30,23 @@ parts_seen parts = map part_seen parts
 abbrev pub with_front : List wire.Field → Result (List wire.Field) wire.Fault → Result (List wire.Field) wire.Fault
 with_front front told = told >>= λ fields. Ok (front ++ fields)
 
--- the first fault that reading meets is the one named; of want of memory only `memory` is known
-abbrev pub FailsOr : {A : Type 0} → Type 0 → Result A wire.Fault → WireFault → Type 0
-FailsOr memory told named.Cut = told ≡ Err Cut
-FailsOr memory told named.Varint = told ≡ Err Overlong
-FailsOr memory told named.Tag = told ≡ Err BadTag
-FailsOr memory told named.Group = told ≡ Err BadGroup
-FailsOr memory told named.NoMemory = memory
+-- the fault of the wire that a fault names; want of memory names none
+abbrev pub cause_of : WireFault → Option wire.Fault
+cause_of named.Cut = Some Cut
+cause_of named.Varint = Some Overlong
+cause_of named.Tag = Some BadTag
+cause_of named.Group = Some BadGroup
+cause_of named.NoMemory = None
 
--- the first fault that reading meets is the one named; memory may run out at any place
-abbrev pub Fails : {A : Type 0} → Result A wire.Fault → WireFault → Type 0
-Fails told fault = FailsOr (Unit {0}) told fault
+-- the first fault that reading meets is the one named, which is not want of memory
+abbrev pub IsFault : {A : Type 0} → Result A wire.Fault → WireFault → Type 0
+IsFault told named.Cut = told ≡ Err Cut
+IsFault told named.Varint = told ≡ Err Overlong
+IsFault told named.Tag = told ≡ Err BadTag
+IsFault told named.Group = told ≡ Err BadGroup
+IsFault told named.NoMemory = ⊥
 
 -- what a function that needs no memory finds in front of bytes, seen so, is what is told; else it names the fault
 abbrev pub Finds : {X Y : Type 0} → (X → Y) → Result X WireFault → Result Y wire.Fault → Type 0
 Finds view (Ok x) told = told ≡ Ok (view x)
-Finds view (Err fault) told = FailsOr ⊥ told fault
+Finds view (Err fault) told = IsFault told fault

@@ -3,11 +3,9 @@ use Rattle.std.specs.Prelude.{◌≡◌, ℕ, ◌+◌, ◌-◌, ◌<◌, ◌≤�
 use Rattle.wire_defs.specs.Field as wire
 use Rattle.wire_defs.specs.Field.Payload.{Varint, Eight, Span, Four, Group}
 use Rattle.answer_defs.specs.Steps.{◌>>=◌}
-use Rattle.pb_wire.specs.declared.fault.WireFault.{WireFault}
 use Rattle.pb_wire.specs.declared.field.Payload.{Payload}
 use Rattle.pb_wire.specs.declared.field.Payload.TheVariants as placed
 use Rattle.pb_wire.specs.declared.field.Field.{Field}
-use Rattle.pb_wire.specs.Parts.{Fails}
 
 -- a payload, with the bytes that stand at its places
 abbrev pub payload_in : List ℕ → Payload → wire.Payload
@@ -25,11 +23,11 @@ field_in bytes field = record { number = field.number; payload = payload_in byte
 abbrev pub fields_in : List ℕ → List Field → List wire.Field
 fields_in bytes fields = map (field_in bytes) fields
 
--- the places of a payload lie between these
+-- the places of a payload lie between these; a run of bytes ends where its field ends
 abbrev pub LiesBetween : ℕ → ℕ → Payload → Type 0
 LiesBetween start end (placed.Varint n) = Unit {0}
 LiesBetween start end (placed.Eight n) = Unit {0}
-LiesBetween start end (placed.Span from to) = (start ≤ from) × (from ≤ to) × (to ≤ end)
+LiesBetween start end (placed.Span from to) = (start ≤ from) × (from ≤ to) × (to ≡ end)
 LiesBetween start end (placed.Four n) = Unit {0}
 LiesBetween start end placed.Group = Unit {0}
 
@@ -43,11 +41,6 @@ pub record LiesWithin (limit : ℕ) (field : Field) : Type 0 where
 abbrev pub AreInRow : ℕ → ℕ → List Field → Type 0
 AreInRow at limit [] = at ≡ limit
 AreInRow at limit (f ∷ fs) = (f.start ≡ at) × AreInRow f.end limit fs
-
--- what was answered is what is told of the bytes, the value or the first fault; memory may run out at any place
-abbrev pub Reads : {A V : Type 0} → (V → A) → Result A wire.Fault → Result V WireFault → Type 0
-Reads view told (Ok v) = told ≡ Ok (view v)
-Reads view told (Err fault) = Fails told fault
 
 -- a run of bytes is no longer than this
 abbrev pub FitsIn : wire.Payload → ℕ → Type 0

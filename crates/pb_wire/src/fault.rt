@@ -1,8 +1,9 @@
-// Why fields cannot be read.
+//! Why fields cannot be read.
 
 ghost use Rattle.std.specs.Prelude.{◌≡◌};
 ghost use Rattle.pb_wire.specs.declared.fault.WireFault.TheVariants.{NoMemory};
 
+use crate::NoMemory;
 use std::alloc::{AllocError, AllocFailed};
 use thiserror::Error;
 

@@ -1,4 +1,4 @@
-// A field by its places in the bytes.
+//! A field by its places in the bytes.
 
 /// What a field carries, where its bytes are named by their places (Protocol Buffers, "Encoding", "Message
 /// Structure").

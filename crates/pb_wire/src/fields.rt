@@ -1,11 +1,12 @@
-// The fields of a byte list, as places.
+//! The fields of a byte list, as places.
 
 ghost use Rattle.std.specs.Prelude.{◌≡◌, ◌+◌, ◌<◌, ◌^◌, List, All, length, IfOk};
+ghost use Rattle.answer_defs.specs.Defined.{AsDefined};
 ghost use Rattle.wire_defs.specs.Field as wire;
 ghost use Rattle.wire_defs.specs.Spelling.{HasFields};
 ghost use Rattle.wire_defs.specs.Reading.{fields_of};
-ghost use Rattle.pb_wire.specs.Parts.{part_seen, payload_seen};
-ghost use Rattle.pb_wire.specs.Places.{fields_in, LiesWithin, AreInRow, Reads, FitsIn, place, told_places};
+ghost use Rattle.pb_wire.specs.Parts.{part_seen, payload_seen, cause_of};
+ghost use Rattle.pb_wire.specs.Places.{fields_in, LiesWithin, AreInRow, FitsIn, place, told_places};
 
 use crate::fault::WireFault;
 use crate::field::{Field, Payload};
@@ -23,17 +24,17 @@ pub fn read_fields(alloc: Global, bytes: &[u8]) -> Result<Vec<Field>, WireFault>
     ensures row { IfOk result (λ v. AreInRow 0 (length bytes.now) v.items) }
     // What is spelled so is read, unless memory runs out.
     ensures only { (fields : List wire.Field) → HasFields bytes.now fields
-        → Reads (λ v. fields_in bytes.now v.items) (Ok fields) result }
+        → AsDefined (λ v. fields_in bytes.now v.items) cause_of (Ok fields) result }
     ensures none { (fault : WireFault) → result ≡ Err fault → (fault ≡ WireFault.NoMemory → ⊥)
         → (fields : List wire.Field) → HasFields bytes.now fields → ⊥ }
     // It is what reading from the left gives, the first fault too.
-    ensures exact { Reads (λ v. fields_in bytes.now v.items) (fields_of bytes.now) result }
+    ensures exact { AsDefined (λ v. fields_in bytes.now v.items) cause_of (fields_of bytes.now) result }
 {
     placed_fields(alloc, bytes)
 }
 
 fn placed_fields(alloc: Global, bytes: &[u8]) -> Result<Vec<Field>, WireFault>
-    ensures { Reads (λ v. v.items) (told_places (fields_of bytes.now)) result }
+    ensures { AsDefined (λ v. v.items) cause_of (told_places (fields_of bytes.now)) result }
 {
     let mut fields = Vec::new(alloc);
     let mut at = 0usize;

@@ -1,4 +1,4 @@
-// Groups: fields between a start tag and an end tag of the same number.
+//! Groups: fields between a start tag and an end tag of the same number.
 
 ghost use Rattle.std.specs.Prelude.{◌≡◌, List};
 ghost use Rattle.wire_defs.specs.Field.{deepest_group};

@@ -14,7 +14,6 @@ mod fault;
 mod field;
 mod fields;
 mod groups;
-mod laws;
 mod numbers;
 mod part;
 mod payloads;
@@ -24,11 +23,10 @@ mod writing;
 pub use fault::WireFault;
 pub use field::{Field, Payload};
 pub use fields::read_fields;
-pub use laws::{one_list, shortest_varint};
 pub use part::{Part, PartPayload};
 pub use reading::read_parts;
 pub use std::alloc::AllocError as NoMemory;
-pub use writing::{write_field, write_four, write_scalar, write_varint};
+pub use writing::{write_field, write_four, write_length, write_scalar, write_varint};
 
 #[cfg(test)]
 mod tests;

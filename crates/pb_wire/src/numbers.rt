@@ -1,4 +1,4 @@
-// What stands in front of a byte list: a varint, a number of four or eight bytes, or a run of bytes.
+//! What stands in front of a byte list: a varint, a number of four or eight bytes, or a run of bytes.
 
 ghost use Rattle.std.specs.Prelude.{◌≡◌, ℕ, List, ◌<◌};
 ghost use Rattle.std.specs.Int.{w32, w64};

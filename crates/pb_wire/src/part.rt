@@ -1,4 +1,4 @@
-// A field of borrowed bytes.
+//! A field of borrowed bytes.
 
 /// What a field carries (Protocol Buffers, "Encoding", "Message Structure").
 #[derive(Clone, Copy, Debug)]

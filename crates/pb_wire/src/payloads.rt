@@ -1,4 +1,4 @@
-// Payloads in front of a byte list.
+//! Payloads in front of a byte list.
 
 ghost use Rattle.std.specs.Prelude.{◌≡◌, ℕ, List};
 ghost use Rattle.wire_defs.specs.Field.{deepest_group};

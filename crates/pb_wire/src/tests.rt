@@ -54,6 +54,7 @@ fn expect_fault(rt: &(impl Abort + AllocGlobal), bytes: &[u8], fault: WireFault)
     assert_eq!(rt; read_fields(rt.alloc(), bytes).err(), Some(fault));
     let mut parts = Vec::new(rt.alloc());
     assert_eq!(rt; read_parts(bytes, &mut parts).err(), Some(fault));
+    assert!(rt; parts.is_empty());
 }
 
 #[test]
@@ -148,6 +149,32 @@ fn varints(rt: HostRuntime) -> Result<(), Fail> {
         write_varint(value, &mut out)?;
         assert_eq!(&rt; out.as_slice(), bytes);
     }
+    Ok(())
+}
+
+// Whether a run of so many bytes behind one byte has this length put before it.
+fn has_length(rt: &impl AllocGlobal, count: usize, length: &[u8]) -> Result<bool, NoMemory> {
+    let mut out = Vec::new(rt.alloc());
+    out.extend_from_slice(&[7, 0])?;
+    for _ in 0..count {
+        out.push(9)?;
+    }
+    if out.len() < 2 {
+        return Ok(false);
+    }
+    write_length(1, &mut out)?;
+    match out.strip_prefix(&[7]) {
+        Some(rest) => Ok(rest.starts_with(length)),
+        None => Ok(false),
+    }
+}
+
+#[test]
+fn lengths(rt: HostRuntime) -> Result<(), Fail> {
+    assert!(&rt; has_length(&rt, 0, &[0x00])?);
+    assert!(&rt; has_length(&rt, 127, &[0x7f, 9])?);
+    assert!(&rt; has_length(&rt, 300, &[0xac, 0x02, 9])?);
+    assert!(&rt; has_length(&rt, 20_000, &[0xa0, 0x9c, 0x01, 9])?);
     Ok(())
 }
 

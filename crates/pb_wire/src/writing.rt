@@ -1,14 +1,14 @@
-// The one spelling that a writer chooses: the shortest varints.
+//! The one spelling that a writer chooses: the shortest varints.
 
-ghost use Rattle.std.specs.Prelude.{◌≡◌, ℕ, List, ◌++◌, ◌≤◌, OnOk, OnErr};
+ghost use Rattle.std.specs.Prelude.{◌≡◌, ℕ, List, ◌+◌, ◌++◌, ◌<◌, ◌≤◌, length, take, drop, OnOk, OnErr};
 ghost use Rattle.wire_defs.specs.Field.Payload.{Varint, Span, Four};
 ghost use Rattle.wire_defs.specs.Writing.{varint, field_bytes};
 
-use std::alloc::AllocError;
+use crate::NoMemory;
 
 /// Appends the shortest varint of the value (Protocol Buffers, "Encoding", "Base 128 Varints"). Want of memory
 /// leaves `out` as it was.
-pub fn write_varint(value: u64, out: &mut Vec<u8>) -> Result<(), AllocError>
+pub fn write_varint(value: u64, out: &mut Vec<u8>) -> Result<(), NoMemory>
     ensures written { OnOk result (out.new.items ≡ out.old.items ++ varint value) }
     ensures kept { OnErr result (out.new.items ≡ out.old.items) }
 {
@@ -28,9 +28,30 @@ pub fn write_varint(value: u64, out: &mut Vec<u8>) -> Result<(), AllocError>
     out.extend_from_slice(&spelling[..length + 1])
 }
 
+/// Puts the length of what stands behind the place, as its shortest varint, in place of the byte there. So a run of
+/// bytes is written before its length is known: the byte is kept for it, and only a longer length moves the run.
+/// Want of memory leaves what stands before the place as it was.
+pub fn write_length(place: usize, out: &mut Vec<u8>) -> Result<(), NoMemory>
+    requires { place < length out.old.items }
+    ensures written { OnOk result (out.new.items ≡ take place out.old.items
+        ++ (varint (length (drop (place + 1) out.old.items)) ++ drop (place + 1) out.old.items)) }
+    ensures kept { OnErr result (take place out.new.items ≡ take place out.old.items) }
+{
+    let mut rest = out.len() - place - 1;
+    let mut last = place;
+    'groups: while rest >= 128 {
+        out[last] = (rest % 128) as u8 + 128;
+        last += 1;
+        out.insert(last, 0)?;
+        rest /= 128;
+    }
+    out[last] = rest as u8;
+    Ok(())
+}
+
 /// Appends a field of wire type 0: its tag and the value, in shortest varints. Want of memory leaves `out`
 /// as it was.
-pub fn write_scalar(number: u32, value: u64, out: &mut Vec<u8>) -> Result<(), AllocError>
+pub fn write_scalar(number: u32, value: u64, out: &mut Vec<u8>) -> Result<(), NoMemory>
     requires first { 1 ≤ number }
     requires last { number ≤ 536870911 }
     ensures written { OnOk result
@@ -47,7 +68,7 @@ pub fn write_scalar(number: u32, value: u64, out: &mut Vec<u8>) -> Result<(), Al
 
 /// Appends a field of wire type 2: its tag, the length of the bytes and the bytes. Want of memory leaves
 /// `out` as it was.
-pub fn write_field(number: u32, bytes: &[u8], out: &mut Vec<u8>) -> Result<(), AllocError>
+pub fn write_field(number: u32, bytes: &[u8], out: &mut Vec<u8>) -> Result<(), NoMemory>
     requires first { 1 ≤ number }
     requires last { number ≤ 536870911 }
     ensures written { OnOk result
@@ -64,7 +85,7 @@ pub fn write_field(number: u32, bytes: &[u8], out: &mut Vec<u8>) -> Result<(), A
 
 /// Appends a field of wire type 5: its tag and the four bytes of the value, the lowest first. Want of memory
 /// leaves `out` as it was.
-pub fn write_four(number: u32, value: u32, out: &mut Vec<u8>) -> Result<(), AllocError>
+pub fn write_four(number: u32, value: u32, out: &mut Vec<u8>) -> Result<(), NoMemory>
     requires first { 1 ≤ number }
     requires last { number ≤ 536870911 }
     ensures written { OnOk result
@@ -80,7 +101,7 @@ pub fn write_four(number: u32, value: u32, out: &mut Vec<u8>) -> Result<(), Allo
 }
 
 #[tactic(auto, unfolding(wire_defs::specs::Writing::field_bytes, wire_defs::specs::Writing::payload_bytes))]
-fn append_scalar(number: u32, value: u64, out: &mut Vec<u8>) -> Result<(), AllocError>
+fn append_scalar(number: u32, value: u64, out: &mut Vec<u8>) -> Result<(), NoMemory>
     requires { number ≤ 536870911 }
     ensures written { OnOk result
         (out.new.items ≡ out.old.items ++ field_bytes (record { number = number; payload = Varint value })) }
@@ -91,7 +112,7 @@ fn append_scalar(number: u32, value: u64, out: &mut Vec<u8>) -> Result<(), Alloc
 }
 
 #[tactic(auto, unfolding(wire_defs::specs::Writing::field_bytes, wire_defs::specs::Writing::payload_bytes))]
-fn append_field(number: u32, bytes: &[u8], out: &mut Vec<u8>) -> Result<(), AllocError>
+fn append_field(number: u32, bytes: &[u8], out: &mut Vec<u8>) -> Result<(), NoMemory>
     requires { number ≤ 536870911 }
     ensures written { OnOk result
         (out.new.items ≡ out.old.items ++ field_bytes (record { number = number; payload = Span bytes.now })) }
@@ -103,7 +124,7 @@ fn append_field(number: u32, bytes: &[u8], out: &mut Vec<u8>) -> Result<(), Allo
 }
 
 #[tactic(auto, unfolding(wire_defs::specs::Writing::field_bytes, wire_defs::specs::Writing::payload_bytes))]
-fn append_four(number: u32, value: u32, out: &mut Vec<u8>) -> Result<(), AllocError>
+fn append_four(number: u32, value: u32, out: &mut Vec<u8>) -> Result<(), NoMemory>
     requires { number ≤ 536870911 }
     ensures written { OnOk result
         (out.new.items ≡ out.old.items ++ field_bytes (record { number = number; payload = Four value })) }

@@ -1,11 +1,12 @@
-// Alerts (GTFS Realtime 2.0, Alert).
+//! Alerts (GTFS Realtime 2.0, Alert).
 
-use copying::Copied;
+use crate::NoMemory;
+use crate::bytes::Bytes;
 use crate::descriptor::TripRef;
 use crate::enums::{Cause, Effect};
 use crate::items::Items;
-use crate::text::{Bytes, Text};
-use std::alloc::AllocError;
+use copying::Copied;
+use texts::ShortText as Text;
 
 /// An Alert: what passengers are told about a part of the network.
 #[derive(Drop)]
@@ -14,9 +15,13 @@ pub struct Alert {
     pub active_period: Periods,
     /// What it is about.
     pub informed_entity: Selectors,
+    /// Why it was given; absent means `UnknownCause`.
     pub cause: Option<Cause>,
+    /// What it means for passengers; absent means `UnknownEffect`.
     pub effect: Option<Effect>,
+    /// Its heading, a few words of plain text.
     pub header_text: Option<Translated>,
+    /// What it says in full, in plain text.
     pub description_text: Option<Translated>,
     /// The fields that this profile does not know, as they came.
     pub unknown: Bytes,
@@ -39,11 +44,17 @@ pub type Periods = Items<Period>;
 /// An EntitySelector: what an alert is about. All that is given must hold.
 #[derive(Drop)]
 pub struct Selector {
+    /// An agency_id of the timetable: all that the agency runs.
     pub agency_id: Option<Text>,
+    /// A route_id of the timetable: all trips of the route.
     pub route_id: Option<Text>,
+    /// A route_type of the timetable, as 3 for buses: all routes of that kind.
     pub route_type: Option<i32>,
+    /// A trip, or the trips that fit it.
     pub trip: Option<TripRef>,
+    /// A stop_id of the timetable.
     pub stop_id: Option<Text>,
+    /// A direction_id of the timetable, 0 or 1, beside a route_id.
     pub direction_id: Option<u32>,
     /// The fields that this profile does not know, as they came.
     pub unknown: Bytes,
@@ -55,6 +66,7 @@ pub type Selectors = Items<Selector>;
 /// A TranslatedString: one text in several languages.
 #[derive(Drop)]
 pub struct Translated {
+    /// The text in each language, in the order given.
     pub translation: Translations,
     /// The fields that this profile does not know, as they came.
     pub unknown: Bytes,
@@ -63,8 +75,9 @@ pub struct Translated {
 /// A Translation: a text in one language.
 #[derive(Drop)]
 pub struct Translation {
+    /// The text.
     pub text: Text,
-    /// A BCP-47 code; absent where the language is not known.
+    /// A BCP 47 code, as `de`; absent where the language is not known.
     pub language: Option<Text>,
     /// The fields that this profile does not know, as they came.
     pub unknown: Bytes,
@@ -74,7 +87,7 @@ pub struct Translation {
 pub type Translations = Items<Translation>;
 
 impl Copied for Alert {
-    fn copy(&self) -> Result<Self, AllocError> {
+    fn copy(&self) -> Result<Self, NoMemory> {
         Ok(Alert {
             active_period: self.active_period.copy()?,
             informed_entity: self.informed_entity.copy()?,
@@ -88,7 +101,7 @@ impl Copied for Alert {
 }
 
 impl Copied for Period {
-    fn copy(&self) -> Result<Self, AllocError> {
+    fn copy(&self) -> Result<Self, NoMemory> {
         Ok(Period {
             start: self.start,
             end: self.end,
@@ -98,7 +111,7 @@ impl Copied for Period {
 }
 
 impl Copied for Selector {
-    fn copy(&self) -> Result<Self, AllocError> {
+    fn copy(&self) -> Result<Self, NoMemory> {
         Ok(Selector {
             agency_id: self.agency_id.copy()?,
             route_id: self.route_id.copy()?,
@@ -112,7 +125,7 @@ impl Copied for Selector {
 }
 
 impl Copied for Translated {
-    fn copy(&self) -> Result<Self, AllocError> {
+    fn copy(&self) -> Result<Self, NoMemory> {
         Ok(Translated {
             translation: self.translation.copy()?,
             unknown: self.unknown.copy()?,
@@ -121,7 +134,7 @@ impl Copied for Translated {
 }
 
 impl Copied for Translation {
-    fn copy(&self) -> Result<Self, AllocError> {
+    fn copy(&self) -> Result<Self, NoMemory> {
         Ok(Translation {
             text: self.text.copy()?,
             language: self.language.copy()?,

@@ -2,8 +2,9 @@
 
 ghost use Rattle.std.specs.Prelude.{◌≡◌, IfOk};
 
+use crate::NoMemory;
 use copying::Copied;
-use std::alloc::{AllocError, Global};
+use std::alloc::Global;
 use std::marker::Model;
 
 /// A run of bytes of a message, as they came.
@@ -22,7 +23,7 @@ impl Model for Bytes {
 
 impl Bytes {
     /// A copy of the bytes, or want of memory.
-    pub fn new(alloc: Global, bytes: &[u8]) -> Result<Bytes, AllocError>
+    pub fn new(alloc: Global, bytes: &[u8]) -> Result<Bytes, NoMemory>
         ensures { IfOk result (λ copy. copy ≡ bytes.now) }
     {
         Ok(Bytes {
@@ -46,7 +47,7 @@ impl Bytes {
 }
 
 impl Copied for Bytes {
-    fn copy(&self) -> Result<Self, AllocError> {
+    fn copy(&self) -> Result<Self, NoMemory> {
         Ok(Bytes {
             inner: self.inner.clone()?,
         })

@@ -1,9 +1,10 @@
-// Which trip a message speaks of (GTFS Realtime 2.0, TripDescriptor).
+//! Which trip a message speaks of (GTFS Realtime 2.0, TripDescriptor).
 
-use copying::Copied;
+use crate::NoMemory;
+use crate::bytes::Bytes;
 use crate::enums::TripRelation;
-use crate::text::{Bytes, Text};
-use std::alloc::AllocError;
+use copying::Copied;
+use texts::ShortText as Text;
 
 /// A TripDescriptor: which trip, and on which day.
 #[derive(Drop)]
@@ -25,7 +26,7 @@ pub struct TripRef {
 }
 
 impl Copied for TripRef {
-    fn copy(&self) -> Result<Self, AllocError> {
+    fn copy(&self) -> Result<Self, NoMemory> {
         Ok(TripRef {
             trip_id: self.trip_id.copy()?,
             start_time: self.start_time.copy()?,

@@ -1,4 +1,4 @@
-// What may be wrong in a message, and where.
+//! What may be wrong in a message, and where.
 
 /// A message of the GTFS Realtime reference, by its name there.
 #[derive(Clone, Copy, PartialEq, Eq, Debug)]

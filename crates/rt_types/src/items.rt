@@ -1,9 +1,9 @@
-// A list of messages, as repeated fields hold it.
+//! A list of messages, as repeated fields hold it.
 
 ghost use Rattle.std.specs.Prelude.{◌≡◌};
 
+use crate::NoMemory;
 use copying::Copied;
-use std::alloc::AllocError;
 use std::marker::Model;
 
 /// The values of a repeated field, in their order.
@@ -44,7 +44,7 @@ impl<T> Items<T> {
 }
 
 impl<T: Copied> Copied for Items<T> {
-    fn copy(&self) -> Result<Self, AllocError> {
+    fn copy(&self) -> Result<Self, NoMemory> {
         let mut items = Vec::new(*self.items.allocator());
         for item in self.items.iter() {
             items.push(item.copy()?)?;

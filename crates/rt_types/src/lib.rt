@@ -9,13 +9,13 @@
 #![tactic(auto)]
 
 mod alert;
-mod boxed;
 mod bytes;
 mod descriptor;
 mod enums;
 mod fault;
 mod items;
 mod message;
+mod shared;
 #[cfg(test)]
 mod tests;
 mod trip_update;
@@ -24,7 +24,6 @@ mod vehicle;
 pub use alert::{
     Alert, Period, Periods, Selector, Selectors, Translated, Translation, Translations,
 };
-pub use boxed::Boxed;
 pub use bytes::Bytes;
 pub use copying::Copied;
 pub use descriptor::TripRef;
@@ -32,6 +31,7 @@ pub use enums::{Cause, Effect, Incrementality, StopRelation, StopStatus, TripRel
 pub use fault::{Kind, What};
 pub use items::Items;
 pub use message::{Entities, Entity, FeedMessage, Header};
+pub use shared::Shared;
 pub use std::alloc::AllocError as NoMemory;
 pub use texts::ShortText as Text;
 pub use trip_update::{Event, StopProps, StopUpdate, StopUpdates, TripUpdate};

@@ -1,19 +1,20 @@
-// What a feed sends (GTFS Realtime 2.0, FeedMessage).
+//! What a feed sends (GTFS Realtime 2.0, FeedMessage).
 
+use crate::NoMemory;
 use crate::alert::Alert;
-use crate::boxed::Boxed;
-use copying::Copied;
+use crate::bytes::Bytes;
 use crate::enums::Incrementality;
 use crate::items::Items;
-use crate::text::{Bytes, Text};
+use crate::shared::Shared;
 use crate::trip_update::TripUpdate;
 use crate::vehicle::Vehicle;
-use std::alloc::AllocError;
+use copying::Copied;
+use texts::ShortText as Text;
 
 /// A FeedHeader.
 #[derive(Drop)]
 pub struct Header {
-    /// The version of the reference that the feed follows, as `2.0`.
+    /// The version of the reference that the feed follows, `1.0` or `2.0`.
     pub version: Text,
     /// Absent means `FullDataset`.
     pub incrementality: Option<Incrementality>,
@@ -28,14 +29,14 @@ pub struct Header {
 pub struct Entity {
     /// Its id within its feed.
     pub id: Text,
-    /// Whether a differential message takes the entity away.
+    /// Whether a differential message takes the entity away; absent means no.
     pub is_deleted: Option<bool>,
     /// What is known of a trip's times.
-    pub trip_update: Option<Boxed<TripUpdate>>,
+    pub trip_update: Option<Shared<TripUpdate>>,
     /// Where a vehicle is.
-    pub vehicle: Option<Boxed<Vehicle>>,
+    pub vehicle: Option<Shared<Vehicle>>,
     /// What passengers are told.
-    pub alert: Option<Boxed<Alert>>,
+    pub alert: Option<Shared<Alert>>,
     /// The fields that this profile does not know, as they came.
     pub unknown: Bytes,
 }
@@ -46,14 +47,16 @@ pub type Entities = Items<Entity>;
 /// A FeedMessage, which is what a feed sends at a time.
 #[derive(Drop)]
 pub struct FeedMessage {
+    /// What is said of the whole message.
     pub header: Header,
+    /// What is said of trips, vehicles and the network, in the order given.
     pub entity: Entities,
     /// The fields that this profile does not know, as they came.
     pub unknown: Bytes,
 }
 
 impl Copied for Header {
-    fn copy(&self) -> Result<Self, AllocError> {
+    fn copy(&self) -> Result<Self, NoMemory> {
         Ok(Header {
             version: self.version.copy()?,
             incrementality: self.incrementality,
@@ -64,7 +67,7 @@ impl Copied for Header {
 }
 
 impl Copied for Entity {
-    fn copy(&self) -> Result<Self, AllocError> {
+    fn copy(&self) -> Result<Self, NoMemory> {
         Ok(Entity {
             id: self.id.copy()?,
             is_deleted: self.is_deleted,
@@ -77,7 +80,7 @@ impl Copied for Entity {
 }
 
 impl Copied for FeedMessage {
-    fn copy(&self) -> Result<Self, AllocError> {
+    fn copy(&self) -> Result<Self, NoMemory> {
         Ok(FeedMessage {
             header: self.header.copy()?,
             entity: self.entity.copy()?,

@@ -1,15 +1,15 @@
-// Values and their copies, with ample memory.
+//! Values and their copies, with ample memory.
 
 use crate::{
-    Alert, Boxed, Bytes, Cause, Copied, Degrees, Effect, Entities, Entity, Event, FeedMessage,
-    Header, Incrementality, Period, Periods, Position, Selector, Selectors, StopProps,
+    Alert, Bytes, Cause, Copied, Degrees, Effect, Entities, Entity, Event, FeedMessage, Header,
+    Incrementality, NoMemory, Period, Periods, Position, Selector, Selectors, Shared, StopProps,
     StopRelation, StopStatus, StopUpdate, StopUpdates, Text, Translated, Translation, Translations,
     TripRef, TripRelation, TripUpdate, Vehicle, VehicleRef,
 };
-use std::alloc::{AllocError, Global};
+use std::alloc::Global;
 use std::test::Fail;
 
-fn trip(alloc: Global) -> Result<TripRef, AllocError> {
+fn trip(alloc: Global) -> Result<TripRef, NoMemory> {
     Ok(TripRef {
         trip_id: Some(Text::new(alloc, "T1")?),
         start_time: Some(Text::new(alloc, "08:00:00")?),
@@ -21,7 +21,7 @@ fn trip(alloc: Global) -> Result<TripRef, AllocError> {
     })
 }
 
-fn bus(alloc: Global) -> Result<VehicleRef, AllocError> {
+fn bus(alloc: Global) -> Result<VehicleRef, NoMemory> {
     Ok(VehicleRef {
         id: Some(Text::new(alloc, "bus")?),
         label: None,
@@ -30,7 +30,7 @@ fn bus(alloc: Global) -> Result<VehicleRef, AllocError> {
     })
 }
 
-fn event(alloc: Global, delay: i32) -> Result<Event, AllocError> {
+fn event(alloc: Global, delay: i32) -> Result<Event, NoMemory> {
     Ok(Event {
         delay: Some(delay),
         time: Some(-1),
@@ -39,7 +39,7 @@ fn event(alloc: Global, delay: i32) -> Result<Event, AllocError> {
     })
 }
 
-fn trip_update(alloc: Global) -> Result<TripUpdate, AllocError> {
+fn trip_update(alloc: Global) -> Result<TripUpdate, NoMemory> {
     let mut stops = Vec::new(alloc);
     stops.push(StopUpdate {
         stop_sequence: Some(4_000_000_000),
@@ -63,7 +63,7 @@ fn trip_update(alloc: Global) -> Result<TripUpdate, AllocError> {
     })
 }
 
-fn vehicle(alloc: Global) -> Result<Vehicle, AllocError> {
+fn vehicle(alloc: Global) -> Result<Vehicle, NoMemory> {
     Ok(Vehicle {
         trip: Some(trip(alloc)?),
         position: Some(Position {
@@ -80,7 +80,7 @@ fn vehicle(alloc: Global) -> Result<Vehicle, AllocError> {
     })
 }
 
-fn alert(alloc: Global) -> Result<Alert, AllocError> {
+fn alert(alloc: Global) -> Result<Alert, NoMemory> {
     let mut periods = Vec::new(alloc);
     periods.push(Period {
         start: None,
@@ -117,14 +117,14 @@ fn alert(alloc: Global) -> Result<Alert, AllocError> {
     })
 }
 
-fn message(alloc: Global) -> Result<FeedMessage, AllocError> {
+fn message(alloc: Global) -> Result<FeedMessage, NoMemory> {
     let mut entities = Vec::new(alloc);
     entities.push(Entity {
         id: Text::new(alloc, "x")?,
         is_deleted: Some(false),
-        trip_update: Some(Boxed::new(alloc, trip_update(alloc)?)?),
-        vehicle: Some(Boxed::new(alloc, vehicle(alloc)?)?),
-        alert: Some(Boxed::new(alloc, alert(alloc)?)?),
+        trip_update: Some(Shared::new(alloc, trip_update(alloc)?)?),
+        vehicle: Some(Shared::new(alloc, vehicle(alloc)?)?),
+        alert: Some(Shared::new(alloc, alert(alloc)?)?),
         unknown: Bytes::new(alloc, b"hi")?,
     })?;
     Ok(FeedMessage {
@@ -179,7 +179,7 @@ fn first_header(message: &FeedMessage) -> Option<&str> {
 
 #[test]
 fn a_boxed_value_comes_out_again(rt: HostRuntime) -> Result<(), Fail> {
-    let boxed = Boxed::new(rt.alloc(), Degrees { bits: 7 })?;
+    let boxed = Shared::new(rt.alloc(), Degrees { bits: 7 })?;
     assert_eq!(rt; boxed.get().bits, 7);
     assert_eq!(rt; boxed.into_inner().bits, 7);
     Ok(())

@@ -1,12 +1,13 @@
-// Updates of trips (GTFS Realtime 2.0, TripUpdate).
+//! Updates of trips (GTFS Realtime 2.0, TripUpdate).
 
-use copying::Copied;
+use crate::NoMemory;
+use crate::bytes::Bytes;
 use crate::descriptor::TripRef;
 use crate::enums::StopRelation;
 use crate::items::Items;
-use crate::text::{Bytes, Text};
 use crate::vehicle::VehicleRef;
-use std::alloc::AllocError;
+use copying::Copied;
+use texts::ShortText as Text;
 
 /// A TripUpdate: how far a trip is from its timetable.
 #[derive(Drop)]
@@ -28,9 +29,11 @@ pub struct TripUpdate {
 /// A StopTimeUpdate: the times at one stop of a trip.
 #[derive(Drop)]
 pub struct StopUpdate {
-    /// The stop's stop_sequence in the timetable.
+    /// The place's stop_sequence in the timetable.
     pub stop_sequence: Option<u32>,
+    /// When the vehicle arrives there.
     pub arrival: Option<Event>,
+    /// When it departs from there.
     pub departure: Option<Event>,
     /// The stop's stop_id in the timetable.
     pub stop_id: Option<Text>,
@@ -68,7 +71,7 @@ pub struct StopProps {
 }
 
 impl Copied for TripUpdate {
-    fn copy(&self) -> Result<Self, AllocError> {
+    fn copy(&self) -> Result<Self, NoMemory> {
         Ok(TripUpdate {
             trip: self.trip.copy()?,
             stop_time_update: self.stop_time_update.copy()?,
@@ -81,7 +84,7 @@ impl Copied for TripUpdate {
 }
 
 impl Copied for StopUpdate {
-    fn copy(&self) -> Result<Self, AllocError> {
+    fn copy(&self) -> Result<Self, NoMemory> {
         Ok(StopUpdate {
             stop_sequence: self.stop_sequence,
             arrival: self.arrival.copy()?,
@@ -95,7 +98,7 @@ impl Copied for StopUpdate {
 }
 
 impl Copied for Event {
-    fn copy(&self) -> Result<Self, AllocError> {
+    fn copy(&self) -> Result<Self, NoMemory> {
         Ok(Event {
             delay: self.delay,
             time: self.time,
@@ -106,7 +109,7 @@ impl Copied for Event {
 }
 
 impl Copied for StopProps {
-    fn copy(&self) -> Result<Self, AllocError> {
+    fn copy(&self) -> Result<Self, NoMemory> {
         Ok(StopProps {
             assigned_stop_id: self.assigned_stop_id.copy()?,
             unknown: self.unknown.copy()?,

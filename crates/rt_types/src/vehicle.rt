@@ -1,20 +1,22 @@
-// Positions of vehicles (GTFS Realtime 2.0, VehiclePosition).
+//! Positions of vehicles (GTFS Realtime 2.0, VehiclePosition).
 
-use copying::Copied;
+use crate::NoMemory;
+use crate::bytes::Bytes;
 use crate::descriptor::TripRef;
 use crate::enums::StopStatus;
-use crate::text::{Bytes, Text};
-use std::alloc::AllocError;
+use copying::Copied;
+use texts::ShortText as Text;
 
 /// A VehiclePosition: where a vehicle is.
 #[derive(Drop)]
 pub struct Vehicle {
     /// The trip that it makes.
     pub trip: Option<TripRef>,
+    /// Where it is.
     pub position: Option<Position>,
     /// The stop_sequence of the stop that it is at or heads for.
     pub current_stop_sequence: Option<u32>,
-    /// How it stands to that stop.
+    /// How it stands to that stop; absent means `InTransitTo`.
     pub current_status: Option<StopStatus>,
     /// When the position was taken, in seconds since 1970.
     pub timestamp: Option<u64>,
@@ -26,10 +28,12 @@ pub struct Vehicle {
     pub unknown: Bytes,
 }
 
-/// A Position.
+/// A Position: a point of the WGS 84 system.
 #[derive(Drop)]
 pub struct Position {
+    /// Degrees north of the equator, south where negative.
     pub latitude: Degrees,
+    /// Degrees east of Greenwich, west where negative.
     pub longitude: Degrees,
     /// The fields that this profile does not know, as they came.
     pub unknown: Bytes,
@@ -42,6 +46,7 @@ pub struct VehicleRef {
     pub id: Option<Text>,
     /// What passengers see on it.
     pub label: Option<Text>,
+    /// Its license plate.
     pub license_plate: Option<Text>,
     /// The fields that this profile does not know, as they came.
     pub unknown: Bytes,
@@ -51,11 +56,12 @@ pub struct VehicleRef {
 /// carried as they came and never computed with.
 #[derive(Clone, Copy, PartialEq, Eq, Debug)]
 pub struct Degrees {
+    /// The four bytes of the float as a number, the lowest byte first.
     pub bits: u32,
 }
 
 impl Copied for Vehicle {
-    fn copy(&self) -> Result<Self, AllocError> {
+    fn copy(&self) -> Result<Self, NoMemory> {
         Ok(Vehicle {
             trip: self.trip.copy()?,
             position: self.position.copy()?,
@@ -70,7 +76,7 @@ impl Copied for Vehicle {
 }
 
 impl Copied for Position {
-    fn copy(&self) -> Result<Self, AllocError> {
+    fn copy(&self) -> Result<Self, NoMemory> {
         Ok(Position {
             latitude: self.latitude,
             longitude: self.longitude,
@@ -80,7 +86,7 @@ impl Copied for Position {
 }
 
 impl Copied for VehicleRef {
-    fn copy(&self) -> Result<Self, AllocError> {
+    fn copy(&self) -> Result<Self, NoMemory> {
         Ok(VehicleRef {
             id: self.id.copy()?,
             label: self.label.copy()?,
