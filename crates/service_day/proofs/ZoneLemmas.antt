@@ -1,5 +1,5 @@
 -- The base of a service day from what the crate `jiff` says of noon.
-use Rattle.std.proofs.Common.{◌≡◌, ℕ, ◌+◌, ◌-◌, ◌/◌, ◌%◌, ◌<◌, ◌≤◌, Bool, true, false, not, refl, ap, ◌∙◌, arith, ℤ, pos, ◌+ℤ◌, ◌-ℤ◌, ◌*ℤ◌, Option, Some, None, option_map, if◌then◌else◌, int_div, int_lt, to_z, of_z, w8, w16, w64, FitsSigned}
+use Rattle.std.proofs.Common.{◌≡◌, ℕ, ◌+◌, ◌-◌, ◌/◌, ◌%◌, ◌<◌, ◌≤◌, Bool, true, false, not, refl, ap, ◌∙◌, arith, ℤ, pos, negsuc, ◌≤ℤ◌, ◌+ℤ◌, ◌-ℤ◌, ◌*ℤ◌, Option, Some, None, option_map, if◌then◌else◌, int_div, int_lt, to_z, of_z, w8, w16, w64, FitsSigned}
 use Rattle.std.proofs.lemmas.Bool.Decides.{nat_tests}
 use Rattle.jiff_core.specs.Calendar.{days_from_civil, day_count, days_of_years, days_of_months}
 use Rattle.jiff_core.specs.Date as jiff_date
@@ -174,3 +174,7 @@ seconds_kept n h =
     let less : FitsSigned w64 (int_div n (pos 1_000_000_000) -ℤ pos 43_200) = omega (arith, signed_arith) in
     ap (λ v. to_z w64 (of_z w64 (v -ℤ pos 43_200))) (to_z-of_z w64 (int_div n (pos 1_000_000_000)) whole)
     ∙ to_z-of_z w64 (int_div n (pos 1_000_000_000) -ℤ pos 43_200) less
+
+-- an instant that `jiff` has is within a trillion seconds of 1970, also twelve hours earlier
+pub instant_small : (n seconds : ℤ) → IsTimestampNanos n → seconds ≡ int_div n (pos 1_000_000_000) -ℤ pos 43_200 → (negsuc 999_999_999_998 ≤ℤ seconds) × (seconds ≤ℤ pos 1_000_000_000_000)
+instant_small n seconds h e = (omega (arith, signed_arith), omega (arith, signed_arith))

@@ -1,5 +1,5 @@
 //! Time zones by a rule, and the instant from which the times of a service day are counted.
-ghost use Rattle.std.specs.Prelude.{◌≡◌, ◌↔◌, ◌≤◌, IsTrue, IsOkAnd, IsOk, IsSome, IfOk, IsErrOf, Some, None};
+ghost use Rattle.std.specs.Prelude.{◌≡◌, ◌↔◌, ◌≤◌, IsTrue, IsOkAnd, IsOk, IsSome, IfOk, IsErrOf, Some, None, ◌≤ℤ◌, pos, negsuc};
 ghost use Rattle.text_defs.specs.Dates.{is_day};
 ghost use Rattle.service_day.specs.Zone.{rule_of, base_of};
 
@@ -61,12 +61,15 @@ pub fn read_zone(text: &str) -> Result<Zone, ZoneFault>
 /// 12:00:00 on that date in the zone less twelve hours (GTFS Schedule, "Field Types", Time). Where
 /// the clock skips noon or shows it twice, the offset before the change counts.
 ///
-/// The date is a valid day up to the year 3001. It takes no memory, so it always succeeds.
+/// The date is a valid day up to the year 3001. It takes no memory, so it always succeeds. The instant is
+/// less than a trillion seconds before 1970 and at most as many behind it.
 #[tactic(auto, unfolding(text_defs::specs::Dates::is_day))]
 pub fn base(zone: &Zone, date: u32) -> Result<i64, NoMemory>
     requires valid { IsTrue (is_day date) }
     requires in_time { date ≤ 30_011_231 }
-    ensures { IsOkAnd result (λ seconds. seconds ≡ base_of zone.now date) }
+    ensures value { IsOkAnd result (λ seconds. seconds ≡ base_of zone.now date) }
+    ensures early { IfOk result (λ seconds. negsuc 999_999_999_998 ≤ℤ seconds) }
+    ensures late { IfOk result (λ seconds. seconds ≤ℤ pos 1_000_000_000_000) }
 {
     let Parts { year, month, day } = parts_of(date);
     let noon = civil::datetime(year as i16, month as i8, day as i8, 12, 0, 0, 0);
