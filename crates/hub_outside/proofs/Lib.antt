@@ -1,3 +1,4 @@
 pub mod Parts
 pub mod ReadBehind
 pub mod Fetching
+pub mod Rising

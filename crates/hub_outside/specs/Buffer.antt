@@ -18,7 +18,10 @@ pub record MakesRoom (before after : BufferContents) (n : ℕ) : Type 0 where
 
 -- the buffer once bytes that fit into its spare room stand behind its own
 abbrev pub contents_with : BufferContents → List ℕ → BufferContents
-contents_with buffer bytes = record { bytes = buffer.bytes ++ bytes; spare = buffer.spare - length bytes }
+contents_with buffer bytes = record {
+  bytes = buffer.bytes ++ bytes;
+  spare = buffer.spare - length bytes;
+}
 
 -- the empty buffer, with all its room to spare
 abbrev pub cleared_contents : BufferContents → BufferContents

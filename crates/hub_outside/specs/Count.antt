@@ -1,10 +1,14 @@
 -- Counts of 64 bits, which rise by one and stay at their last value.
-use Rattle.std.specs.Prelude.{ℕ, ◌+◌, ◌-◌, ◌^◌, ◌≤◌, min}
+use Rattle.std.specs.Prelude.{◌≡◌, ℕ, ◌+◌, ◌-◌, ◌^◌, ◌≤◌, min}
 
--- a count after one more: it stays at its type's last value once it is there
+-- the last value of a count
+abbrev pub last_count : ℕ
+last_count = 2 ^ 64 - 1
+
+-- a count after one more: it stays at its last value once it is there
 abbrev pub one_more : ℕ → ℕ
-one_more n = min (n + 1) (2 ^ 64 - 1)
+one_more n = min (n + 1) last_count
 
--- a count of faults rose between two moments, or stands at its type's last value
+-- a count of faults rose between two moments; one that did not stands at its last value at both
 abbrev pub Rose : ℕ → ℕ → Type 0
-Rose before after = one_more before ≤ after
+Rose before after = (before ≤ after) × (before ≡ after → before ≡ last_count)

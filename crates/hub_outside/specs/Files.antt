@@ -12,14 +12,16 @@ use Rattle.hub_outside.specs.Count.{Rose}
 abbrev pub file_at : List (List ℕ × List ℕ) → List ℕ → Option (List ℕ)
 file_at files path = option_map (λ file. file.1) (find (λ file. bytes_eq file.0 path) files)
 
--- the answer says what stands at the path: a file that was read is within the limit and left its bytes,
--- no file is absent, and a file past the limit is too long, with a number of its bytes above the limit.
--- All but a file that was read leave nothing.
+-- the answer says what stands at the path: a file that was read is within the limit and left its
+-- bytes, no file is absent, and a file past the limit is too long, with a number of its bytes above
+-- the limit. All but a file that was read leave nothing.
 abbrev pub AnswersFile : FileAnswer → Option (List (List ℕ × List ℕ)) → List ℕ → ℕ → List ℕ → Type 0
-AnswersFile Read files path limit left = (length left ≤ limit) × IfSome files (λ fs. file_at fs path ≡ Some left)
+AnswersFile Read files path limit left = (length left ≤ limit)
+    × IfSome files (λ fs. file_at fs path ≡ Some left)
 AnswersFile Absent files path limit left = (left ≡ []) × IfSome files (λ fs. file_at fs path ≡ None)
 AnswersFile (TooLong n) files path limit left =
-    (left ≡ []) × (limit < n) × IfSome files (λ fs. IsSomeAnd (file_at fs path) (λ bytes. n ≤ length bytes))
+    (left ≡ []) × (limit < n) × IfSome files (λ fs.
+    IsSomeAnd (file_at fs path) (λ bytes. n ≤ length bytes))
 AnswersFile Failed files path limit left = left ≡ []
 AnswersFile NoMemory files path limit left =
     (left ≡ []) × IfSome files (λ fs. IsSomeAnd (file_at fs path) (λ bytes. length bytes ≤ limit))
@@ -32,7 +34,8 @@ HasFileCause (TooLong n) before after = before ≤ after
 HasFileCause Failed before after = (before ≤ after) × Rose before after
 HasFileCause NoMemory before after = before ≤ after
 
--- a file that is longer than the limit has a number of bytes seen above it; one that was read is within it
+-- a file that is longer than the limit has a number of bytes seen above it; one that was read is
+-- within it
 abbrev pub IsFetched : FileAnswer → ℕ → List ℕ → Type 0
 IsFetched Read limit left = length left ≤ limit
 IsFetched Absent limit left = Unit {0}

@@ -6,4 +6,5 @@ pub mod Files
 pub mod Clock
 pub mod Calls
 pub mod Memory
+pub mod Decisions
 pub mod Adapters

@@ -4,71 +4,82 @@ use Rattle.hub_outside.specs.declared.sources.ReadAnswer.{ReadAnswer}
 use Rattle.hub_outside.specs.declared.sources.ReadAnswer.TheVariants.{Got, End, Failed}
 use Rattle.hub_outside.specs.declared.sinks.WriteAnswer.{WriteAnswer}
 use Rattle.hub_outside.specs.declared.sinks.WriteAnswer.TheVariants.{Took, Failed as WriteFailed}
-use Rattle.hub_outside.specs.Calls.{Called, is_failing, with_call, with_fault, after_call, cut_at}
+use Rattle.hub_outside.specs.Calls.{CallCounts, is_failing, with_call, with_fault, after_call, cut_at}
 
 -- a source in memory: the bytes still to be read, the sizes that cut its reads, and its calls
-pub record Reading : Type 0 where
+pub record SourceState : Type 0 where
   pub left : List ℕ
   pub pieces : List ℕ
-  pub calls : Called
+  pub calls : CallCounts
 
 -- the bytes that reads of a source in memory will give
-abbrev pub bytes_left : Reading → List ℕ
+abbrev pub bytes_left : SourceState → List ℕ
 bytes_left source = source.left
 
 -- the faults of a source in memory
-abbrev pub source_faults : Reading → ℕ
+abbrev pub source_faults : SourceState → ℕ
 source_faults source = source.calls.faults
 
 -- how many bytes the next read gives into so much room, where it does not fail
-abbrev pub given : Reading → ℕ → ℕ
-given source room = min (cut_at source.pieces source.calls.calls room) (length source.left)
+abbrev pub bytes_given : SourceState → ℕ → ℕ
+bytes_given source room = min (cut_at source.pieces source.calls.calls room) (length source.left)
 
 -- what the next read into so much room answers
-abbrev pub read_answer : Reading → ℕ → ReadAnswer
+abbrev pub read_answer : SourceState → ℕ → ReadAnswer
 read_answer source room =
-    if is_failing source.calls then Failed else if length source.left == 0 then End else Got (given source room)
+    if is_failing source.calls then Failed else if length source.left == 0 then End
+    else Got (bytes_given source room)
 
 -- the source after that read
-abbrev pub after_read : Reading → ℕ → Reading
+abbrev pub after_read : SourceState → ℕ → SourceState
 after_read source room = record {
-  left = if is_failing source.calls then source.left else drop (given source room) source.left;
+  left = if is_failing source.calls then source.left
+      else drop (bytes_given source room) source.left;
   pieces = source.pieces;
   calls = after_call source.calls;
 }
 
 -- a sink in memory: the bytes written, the sizes that cut its writes, and its calls
-pub record Writing : Type 0 where
+pub record SinkState : Type 0 where
   pub written : List ℕ
   pub pieces : List ℕ
-  pub calls : Called
+  pub calls : CallCounts
 
 -- the bytes that a sink in memory holds
-abbrev pub bytes_written : Writing → List ℕ
+abbrev pub bytes_written : SinkState → List ℕ
 bytes_written sink = sink.written
 
 -- the faults of a sink in memory
-abbrev pub sink_faults : Writing → ℕ
+abbrev pub sink_faults : SinkState → ℕ
 sink_faults sink = sink.calls.faults
 
--- what a write does to a sink in memory: a call that is not listed takes the first bytes, cut to its piece size;
--- a fault, which a listed call always is and any other is for want of memory alone, changes nothing but the counts
-abbrev pub Writes : WriteAnswer → Writing → Writing → List ℕ → Type 0
+-- what a write does to a sink in memory: a call that is not listed takes the first bytes, cut to
+-- its piece size; a fault, which a listed call always is and any other is for want of memory alone,
+-- changes nothing but the counts
+abbrev pub Writes : WriteAnswer → SinkState → SinkState → List ℕ → Type 0
 Writes (Took n) before after bytes =
     IsFalse (is_failing before.calls)
     × (n ≡ cut_at before.pieces before.calls.calls (length bytes))
-    × (after ≡ record { written = before.written ++ take n bytes; pieces = before.pieces; calls = with_call before.calls })
-Writes WriteFailed before after bytes = after ≡ record { written = before.written; pieces = before.pieces; calls = with_fault before.calls }
+    × (after ≡ record {
+      written = before.written ++ take n bytes;
+      pieces = before.pieces;
+      calls = with_call before.calls;
+    })
+Writes WriteFailed before after bytes = after ≡ record {
+  written = before.written;
+  pieces = before.pieces;
+  calls = with_fault before.calls;
+}
 
 -- files in memory: each as the pair of its path and its bytes, and the calls
-pub record Stored : Type 0 where
+pub record StoreState : Type 0 where
   pub files : List (List ℕ × List ℕ)
-  pub calls : Called
+  pub calls : CallCounts
 
 -- the files that a store in memory holds
-abbrev pub files_stored : Stored → List (List ℕ × List ℕ)
-files_stored store = store.files
+abbrev pub files_in : StoreState → List (List ℕ × List ℕ)
+files_in store = store.files
 
 -- the faults of a store in memory
-abbrev pub store_faults : Stored → ℕ
+abbrev pub store_faults : StoreState → ℕ
 store_faults store = store.calls.faults

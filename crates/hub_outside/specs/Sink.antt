@@ -10,8 +10,8 @@ abbrev pub IsWriteWithin : WriteAnswer → ℕ → Type 0
 IsWriteWithin (Took n) given = (1 ≤ n) × (n ≤ given)
 IsWriteWithin Failed given = Unit {0}
 
--- what the write did to the bytes written so far: they grew by the first of those given, as many as were taken;
--- a fault writes none
+-- what the write did to the bytes written so far: they grew by the first of those given, as many as
+-- were taken; a fault writes none
 abbrev pub AddsBytes : WriteAnswer → Option (List ℕ) → Option (List ℕ) → List ℕ → Type 0
 AddsBytes (Took n) before after bytes = Appends before after (take n bytes)
 AddsBytes Failed before after bytes = Keeps before after

@@ -11,8 +11,8 @@ IsReadWithin (Got n) room = (1 ≤ n) × (n ≤ room)
 IsReadWithin End room = Unit {0}
 IsReadWithin Failed room = Unit {0}
 
--- what the read did to the bytes that are left: those that it gave are the first of them and are gone;
--- at the end none was left; a fault takes none
+-- what the read did to the bytes that are left: those that it gave are the first of them and are
+-- gone; at the end none was left; a fault takes none
 abbrev pub TakesBytes : ReadAnswer → Option (List ℕ) → Option (List ℕ) → List ℕ → Type 0
 TakesBytes (Got n) before after into = Consumes before after (take n into)
 TakesBytes End before after into = Keeps before after × IsAtEnd after

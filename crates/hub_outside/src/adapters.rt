@@ -1,4 +1,4 @@
-// The outside of std. It tells no contents, and each adapter counts the faults it met.
+//! The outside of std. It tells no contents, and each adapter counts the faults it met.
 pub(crate) mod clock;
 pub(crate) mod files;
 pub(crate) mod retry;

@@ -1,4 +1,4 @@
-// A buffer that tells how much it takes without memory.
+//! A buffer that tells how much it takes without memory.
 ghost use Rattle.std.specs.Prelude.{◌≡◌, ℕ, ◌+◌, ◌-◌, ◌<◌, ◌≤◌, min, [], ◌++◌, length, IsOk, OnOk, OnErr, IfOk};
 ghost use Rattle.std.specs.Io.{StartsWith, appended_bytes};
 ghost use Rattle.std.specs.Io.KnownBytes.{Consumes, IsAtEnd};
@@ -10,12 +10,13 @@ use std::io;
 use std::io::Read;
 use std::marker::Model;
 
-/// A growing buffer of bytes. Its `spare` says how many more bytes it takes without asking for memory.
+/// A growing buffer of bytes. Its `spare` says how many more bytes it takes without asking for
+/// memory.
 #[derive(Drop)]
 pub struct Buf {
     items: Vec<u8>,
-    // A vector promises that its capacity does not shrink, and not that it stays, so what is known of
-    // the room that is left is counted here.
+    // A vector promises that its capacity does not shrink, and not that it stays, so what is known
+    // of the room that is left is counted here.
     spare: usize,
 }
 
@@ -58,11 +59,12 @@ impl Buf {
         Ok(())
     }
 
-    /// Appends the bytes. It cannot fail where `spare` is at least their number, and then takes just
-    /// that from `spare`. No room is lost in any case.
+    /// Appends the bytes. It cannot fail where `spare` is at least their number, and then takes
+    /// just that from `spare`. No room is lost in any case.
     pub fn push_all(&mut self, bytes: &[u8]) -> Result<(), AllocError>
         ensures ok { OnOk result (self.new.bytes ≡ self.old.bytes ++ bytes.now) }
-        ensures within { length bytes.now ≤ self.old.spare → IsOk result × (self.new ≡ contents_with self.old bytes.now) }
+        ensures within { length bytes.now ≤ self.old.spare → IsOk result
+            × (self.new ≡ contents_with self.old bytes.now) }
         ensures err { OnErr result (self.new ≡ self.old) }
         ensures room { room_of self.old ≤ room_of self.new }
     {
@@ -108,7 +110,8 @@ impl Buf {
     // One read to the end of the buffer, of up to `most` bytes, which have to be to spare.
     pub(crate) fn read_from<R: Read>(&mut self, reader: &mut R, most: usize) -> io::Result<usize>
         requires { most ≤ self.old.spare }
-        ensures count { IfOk result (λ n. (n ≤ most) × (length self.new.bytes ≡ length self.old.bytes + n)) }
+        ensures count { IfOk result (λ n. (n ≤ most)
+            × (length self.new.bytes ≡ length self.old.bytes + n)) }
         ensures err { OnErr result (length self.new.bytes ≡ length self.old.bytes) }
         ensures front { StartsWith self.new.bytes self.old.bytes }
         ensures bytes { Consumes (R.remaining reader.old) (R.remaining reader.new)

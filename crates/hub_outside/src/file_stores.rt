@@ -1,4 +1,4 @@
-// Whole files, by path.
+//! Whole files, by path.
 ghost use Rattle.std.specs.Prelude.{◌≡◌, ℕ, ◌<◌, ◌≤◌, List, Option};
 ghost use Rattle.hub_outside.specs.Files.{AnswersFile, HasFileCause};
 ghost use Rattle.hub_outside.specs.Buffer.{room_of};
@@ -22,7 +22,8 @@ pub enum FileAnswer {
 
 /// Files to be read, as those of the system or a list in memory.
 pub trait Files {
-    // The files by path, where they are told: pairs of a path and its bytes, of which the first of a path counts.
+    // The files by path, where they are told: pairs of a path and its bytes, of which the first of
+    // a path counts.
     ghost contents: { Self → Option (List (List ℕ × List ℕ)) };
 
     // How many calls failed so far.

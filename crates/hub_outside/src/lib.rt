@@ -14,7 +14,7 @@
 //! [`Buf`] is a buffer that says how much it takes without asking for memory. The forms in memory
 //! cut and fail their calls as their lists say. The adapters over std are a few lines each.
 //!
-//! The crate stands on std alone.
+//! The crate stands on std, and on `texts` for the last moment.
 #![tactic(auto)]
 
 mod adapters;
@@ -30,7 +30,7 @@ pub use adapters::files::StdFiles;
 pub use adapters::sink::StdSink;
 pub use adapters::source::StdSource;
 pub use buffers::Buf;
-pub use clocks::{Clock, LATEST_MOMENT};
+pub use clocks::Clock;
 pub use file_stores::{FileAnswer, Files};
 pub use memory::clock::FixedClock;
 pub use memory::files::{MemoryFile, MemoryFiles};

@@ -1,4 +1,4 @@
-// The forms in memory, for tests, for stored runs and for theorems: they tell all their contents.
+//! The forms in memory, for tests, for stored runs and for theorems: they tell all their contents.
 pub(crate) mod calls;
 pub(crate) mod clock;
 pub(crate) mod files;

@@ -1,4 +1,4 @@
-// Where bytes go.
+//! Where bytes go.
 ghost use Rattle.std.specs.Prelude.{◌≡◌, ℕ, ◌<◌, List, Option, length, is_some};
 ghost use Rattle.hub_outside.specs.Sink.{IsWriteWithin, AddsBytes, HasWriteCause};
 

@@ -1,4 +1,4 @@
-// Where bytes come from.
+//! Where bytes come from.
 ghost use Rattle.std.specs.Prelude.{◌≡◌, ℕ, ◌<◌, List, Option, length, is_some};
 ghost use Rattle.hub_outside.specs.Source.{IsReadWithin, TakesBytes, HasReadCause};
 

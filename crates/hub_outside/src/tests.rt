@@ -1,10 +1,14 @@
-// Each allocating call with ample memory, and the adapters over real objects.
+//! Each allocating call with ample memory, and the adapters over real objects.
 use crate::{
-    Buf, Clock, FileAnswer, Files, FixedClock, LATEST_MOMENT, MemoryFile, MemoryFiles, MemorySink,
-    MemorySource, ReadAnswer, Sink, Source, StdFiles, StdSink, StdSource, SystemClock, WriteAnswer,
+    Buf, Clock, FileAnswer, Files, FixedClock, MemoryFile, MemoryFiles, MemorySink, MemorySource,
+    ReadAnswer, Sink, Source, StdFiles, StdSink, StdSource, SystemClock, WriteAnswer,
 };
 use std::fs;
+use std::fs::Permissions;
+use std::os::unix::fs::PermissionsExt;
 use std::test::Fail;
+use std::time::UNIX_EPOCH;
+use texts::LAST_MOMENT;
 
 #[test]
 fn buffer_keeps_its_room(rt: HostRuntime) -> Result<(), Fail> {
@@ -82,7 +86,63 @@ fn clocks_show_moments(rt: HostRuntime) -> Result<(), Fail> {
     assert_eq!(rt; fixed.now(), 3);
     let moment = SystemClock::new(&rt).now();
     // It is past the year 2020, and no leap of the clock is tested.
-    assert!(rt; moment > 1_577_836_800 && moment < LATEST_MOMENT);
+    assert!(rt; moment > 1_577_836_800 && moment < LAST_MOMENT);
+    Ok(())
+}
+
+// A path that no other process uses.
+fn fresh_path(rt: &HostRuntime, name: &str) -> Result<String, Fail> {
+    Ok(format!(in rt.alloc();
+        "/tmp/hub_outside.{name}.{}",
+        std::process::id(rt.process())
+    )?)
+}
+
+// The file system dates a new file by the same clock as the system's date.
+#[test]
+fn system_clock_is_beside_the_date_of_a_new_file(rt: HostRuntime) -> Result<(), Fail> {
+    let path = fresh_path(&rt, "date")?;
+    fs::write(&rt, path.as_str(), "")?;
+    let modified = fs::metadata(&rt, path.as_str())?.modified()?;
+    fs::remove_file(&rt, path.as_str())?;
+    let moment = SystemClock::new(&rt).now();
+    let date = modified
+        .duration_since(UNIX_EPOCH)
+        .map_or(0, |since| since.as_secs());
+    assert!(rt; moment.abs_diff(date) < 60);
+    Ok(())
+}
+
+// Root may read any file, so where it runs this only sees that the file is there.
+#[test]
+fn file_that_may_not_be_read_is_a_fault(rt: HostRuntime) -> Result<(), Fail> {
+    let path = fresh_path(&rt, "closed")?;
+    fs::write(&rt, path.as_str(), "stop_id")?;
+    fs::set_permissions(&rt, path.as_str(), Permissions::from_mode(0))?;
+    let is_root = fs::open(&rt, path.as_str()).is_ok();
+    let mut files = StdFiles::new(&rt);
+    let mut into = Buf::new(rt.alloc());
+    let answer = files.read_file(path.as_str(), 7, &mut into);
+    fs::remove_file(&rt, path.as_str())?;
+    if is_root {
+        assert_eq!(rt; answer, FileAnswer::Read);
+    } else {
+        assert_eq!(rt; answer, FileAnswer::Failed);
+        assert_eq!(rt; into.as_slice(), b"".as_slice());
+    }
+    Ok(())
+}
+
+#[test]
+fn nothing_is_in_a_plain_file(rt: HostRuntime) -> Result<(), Fail> {
+    let path = fresh_path(&rt, "plain")?;
+    fs::write(&rt, path.as_str(), "PK")?;
+    let within = format!(in rt.alloc(); "{}/stops.txt", path.as_str())?;
+    let mut files = StdFiles::new(&rt);
+    let mut into = Buf::new(rt.alloc());
+    let answer = files.read_file(within.as_str(), 7, &mut into);
+    fs::remove_file(&rt, path.as_str())?;
+    assert_eq!(rt; answer, FileAnswer::Absent);
     Ok(())
 }
 

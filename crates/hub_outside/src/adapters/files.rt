@@ -1,20 +1,22 @@
-// The system's files.
-ghost use Rattle.std.specs.Prelude.{◌≡◌, ◌≢◌, ◌<◌, ◌≤◌, [], None};
+//! The system's files.
+ghost use Rattle.std.specs.IoError.{error_kind};
+ghost use Rattle.std.specs.Prelude.{◌≡◌, ◌≢◌, ◌<◌, ◌≤◌, [], None, IfErr, OnOk};
 ghost use Rattle.hub_outside.specs.Adapters.{files_system, files_faults};
 ghost use Rattle.hub_outside.specs.Buffer.{room_of};
+ghost use Rattle.hub_outside.specs.Decisions.{answer_unopened};
 ghost use Rattle.hub_outside.specs.Files.{IsFetched, TakesWhole};
 
 use super::retry::read_once;
 use crate::buffers::Buf;
 use crate::file_stores::{FileAnswer, Files};
 use std::io::{ErrorKind, Read};
-use std::{fs, rt};
+use std::{fs, io, rt};
 
 // How many bytes are read at a time.
 const PIECE: usize = 1 << 17;
 
-/// The files of the system. A path with no file is absent; a directory, or a file that cannot be
-/// read, is a fault.
+/// The files of the system. A path with no file is absent, and so is one of which a folder is a
+/// plain file. A folder, or a file that cannot be read, is a fault.
 #[derive(Drop)]
 pub struct StdFiles<R> {
     system: R,
@@ -38,7 +40,7 @@ impl<R: rt::Files> Files for StdFiles<R> {
 
     fn read_file(&mut self, path: &str, limit: u64, into: &mut Buf) -> FileAnswer {
         into.clear();
-        let answer = fetch(&self.system, path, limit, into);
+        let answer = fetch(fs::open(&self.system, path), limit, into);
         match answer {
             FileAnswer::Read => {}
             FileAnswer::Failed => {
@@ -51,17 +53,28 @@ impl<R: rt::Files> Files for StdFiles<R> {
     }
 }
 
-// The file at `path`, read into the empty buffer as far as it went.
-fn fetch<R: rt::Files>(system: &R, path: &str, limit: u64, into: &mut Buf) -> FileAnswer
+// What the opening of a file comes to: its bytes are read into the empty buffer as far as it goes.
+fn fetch<F: Read + Drop>(opened: io::Result<F>, limit: u64, into: &mut Buf) -> FileAnswer
     requires { into.old.bytes ≡ [] }
+    ensures unopened { IfErr opened (λ error. result ≡ answer_unopened (error_kind error)) }
+    ensures opened { OnOk opened (result ≢ FileAnswer.Absent) }
     ensures answer { IsFetched result limit into.new.bytes }
     ensures room { room_of into.old ≤ room_of into.new }
     ensures memory { result ≡ FileAnswer.NoMemory → room_of into.old < limit }
 {
-    match fs::open(system, path) {
+    match opened {
         Ok(mut file) => fetch_bytes(&mut file, limit, into),
-        Err(error) if error.kind() == ErrorKind::NotFound => FileAnswer::Absent,
-        Err(_) => FileAnswer::Failed,
+        Err(error) => answer_unopened(error.kind()),
+    }
+}
+
+// What a file is that can't be opened.
+fn answer_unopened(kind: ErrorKind) -> FileAnswer
+    ensures { result ≡ answer_unopened kind }
+{
+    match kind {
+        ErrorKind::NotFound | ErrorKind::NotADirectory => FileAnswer::Absent,
+        _ => FileAnswer::Failed,
     }
 }
 
@@ -70,6 +83,7 @@ fn fetch<R: rt::Files>(system: &R, path: &str, limit: u64, into: &mut Buf) -> Fi
 fn fetch_bytes<F: Read>(file: &mut F, limit: u64, into: &mut Buf) -> FileAnswer
     requires { into.old.bytes ≡ [] }
     ensures answer { IsFetched result limit into.new.bytes }
+    ensures present { result ≢ FileAnswer.Absent }
     ensures bytes { TakesWhole result (F.remaining file.old) (F.remaining file.new) into.new.bytes }
     ensures room { room_of into.old ≤ room_of into.new }
     ensures memory { result ≡ FileAnswer.NoMemory → room_of into.old < limit }
@@ -92,6 +106,7 @@ fn fetch_bytes<F: Read>(file: &mut F, limit: u64, into: &mut Buf) -> FileAnswer
 // Whether the file ends at the limit, where it was read up to there.
 fn end_at<F: Read>(file: &mut F, limit: u64) -> FileAnswer
     ensures answer { IsFetched result limit [] }
+    ensures present { result ≢ FileAnswer.Absent }
     ensures bytes { TakesWhole result (F.remaining file.old) (F.remaining file.new) [] }
     ensures memory { result ≢ FileAnswer.NoMemory }
 {

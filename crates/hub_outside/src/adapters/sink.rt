@@ -1,14 +1,16 @@
-// A writer of std as a sink.
-ghost use Rattle.std.specs.Prelude.{◌≡◌, ◌<◌, None, length};
+//! A writer of std as a sink.
+ghost use Rattle.std.specs.Prelude.{◌≡◌, ◌<◌, None, length, false};
 ghost use Rattle.hub_outside.specs.Adapters.{writer_of, writer_faults};
+ghost use Rattle.hub_outside.specs.Decisions.{answer_of_write, is_cut_short};
 ghost use Rattle.hub_outside.specs.Sink.{IsWriteWithin, AddsBytes, HasWriteCause};
 
 use super::retry::write_once;
 use crate::sinks::{Sink, WriteAnswer};
+use std::io;
 use std::io::Write;
 
-/// A writer of std, as standard output or a socket. An error is a fault, and so is a write that takes
-/// nothing.
+/// A writer of std, as standard output or a socket. An error is a fault, and so is a write that
+/// takes nothing.
 #[derive(Drop)]
 pub struct StdSink<W> {
     writer: W,
@@ -36,14 +38,25 @@ impl<W: Write> Sink for StdSink<W> {
         requires { 0 < length bytes.now }
         ensures within { IsWriteWithin result (length bytes.now) }
         ensures cause { HasWriteCause result (writer_faults self.old) (writer_faults self.new) }
-        ensures writes { AddsBytes result (W.contents (writer_of self.old)) (W.contents (writer_of self.new)) bytes.now }
+        ensures writes { AddsBytes result
+            (W.contents (writer_of self.old)) (W.contents (writer_of self.new)) bytes.now }
     {
-        match write_once(&mut self.writer, bytes) {
-            Ok(count) if count > 0 => WriteAnswer::Took(count),
-            _ => {
-                self.faults = self.faults.saturating_add(1);
-                WriteAnswer::Failed
-            }
+        let answer = answer_of(write_once(&mut self.writer, bytes));
+        if answer == WriteAnswer::Failed {
+            self.faults = self.faults.saturating_add(1);
         }
+        answer
+    }
+}
+
+// What a write that was not cut short answers.
+fn answer_of(write: io::Result<usize>) -> WriteAnswer
+    requires { is_cut_short write ≡ false }
+    ensures { result ≡ answer_of_write write }
+{
+    match write {
+        Ok(0) => WriteAnswer::Failed,
+        Ok(count) => WriteAnswer::Took(count),
+        Err(_) => WriteAnswer::Failed,
     }
 }

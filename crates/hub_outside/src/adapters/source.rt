@@ -1,10 +1,12 @@
-// A reader of std as a source.
-ghost use Rattle.std.specs.Prelude.{◌≡◌, ◌<◌, None, length};
+//! A reader of std as a source.
+ghost use Rattle.std.specs.Prelude.{◌≡◌, ◌<◌, None, length, false};
 ghost use Rattle.hub_outside.specs.Adapters.{reader_of, reader_faults};
+ghost use Rattle.hub_outside.specs.Decisions.{answer_of_read, is_cut_short};
 ghost use Rattle.hub_outside.specs.Source.{IsReadWithin, TakesBytes, HasReadCause};
 
 use super::retry::read_once;
 use crate::sources::{ReadAnswer, Source};
+use std::io;
 use std::io::Read;
 
 /// A reader of std, as standard input or a socket. An error is a fault.
@@ -35,15 +37,25 @@ impl<R: Read> Source for StdSource<R> {
         requires { 0 < length into.old }
         ensures within { IsReadWithin result (length into.old) }
         ensures cause { HasReadCause result (reader_faults self.old) (reader_faults self.new) }
-        ensures reads { TakesBytes result (R.remaining (reader_of self.old)) (R.remaining (reader_of self.new)) into.new }
+        ensures reads { TakesBytes result
+            (R.remaining (reader_of self.old)) (R.remaining (reader_of self.new)) into.new }
     {
-        match read_once(&mut self.reader, into) {
-            Ok(0) => ReadAnswer::End,
-            Ok(count) => ReadAnswer::Got(count),
-            Err(_) => {
-                self.faults = self.faults.saturating_add(1);
-                ReadAnswer::Failed
-            }
+        let answer = answer_of(read_once(&mut self.reader, into));
+        if answer == ReadAnswer::Failed {
+            self.faults = self.faults.saturating_add(1);
         }
+        answer
+    }
+}
+
+// What a read that was not cut short answers.
+fn answer_of(read: io::Result<usize>) -> ReadAnswer
+    requires { is_cut_short read ≡ false }
+    ensures { result ≡ answer_of_read read }
+{
+    match read {
+        Ok(0) => ReadAnswer::End,
+        Ok(count) => ReadAnswer::Got(count),
+        Err(_) => ReadAnswer::Failed,
     }
 }

@@ -1,7 +1,7 @@
-// The calls of a form in memory, each numbered from 1 on, of which the listed ones fail.
+//! The calls of a form in memory, each numbered from 1 on, of which the listed ones fail.
 ghost use Rattle.std.specs.Prelude.{◌≡◌, ◌≤◌, if◌then◌else◌};
 ghost use Rattle.hub_outside.specs.Count.{one_more};
-ghost use Rattle.hub_outside.specs.Calls.{uncalled, is_failing, with_call, with_fault, cut_at};
+ghost use Rattle.hub_outside.specs.Calls.{no_calls, is_failing, with_call, with_fault, cut_at};
 
 use std::marker::Model;
 
@@ -13,16 +13,16 @@ pub(crate) struct Calls {
 }
 
 impl Model for Calls {
-    ghost use Rattle.hub_outside.specs.Calls.{Called};
+    ghost use Rattle.hub_outside.specs.Calls.{CallCounts};
 
-    ghost Value = { Called };
+    ghost Value = { CallCounts };
 
     ghost view = { λ c. record { failing = c.failing.items; calls = c.calls; faults = c.faults } };
 }
 
 impl Calls {
     pub(crate) fn new(failing: Vec<u64>) -> Calls
-        ensures { result ≡ uncalled failing.items }
+        ensures { result ≡ no_calls failing.items }
     {
         Calls {
             failing,

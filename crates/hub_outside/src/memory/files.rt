@@ -1,22 +1,24 @@
-// Files in memory.
+//! Files in memory.
 ghost use Rattle.std.specs.Prelude.{◌≡◌, ◌↔◌, ℕ, ◌<◌, ◌≤◌, List, Option, Some, IsTrue};
 ghost use Rattle.std.specs.List.{find};
 ghost use Rattle.std.specs.Option.{option_copied};
 ghost use Rattle.std.specs.Str.{bytes_eq};
 ghost use Rattle.hub_outside.specs.Files.{AnswersFile, HasFileCause};
 ghost use Rattle.hub_outside.specs.Buffer.{room_of};
-ghost use Rattle.hub_outside.specs.Calls.{uncalled, is_failing, after_call};
-ghost use Rattle.hub_outside.specs.Memory.{files_stored, store_faults};
+ghost use Rattle.hub_outside.specs.Calls.{no_calls, is_failing, after_call};
+ghost use Rattle.hub_outside.specs.Memory.{files_in, store_faults};
 
 use super::calls::Calls;
 use crate::buffers::Buf;
 use crate::file_stores::{FileAnswer, Files};
 use std::marker::Model;
 
-/// A file in memory. Contracts see it as the pair of its path and its bytes.
+/// A file in memory. Contracts see it as the pair of its path and its bytes, both lists of bytes.
 #[derive(Drop)]
 pub struct MemoryFile {
+    /// The path by which it is asked for, as it is written there: `a/b` and `a//b` are two paths.
     pub path: String,
+    /// Its contents.
     pub bytes: Vec<u8>,
 }
 
@@ -36,9 +38,9 @@ pub struct MemoryFiles {
 }
 
 impl Model for MemoryFiles {
-    ghost use Rattle.hub_outside.specs.Memory.{Stored};
+    ghost use Rattle.hub_outside.specs.Memory.{StoreState};
 
-    ghost Value = { Stored };
+    ghost Value = { StoreState };
 
     ghost view = { λ s. record { files = s.files.items; calls = s.calls } };
 }
@@ -46,7 +48,7 @@ impl Model for MemoryFiles {
 impl MemoryFiles {
     /// These files. The calls whose numbers, from 1 on, are in `failing` fail. It takes no memory.
     pub fn new(files: Vec<MemoryFile>, failing: Vec<u64>) -> MemoryFiles
-        ensures { result ≡ record { files = files.items; calls = uncalled failing.items } }
+        ensures { result ≡ record { files = files.items; calls = no_calls failing.items } }
     {
         MemoryFiles {
             files,
@@ -56,14 +58,15 @@ impl MemoryFiles {
 }
 
 impl Files for MemoryFiles {
-    ghost contents = { λ s. Some (files_stored s) };
+    ghost contents = { λ s. Some (files_in s) };
 
     ghost faults = { store_faults };
 
-    /// Copies the file's bytes. It fails exactly where its call is listed. A file that is too long is
-    /// answered with its length.
+    /// Copies the file's bytes. It fails exactly where its call is listed. A file that is too long
+    /// is answered with its length.
     fn read_file(&mut self, path: &str, limit: u64, into: &mut Buf) -> FileAnswer
-        ensures answer { AnswersFile result (Some (files_stored self.old)) path.now limit into.new.bytes }
+        ensures answer { AnswersFile result (Some (files_in self.old)) path.now limit
+            into.new.bytes }
         ensures room { room_of into.old ≤ room_of into.new }
         ensures memory { result ≡ FileAnswer.NoMemory → room_of into.old < limit }
         ensures cause { HasFileCause result (store_faults self.old) (store_faults self.new) }

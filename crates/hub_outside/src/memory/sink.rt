@@ -1,7 +1,7 @@
-// A sink in memory.
+//! A sink in memory.
 ghost use Rattle.std.specs.Prelude.{◌≡◌, ℕ, ◌<◌, List, [], Option, Some, length, is_some};
 ghost use Rattle.hub_outside.specs.Sink.{IsWriteWithin, AddsBytes, HasWriteCause};
-ghost use Rattle.hub_outside.specs.Calls.{uncalled};
+ghost use Rattle.hub_outside.specs.Calls.{no_calls};
 ghost use Rattle.hub_outside.specs.Memory.{bytes_written, sink_faults, Writes};
 
 use super::calls::{Calls, cut};
@@ -18,19 +18,27 @@ pub struct MemorySink {
 }
 
 impl Model for MemorySink {
-    ghost use Rattle.hub_outside.specs.Memory.{Writing};
+    ghost use Rattle.hub_outside.specs.Memory.{SinkState};
 
-    ghost Value = { Writing };
+    ghost Value = { SinkState };
 
-    ghost view = { λ s. record { written = s.written.items; pieces = s.pieces.items; calls = s.calls } };
+    ghost view = { λ s. record {
+      written = s.written.items;
+      pieces = s.pieces.items;
+      calls = s.calls;
+    } };
 }
 
 impl MemorySink {
     /// A sink that holds nothing yet. The i-th call, from 1 on, takes at most the i-th of `pieces`,
-    /// where 0 counts as 1; past that list there is no cut. The calls whose numbers are in `failing`
-    /// fail. It takes no memory.
+    /// where 0 counts as 1; past that list there is no cut. The calls whose numbers are in
+    /// `failing` fail. It takes no memory.
     pub fn new(alloc: Global, pieces: Vec<u32>, failing: Vec<u64>) -> MemorySink
-        ensures { result ≡ record { written = []; pieces = pieces.items; calls = uncalled failing.items } }
+        ensures { result ≡ record {
+          written = [];
+          pieces = pieces.items;
+          calls = no_calls failing.items;
+        } }
     {
         MemorySink {
             written: Vec::new(alloc),
@@ -52,12 +60,13 @@ impl Sink for MemorySink {
 
     ghost faults = { sink_faults };
 
-    /// Takes the next piece. A call that is listed fails, and so does one whose bytes find no memory;
-    /// a call that fails takes no byte.
+    /// Takes the next piece. A call that is listed fails, and so does one whose bytes find no
+    /// memory; a call that fails takes no byte.
     fn write(&mut self, bytes: &[u8]) -> WriteAnswer
         requires { 0 < length bytes.now }
         ensures within { IsWriteWithin result (length bytes.now) }
-        ensures bytes { AddsBytes result (Some (bytes_written self.old)) (Some (bytes_written self.new)) bytes.now }
+        ensures bytes { AddsBytes result (Some (bytes_written self.old))
+            (Some (bytes_written self.new)) bytes.now }
         ensures cause { HasWriteCause result (sink_faults self.old) (sink_faults self.new) }
         ensures writes { Writes result self.old self.new bytes.now }
     {

@@ -1,7 +1,7 @@
-// A source in memory.
+//! A source in memory.
 ghost use Rattle.std.specs.Prelude.{◌≡◌, ℕ, ◌<◌, List, Option, Some, length, is_some};
 ghost use Rattle.hub_outside.specs.Source.{IsReadWithin, TakesBytes, HasReadCause};
-ghost use Rattle.hub_outside.specs.Calls.{uncalled};
+ghost use Rattle.hub_outside.specs.Calls.{no_calls};
 ghost use Rattle.hub_outside.specs.Memory.{bytes_left, source_faults, read_answer, after_read};
 
 use super::calls::{Calls, cut};
@@ -19,21 +19,29 @@ pub struct MemorySource {
 
 impl Model for MemorySource {
     ghost use Rattle.std.specs.Prelude.{◌≤◌, drop, vec_len};
-    ghost use Rattle.hub_outside.specs.Memory.{Reading};
+    ghost use Rattle.hub_outside.specs.Memory.{SourceState};
 
-    ghost Value = { Reading };
+    ghost Value = { SourceState };
 
-    ghost view = { λ s. record { left = drop s.at s.bytes.items; pieces = s.pieces.items; calls = s.calls } };
+    ghost view = { λ s. record {
+      left = drop s.at s.bytes.items;
+      pieces = s.pieces.items;
+      calls = s.calls;
+    } };
 
     ghost invariant = { λ s. s.at ≤ vec_len s.bytes };
 }
 
 impl MemorySource {
-    /// A source of these bytes. The i-th call, from 1 on, gives at most the i-th of `pieces`, where 0
-    /// counts as 1; past that list there is no cut. The calls whose numbers are in `failing` fail.
-    /// It takes no memory.
+    /// A source of these bytes. The i-th call, from 1 on, gives at most the i-th of `pieces`, where
+    /// 0 counts as 1; past that list there is no cut. The calls whose numbers are in `failing`
+    /// fail. It takes no memory.
     pub fn new(bytes: Vec<u8>, pieces: Vec<u32>, failing: Vec<u64>) -> MemorySource
-        ensures { result ≡ record { left = bytes.items; pieces = pieces.items; calls = uncalled failing.items } }
+        ensures { result ≡ record {
+          left = bytes.items;
+          pieces = pieces.items;
+          calls = no_calls failing.items;
+        } }
     {
         MemorySource {
             bytes,
@@ -54,7 +62,8 @@ impl Source for MemorySource {
     fn read(&mut self, into: &mut [u8]) -> ReadAnswer
         requires { 0 < length into.old }
         ensures within { IsReadWithin result (length into.old) }
-        ensures bytes { TakesBytes result (Some (bytes_left self.old)) (Some (bytes_left self.new)) into.new }
+        ensures bytes { TakesBytes result (Some (bytes_left self.old)) (Some (bytes_left self.new))
+            into.new }
         ensures cause { HasReadCause result (source_faults self.old) (source_faults self.new) }
         ensures answer { result ≡ read_answer self.old (length into.old) }
         ensures after { self.new ≡ after_read self.old (length into.old) }
