@@ -1,9 +1,9 @@
 -- Fields one after another are spelled one after another.
-use Rattle.std.proofs.Common.{◌≡◌, ◌<◌, ◌≤◌, ℕ, ◌+◌, ◌-◌, ◌*◌, List, [], ◌∷◌, ◌++◌, take, drop, length, get_or, refl, sym, ap, ◌∙◌, append_assoc, append-nil, arith}
+use Rattle.std.proofs.Common.{◌≡◌, ◌<◌, ℕ, ◌+◌, ◌-◌, ◌*◌, List, [], ◌∷◌, ◌++◌, take, drop, length, get_or, refl, sym, ap, ◌∙◌, append_assoc, append-nil, arith}
 use Rattle.std.specs.Prelude.{◌^◌, Result, Ok, Err, OnOk}
 use Rattle.std.specs.List.{flat_map}
 use Rattle.std.proofs.lemmas.Grind.{flat_map-append}
-use Rattle.std.proofs.lemmas.List.{take_more, take-take, take-append-drop, length-append}
+use Rattle.std.proofs.lemmas.List.{take_more, take-append-drop, length-append}
 use Rattle.std.proofs.Math.Seq.{take-append_seam, drop-append_seam}
 use Rattle.wire_defs.specs.Field.Payload.{Span}
 use Rattle.wire_defs.specs.Writing.{Written, varint, payload_bytes, field_bytes}
@@ -59,8 +59,8 @@ all_more n m xs i y old before after within item so_far appended =
 pub framed : {A E : Type 0} (r : Result A E) (n tag place : ℕ) (old content tagged kept all after : List ℕ) →
     tagged ≡ old ++ varint tag → tag ≡ n * 8 + 2 → place ≡ length tagged → kept ≡ tagged ++ 0 ∷ [] → all ≡ kept ++ content
     → OnOk r (after ≡ take place all ++ (varint (length (drop (place + 1) all)) ++ drop (place + 1) all))
-    → OnOk r (after ≡ old ++ spelled (record { number = n; payload = Span content }))
-unfolding spelled payload_bytes
+    → OnOk r (after ≡ old ++ field_bytes (record { number = n; payload = Span content }))
+unfolding field_bytes payload_bytes
 framed (Ok x) n tag place old content tagged kept all after tagged_is tag_is begins kept_is whole measured =
     measured
     ∙ ap (λ bs. bs ++ (varint (length (drop (place + 1) all)) ++ drop (place + 1) all)) front
@@ -75,15 +75,11 @@ framed (Ok x) n tag place old content tagged kept all after tagged_is tag_is beg
     behind = let size : place + 1 ≡ length kept = omega (arith, ap length kept_is, length-append tagged (0 ∷ [])) in ap (λ k. drop k all) size ∙ ap (drop (length kept)) whole ∙ drop-append_seam kept content
 framed (Err e) n tag place old content tagged kept all after tagged_is tag_is begins kept_is whole measured = tt
 
--- what begins with some bytes up to a place behind them begins with them
-pub starts_up_to : (old before after : List ℕ) (place : ℕ) → StartsWith old before → place ≤ length before → length old ≤ place → take place after ≡ take place before → StartsWith old after
-starts_up_to old before after place from short onward same = record {
-  more = drop (length old) after;
-  whole = sym (take-append-drop (length old) after) ∙ ap (λ bs. bs ++ drop (length old) after) front;
-}
-  where
-    front : take (length old) after ≡ old
-    front = sym (take-take (length old) place after onward) ∙ ap (take (length old)) same ∙ take-take (length old) place before onward ∙ ap (take (length old)) from.whole ∙ take-append_seam old from.more
+-- what stands up to a place stays, and so does what stood before it
+pub starts_up_to : (old tagged all after : List ℕ) (place : ℕ) → StartsWith old tagged → place ≡ length tagged → StartsWith tagged all → take place after ≡ take place all → StartsWith old after
+starts_up_to old tagged all after place from is onward same =
+    let front : take place after ≡ tagged = same ∙ ap (λ k. take k all) is ∙ ap (take (length tagged)) onward.whole ∙ take-append_seam tagged onward.more in
+    starts_on old tagged after from (record { more = drop place after; whole = sym (take-append-drop place after) ∙ ap (λ bs. bs ++ drop place after) front })
 
 -- a message that was written within a vector reads again
 pub written_again : {A E : Type 0} (r : Result A E) (m : FeedMessage) (before after : List ℕ) → length after < 2 ^ 64

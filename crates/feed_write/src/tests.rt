@@ -194,7 +194,7 @@ const BYTES: &[u8] =
 fn a_message_is_appended_field_by_field(rt: HostRuntime) -> Result<(), Fail> {
     let alloc = rt.alloc();
     let mut out = vec![in alloc; 7u8]?;
-    write_message(alloc, &message(alloc)?, &mut out)?;
+    write_message(&message(alloc)?, &mut out)?;
     assert_eq!(rt;
         out.as_slice().strip_prefix(b"\x07".as_slice()),
         Some(BYTES)
