@@ -1,4 +1,4 @@
-// One message more.
+//! One message more.
 
 ghost use Rattle.std.specs.Prelude.{◌≡◌, ◌∷◌, ◌++◌, [], List, if◌then◌else◌, unwrap_or, false, IfOk};
 ghost use Rattle.feed_defs.specs.History.{entities_after, changes_with, entities_of, is_full};
@@ -9,12 +9,13 @@ use crate::table::Table;
 use feed_defs::Stored;
 use rt_types::{Copied, Entity, FeedMessage, Incrementality};
 use shared_list::SharedList;
-use std::alloc::{AllocError, Global};
+use crate::NoMemory;
+use std::alloc::Global;
 
 /// The table after the message (GTFS Realtime 2.0, FeedHeader, `incrementality`). A whole data set starts from
 /// nothing, a differential message from the given table. Then, entity by entity, one that says that it is
 /// deleted takes its id away, and any other takes the place of what its id had, whole, with the message's stamp.
-pub fn apply(alloc: Global, table: &Table, message: &FeedMessage) -> Result<Table, AllocError>
+pub fn apply(alloc: Global, table: &Table, message: &FeedMessage) -> Result<Table, NoMemory>
     ensures applied { IfOk result (λ next. next ≡ entities_after message.now table.now) }
     ensures stands { (ms : List FeedMessage) → table.now ≡ entities_of ms → IfOk result (λ next. next ≡ entities_of (ms ++ message.now ∷ [])) }
 {
@@ -31,7 +32,7 @@ fn start(
     alloc: Global,
     table: &Table,
     message: &FeedMessage,
-) -> Result<SharedList<SharedStored>, AllocError>
+) -> Result<SharedList<SharedStored>, NoMemory>
     ensures { IfOk result (λ list. list ≡ (if is_full message.now then [] else table.now)) }
 {
     match message.header.incrementality {
@@ -46,7 +47,7 @@ fn change(
     list: SharedList<SharedStored>,
     entity: &Entity,
     stamp: u64,
-) -> Result<SharedList<SharedStored>, AllocError>
+) -> Result<SharedList<SharedStored>, NoMemory>
     ensures { IfOk result (λ next. next ≡ changes_with list (entity.now.id, record { entity = entity.now; stamp = stamp })) }
 {
     if is_deleted(entity) {

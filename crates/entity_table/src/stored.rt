@@ -1,18 +1,18 @@
-// A stored entity that several tables share.
+//! A stored entity that several tables share.
 
 ghost use Rattle.std.specs.Prelude.{◌≡◌, IfOk};
 
 use feed_defs::Stored;
-use rt_types::Copied;
+use rt_types::{Copied, Shared};
 use shared_list::Keyed;
-use std::alloc::{AllocError, Global};
+use crate::NoMemory;
+use std::alloc::Global;
 use std::marker::Model;
-use std::sync::Arc;
 
 /// A share of a stored entity. A contract sees the entity.
 #[derive(Drop)]
 pub(crate) struct SharedStored {
-    inner: Arc<Stored>,
+    inner: Shared<Stored>,
 }
 
 impl Model for SharedStored {
@@ -20,16 +20,16 @@ impl Model for SharedStored {
 
     ghost Value = { Stored };
 
-    ghost view = { λ shared. shared.inner.value };
+    ghost view = { λ shared. shared.inner };
 }
 
 impl SharedStored {
     /// The first share.
-    pub(crate) fn new(alloc: Global, stored: Stored) -> Result<Self, AllocError>
+    pub(crate) fn new(alloc: Global, stored: Stored) -> Result<Self, NoMemory>
         ensures { IfOk result (λ shared. shared ≡ stored) }
     {
         Ok(SharedStored {
-            inner: Arc::new(alloc, stored)?,
+            inner: Shared::new(alloc, stored)?,
         })
     }
 
@@ -37,14 +37,14 @@ impl SharedStored {
     pub(crate) fn get(&self) -> &Stored
         ensures { result.now ≡ self.now }
     {
-        &self.inner
+        self.inner.get()
     }
 }
 
 impl Copied for SharedStored {
-    fn copy(&self) -> Result<Self, AllocError> {
+    fn copy(&self) -> Result<Self, NoMemory> {
         Ok(SharedStored {
-            inner: Arc::try_clone(&self.inner)?,
+            inner: self.inner.copy()?,
         })
     }
 }

@@ -1,4 +1,4 @@
-// The table of a feed.
+//! The table of a feed.
 
 ghost use Rattle.std.specs.Prelude.{◌≡◌, List, [], length, map, T as IsSo};
 ghost use Rattle.std.specs.Cmp.Lexicographic.{slice_cmp};

@@ -1,12 +1,13 @@
-// Tables of few ids and of several hundred, with ample memory.
+//! Tables of few ids and of several hundred, with ample memory.
 
 use crate::{Table, apply};
 use rt_types::{Bytes, Entities, Entity, FeedMessage, Header, Incrementality, Text};
-use std::alloc::{AllocError, Global};
+use crate::NoMemory;
+use std::alloc::Global;
 use std::test::Fail;
 
 /// An entity of that id, with one unknown byte that tells two of one id apart.
-fn entity(alloc: Global, id: &str, deleted: Option<bool>, mark: u8) -> Result<Entity, AllocError> {
+fn entity(alloc: Global, id: &str, deleted: Option<bool>, mark: u8) -> Result<Entity, NoMemory> {
     Ok(Entity {
         id: Text::new(alloc, id)?,
         is_deleted: deleted,
@@ -23,7 +24,7 @@ fn message(
     kind: Option<Incrementality>,
     stamp: u64,
     entities: Vec<Entity>,
-) -> Result<FeedMessage, AllocError> {
+) -> Result<FeedMessage, NoMemory> {
     Ok(FeedMessage {
         header: Header {
             version: Text::new(alloc, "2.0")?,
@@ -46,7 +47,7 @@ fn kind_told(words: &str) -> Option<Incrementality> {
 }
 
 /// The entities that are told by words as `+id` or `-id`, each with the mark of its place.
-fn entities_told(alloc: Global, words: &str) -> Result<Vec<Entity>, AllocError> {
+fn entities_told(alloc: Global, words: &str) -> Result<Vec<Entity>, NoMemory> {
     let mut entities = Vec::new(alloc);
     let mut mark = b'0';
     for word in words.split(' ') {
@@ -61,7 +62,7 @@ fn entities_told(alloc: Global, words: &str) -> Result<Vec<Entity>, AllocError> 
 }
 
 /// The table after the message of these words.
-fn after(alloc: Global, table: &Table, stamp: u64, words: &str) -> Result<Table, AllocError> {
+fn after(alloc: Global, table: &Table, stamp: u64, words: &str) -> Result<Table, NoMemory> {
     let entities = entities_told(alloc, words)?;
     apply(
         alloc,
@@ -71,7 +72,7 @@ fn after(alloc: Global, table: &Table, stamp: u64, words: &str) -> Result<Table,
 }
 
 /// The table after messages of these words, whose stamps are 1, 2 and so on.
-fn after_all(alloc: Global, messages: &[&str]) -> Result<Table, AllocError> {
+fn after_all(alloc: Global, messages: &[&str]) -> Result<Table, NoMemory> {
     let mut table = Table::empty(alloc);
     let mut stamp = 0u64;
     for words in messages {
@@ -100,7 +101,7 @@ fn holds(table: &Table, told: &[(&str, u64, u8)]) -> bool {
 }
 
 /// Whether the messages leave just that.
-fn leave(alloc: Global, messages: &[&str], told: &[(&str, u64, u8)]) -> Result<bool, AllocError> {
+fn leave(alloc: Global, messages: &[&str], told: &[(&str, u64, u8)]) -> Result<bool, NoMemory> {
     Ok(holds(&after_all(alloc, messages)?, told))
 }
 
@@ -128,7 +129,7 @@ fn entities_come_change_and_go(rt: HostRuntime) -> Result<(), Fail> {
 }
 
 /// Whether the given table stays, and ids are found whole.
-fn stays(alloc: Global) -> Result<bool, AllocError> {
+fn stays(alloc: Global) -> Result<bool, NoMemory> {
     let old = after(alloc, &Table::empty(alloc), 7, "~ +ab +b")?;
     let new = after(alloc, &old, 8, "~ -ab")?;
     let found = old.get("ab").map(|stored| stored.stamp) == Some(7);
@@ -143,7 +144,7 @@ fn the_given_table_stays(rt: HostRuntime) -> Result<(), Fail> {
 }
 
 /// So many of 997 ids in an order far from rising.
-fn many(alloc: Global, count: u64, deleted: Option<bool>) -> Result<Vec<Entity>, AllocError> {
+fn many(alloc: Global, count: u64, deleted: Option<bool>) -> Result<Vec<Entity>, NoMemory> {
     let mut entities = Vec::new(alloc);
     for n in 0..count {
         let number = 1000 + n % 997 * 367 % 997;
@@ -169,7 +170,7 @@ fn in_order(table: &Table) -> usize {
 }
 
 /// Whether so many ids are left after each of several large messages.
-fn large_ones(alloc: Global) -> Result<bool, AllocError> {
+fn large_ones(alloc: Global) -> Result<bool, NoMemory> {
     let mut table = Table::empty(alloc);
     for (count, deleted, left) in [
         (997, None, 997),

@@ -71,8 +71,8 @@ last_holds {A} says n P holds (field ∷ fields) before x first each e =
     step (value_under says n field) refl (λ now known h. last_holds says n P holds fields now x known each.1 h) e
   where
     step : (o : Option A) → value_under says n field ≡ o → ((now : Option A) → ((y : A) → now ≡ Some y → P y) → last_or now (filter_map (value_under says n) fields) ≡ Some x → P x) → last_or before (filter_map (value_under says n) (field ∷ fields)) ≡ Some x → P x
-    step None is rest e = rest before first (rw is value_under e)
-    step (Some y) is rest e = rest (Some y) (λ z now. holds field z each.0 (at_says says n field z (is ∙ now))) (rw is value_under e)
+    step None is rest e = rest before first (rw is at e)
+    step (Some y) is rest e = rest (Some y) (λ z now. holds field z each.0 (at_says says n field z (is ∙ now))) (rw is at e)
 
 last_same : {A : Type 0} (says : Payload → Option A) (n : ℕ) (fields others : List Field) → filter (λ field. is_some (value_under says n field)) fields ≡ filter (λ field. is_some (value_under says n field)) others → last_of says n fields ≡ last_of says n others
 unfolding last_of
@@ -222,8 +222,8 @@ text_is name n None x e = absurd (cc)
 text_is name n (Some bytes) x e = tested (is_utf8 bytes) refl e
   where
     tested : (b : Bool) → is_utf8 bytes ≡ b → as_text name n (Some bytes) ≡ Ok (Some x) → is_utf8 x ≡ true
-    tested true is e = let f = rw is value_under e in let same : bytes ≡ x = cc in rw (← same) is
-    tested false is e = let f = rw is value_under e in absurd (cc)
+    tested true is e = let f = rw is at e in let same : bytes ≡ x = cc in rw (← same) is
+    tested false is e = let f = rw is at e in absurd (cc)
 
 text_again : (name : Kind) (n : ℕ) (x : List ℕ) → is_utf8 x ≡ true → as_text name n (Some x) ≡ Ok (Some x)
 text_again name n x e = rw e refl

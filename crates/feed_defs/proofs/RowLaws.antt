@@ -229,7 +229,7 @@ joined_lawful {A} {B} a b low mid next high first second apart =
 
     shorter : (us ws : List Written) → length (flat_map field_bytes (us ++ ws)) < 2 ^ 64 → (length (flat_map field_bytes us) < 2 ^ 64) × (length (flat_map field_bytes ws) < 2 ^ 64)
     shorter us ws small =
-        let h : length (flat_map field_bytes us) + length (flat_map field_bytes ws) < 2 ^ 64 = rw (flat_map-append field_bytes us ws, length-append (flat_map field_bytes us) (flat_map field_bytes ws)) value_under small in
+        let h : length (flat_map field_bytes us) + length (flat_map field_bytes ws) < 2 ^ 64 = rw (flat_map-append field_bytes us ws, length-append (flat_map field_bytes us) (flat_map field_bytes ws)) at small in
         (omega arith, omega arith)
 
     keeps_front : (v : A × B) → filter a.is_known (map as_field (a.write v.0 ++ b.write v.1)) ≡ filter a.is_known (map as_field (a.write v.0))

@@ -11,16 +11,13 @@ use Rattle.rt_types.specs.declared.enums.Incrementality.TheVariants.{FullDataset
 use Rattle.rt_types.specs.declared.message.FeedMessage.{FeedMessage}
 use Rattle.feed_defs.specs.declared.history.Entry.{Entry}
 use Rattle.feed_defs.specs.declared.history.Stored.{Stored}
+use Rattle.text_defs.specs.Moments.{last_moment}
 use Rattle.feed_defs.specs.Rows.{Fault}
 use Rattle.feed_defs.specs.Table.{read}
 
 -- the most bytes that a message may have
 abbrev pub longest_message : ℕ
 longest_message = 16777216
-
--- the last second of the year 9999, since 1970
-abbrev pub last_moment : ℕ
-last_moment = 253402300799
 
 -- when a message was made (FeedHeader, `timestamp`); an absent stamp is 0
 abbrev pub stamp_of : FeedMessage → ℕ

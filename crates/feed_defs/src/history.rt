@@ -1,4 +1,4 @@
-// What a hub keeps.
+//! What a hub keeps.
 
 use rt_types::{Entity, FeedMessage};
 
@@ -7,13 +7,15 @@ use rt_types::{Entity, FeedMessage};
 pub struct Entry {
     /// Feeds are numbered from 0.
     pub feed: u32,
+    /// What the feed sent.
     pub message: FeedMessage,
 }
 
 /// An entity that a feed holds, with the time of the message that brought it.
 #[derive(Drop)]
 pub struct Stored {
+    /// The entity, whole.
     pub entity: Entity,
-    /// In seconds since 1970.
+    /// When that message was made, in seconds since 1970.
     pub stamp: u64,
 }

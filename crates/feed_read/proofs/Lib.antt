@@ -4,4 +4,3 @@ pub mod Numbers
 pub mod Texts
 pub mod Walks
 pub mod Wholes
-pub mod Worked

@@ -10,7 +10,8 @@ use Rattle.rt_types.specs.declared.fault.Kind.{Kind}
 use Rattle.pb_wire.specs.declared.part.Part.{Part}
 use Rattle.pb_wire.specs.Parts.{parts_seen}
 use Rattle.feed_read.specs.declared.fault.ReadFault.{ReadFault}
-use Rattle.feed_read.specs.Reads.{Reads}
+use Rattle.answer_defs.specs.Defined.{AsDefined}
+use Rattle.feed_read.specs.Causes.{cause_of}
 use Rattle.feed_read.specs.Grows.{with_more}
 use Rattle.feed_read.proofs.Joins.{with_more_none}
 
@@ -19,7 +20,7 @@ unfolding value fields_of_all
 value_single m bytes fields h = rw (h, append-nil) refl
 
 -- a message of one payload is that of its fields
-pub reads_single : {M : Type 0} (m : Message M) (kind : Kind) (bytes : List ℕ) (old new read : List Part) (r : Result M ReadFault) → kind ≡ m.kind → old ≡ [] → read ≡ new → with_more (parts_seen old) (fields_in kind bytes) ≡ Ok (parts_seen new) → Reads (m.of_fields (parts_seen read)) r → Reads (value m (bytes ∷ [])) r
+pub reads_single : {M : Type 0} (m : Message M) (kind : Kind) (bytes : List ℕ) (old new read : List Part) (r : Result M ReadFault) → kind ≡ m.kind → old ≡ [] → read ≡ new → with_more (parts_seen old) (fields_in kind bytes) ≡ Ok (parts_seen new) → AsDefined (λ x. x) cause_of (m.of_fields (parts_seen read)) r → AsDefined (λ x. x) cause_of (value m (bytes ∷ [])) r
 reads_single m kind bytes old new read r k o same h reads =
     let found : fields_in m.kind bytes ≡ Ok (parts_seen read) = rw (← k, same) (with_more_none (fields_in kind bytes) (parts_seen new) (rw o at h)) in
     rw (value_single m bytes (parts_seen read) found) reads

@@ -4,7 +4,8 @@ use Rattle.answer_defs.specs.Steps.{◌>>=◌}
 use Rattle.wire_defs.specs.Field.{Field}
 use Rattle.feed_defs.specs.Rows.{Fault}
 use Rattle.feed_read.specs.declared.fault.ReadFault.{ReadFault}
-use Rattle.feed_read.specs.Reads.{Fails}
+use Rattle.answer_defs.specs.Defined.{IsCause}
+use Rattle.feed_read.specs.Causes.{cause_of}
 
 -- fields with these before them, or the fault in their place
 abbrev pub with_more : List Field → Result (List Field) Fault → Result (List Field) Fault
@@ -13,4 +14,4 @@ with_more front told = told >>= λ more. Ok (front ++ more)
 -- the fields that were told of stand behind the old ones, or their first fault is the answer
 abbrev pub Grows : List Field → List Field → Result (List Field) Fault → Result (Unit {0}) ReadFault → Type 0
 Grows old new told (Ok done) = with_more old told ≡ Ok new
-Grows old new told (Err e) = Fails told e
+Grows old new told (Err e) = IsCause told (cause_of e)

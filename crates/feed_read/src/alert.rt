@@ -1,4 +1,4 @@
-// Alerts, as their tables list their fields.
+//! Alerts, as their tables list their fields.
 
 ghost use Rattle.feed_defs.specs.Table.{alert, time_range, entity_selector, translated_string, translation};
 

@@ -1,4 +1,4 @@
-// Which trip a message speaks of, as its table lists its fields.
+//! Which trip a message speaks of, as its table lists its fields.
 
 ghost use Rattle.feed_defs.specs.Table.{trip_descriptor};
 

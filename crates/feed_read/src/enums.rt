@@ -1,4 +1,4 @@
-// The enums of GTFS Realtime 2.0, by the numbers that name their values.
+//! The enums of GTFS Realtime 2.0, by the numbers that name their values.
 
 ghost use Rattle.std.specs.Prelude.{◌≡◌, ◌%◌, ◌^◌, Option};
 ghost use Rattle.std.specs.Option.{option_and_then};

@@ -1,8 +1,9 @@
-// Why no message was read.
+//! Why no message was read.
 
 ghost use Rattle.std.specs.Prelude.{◌≡◌};
 ghost use Rattle.feed_read.specs.declared.fault.ReadFault.TheVariants.{NoMemory};
 
+use crate::NoMemory;
 use rt_types::{Kind, What};
 use std::alloc::{AllocError, AllocFailed};
 use thiserror::Error;
@@ -13,11 +14,15 @@ pub enum ReadFault {
     /// The first fault of the bytes. Entities are numbered from 1 in the order of the message, up to
     /// 4294967295, at which the count stays; 0 stands for all that is in no entity. Field 0 stands for the
     /// whole message.
-    #[error("a malformed message")]
+    #[error("entity {entity}: {what:?} in {kind:?}, field {field}")]
     Malformed {
+        /// The number of the entity that it is in, or 0.
         entity: u32,
+        /// What is wrong.
         what: What,
+        /// The message within which it is wrong.
         kind: Kind,
+        /// The number of the field, or 0.
         field: u32,
     },
     /// Memory ran out.

@@ -1,10 +1,10 @@
-// The messages of a feed, as their tables list their fields.
+//! The messages of a feed, as their tables list their fields.
 
 ghost use Rattle.feed_defs.specs.Table.{header, entity, feed};
 
 use crate::fault::ReadFault;
 use crate::message::{Message, needed};
-use crate::nested::{boxed, embedded, numbered};
+use crate::nested::{embedded, numbered, shared};
 use crate::payload::{is_span, text};
 use crate::reader::Reader;
 use crate::scalar::{is_scalar, last};
@@ -56,9 +56,9 @@ impl Message for Entity {
         unknown: Bytes,
     ) -> Result<Entity, ReadFault> {
         let id = text(reader.alloc, Kind::FeedEntity, 1, parts)?;
-        let trip_update = boxed(reader, 3, parts)?;
-        let vehicle = boxed(reader, 4, parts)?;
-        let alert = boxed(reader, 5, parts)?;
+        let trip_update = shared(reader, 3, parts)?;
+        let vehicle = shared(reader, 4, parts)?;
+        let alert = shared(reader, 5, parts)?;
         Ok(Entity {
             id: needed(Kind::FeedEntity, 1, id)?,
             is_deleted: last(2, parts),

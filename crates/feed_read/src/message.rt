@@ -1,16 +1,18 @@
-// A message from its fields.
+//! A message from its fields.
 
 ghost use Rattle.std.specs.Prelude.{◌≡◌, [], ◌∷◌, IfOk};
 ghost use Rattle.feed_defs.specs.Rows.{unknown_bytes_of, required_value, value, Message as Table};
 ghost use Rattle.pb_wire.specs.Parts.{part_seen, parts_seen};
-ghost use Rattle.feed_read.specs.Reads.{Reads};
+ghost use Rattle.answer_defs.specs.Defined.{AsDefined};
+ghost use Rattle.feed_read.specs.Causes.{cause_of};
 
+use crate::NoMemory;
 use crate::fault::ReadFault;
 use crate::payload::add_parts;
 use crate::reader::Reader;
 use pb_wire::Part;
 use rt_types::{Bytes, Kind, What};
-use std::alloc::{AllocError, Global};
+use std::alloc::Global;
 
 /// A message of the reference, as its table says.
 pub trait Message: Drop {
@@ -31,11 +33,11 @@ pub trait Message: Drop {
         unknown: Bytes,
     ) -> Result<Self, ReadFault>
         requires { unknown ≡ unknown_bytes_of table.is_known (parts_seen parts.now) }
-        ensures { Reads (table.of_fields (parts_seen parts.now)) result };
+        ensures { AsDefined (λ x. x) cause_of (table.of_fields (parts_seen parts.now)) result };
 }
 
 /// The bytes of the parts that the message doesn't know, in order.
-fn unknown<M: Message>(alloc: Global, parts: &[Part<'_>]) -> Result<Bytes, AllocError>
+fn unknown<M: Message>(alloc: Global, parts: &[Part<'_>]) -> Result<Bytes, NoMemory>
     ensures { IfOk result (λ bytes. bytes ≡ unknown_bytes_of M.table.is_known (parts_seen parts.now)) }
 {
     let mut bytes = Vec::new(alloc);
@@ -49,7 +51,7 @@ fn unknown<M: Message>(alloc: Global, parts: &[Part<'_>]) -> Result<Bytes, Alloc
 
 /// The message of these parts, or the first fault in them.
 pub fn whole<'a, M: Message>(reader: &mut Reader<'a>, parts: &[Part<'a>]) -> Result<M, ReadFault>
-    ensures { Reads (M.table.of_fields (parts_seen parts.now)) result }
+    ensures { AsDefined (λ x. x) cause_of (M.table.of_fields (parts_seen parts.now)) result }
 {
     let unknown = unknown::<M>(reader.alloc, parts)?;
     M::of_parts(reader, parts, unknown)
@@ -57,7 +59,7 @@ pub fn whole<'a, M: Message>(reader: &mut Reader<'a>, parts: &[Part<'a>]) -> Res
 
 /// The message of these bytes, or the first fault in them.
 pub fn read_one<'a, M: Message>(reader: &mut Reader<'a>, bytes: &'a [u8]) -> Result<M, ReadFault>
-    ensures { Reads (value M.table (bytes.now ∷ [])) result }
+    ensures { AsDefined (λ x. x) cause_of (value M.table (bytes.now ∷ [])) result }
 {
     let mut parts = reader.take();
     add_parts(M::kind(), bytes, &mut parts)?;
@@ -68,7 +70,7 @@ pub fn read_one<'a, M: Message>(reader: &mut Reader<'a>, bytes: &'a [u8]) -> Res
 
 /// The value of a required field, or that it is missing.
 pub fn needed<A>(kind: Kind, number: u32, value: Option<A>) -> Result<A, ReadFault>
-    ensures { Reads (required_value kind number value) result }
+    ensures { AsDefined (λ x. x) cause_of (required_value kind number value) result }
 {
     match value {
         Some(found) => Ok(found),

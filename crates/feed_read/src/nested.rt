@@ -1,9 +1,10 @@
-// The kinds of fields that are messages: singular ones, merged of all their occurrences, and repeated ones.
+//! The kinds of fields that are messages: singular ones, merged of all their occurrences, and repeated ones.
 
 ghost use Rattle.std.specs.Prelude.{◌≡◌, [], ◌∷◌};
 ghost use Rattle.feed_defs.specs.Rows.{occurrences_of, span_in, fields_of_all, merged_message, value, values, with_entity_number, numbered_values};
 ghost use Rattle.pb_wire.specs.Parts.{parts_seen};
-ghost use Rattle.feed_read.specs.Reads.{Reads};
+ghost use Rattle.answer_defs.specs.Defined.{AsDefined};
+ghost use Rattle.feed_read.specs.Causes.{cause_of};
 ghost use Rattle.feed_read.specs.Grows.{Grows};
 
 use crate::fault::ReadFault;
@@ -11,7 +12,10 @@ use crate::message::{Message, read_one, whole};
 use crate::payload::{add_parts, count, last_span, span_at};
 use crate::reader::Reader;
 use pb_wire::Part;
-use rt_types::{Boxed, Items, Kind};
+use rt_types::{Items, Kind, Shared};
+
+// The most values that room is made for before the first is read: what bytes promise may be more than memory holds.
+const MOST_ROOM: usize = 64;
 
 /// Puts the fields of all payloads under this number behind the parts, in order.
 fn join_parts<'a>(
@@ -37,7 +41,8 @@ pub fn embedded<'a, M: Message>(
     number: u32,
     parts: &[Part<'a>],
 ) -> Result<Option<M>, ReadFault>
-    ensures { Reads (merged_message M.table (occurrences_of span_in number (parts_seen parts.now))) result }
+    ensures { AsDefined (λ x. x) cause_of
+        (merged_message M.table (occurrences_of span_in number (parts_seen parts.now))) result }
 {
     if last_span(number, parts).is_none() {
         return Ok(None);
@@ -49,16 +54,17 @@ pub fn embedded<'a, M: Message>(
     Ok(Some(message))
 }
 
-/// The same, in a box.
-pub fn boxed<'a, M: Message>(
+/// The same, to be shared.
+pub fn shared<'a, M: Message>(
     reader: &mut Reader<'a>,
     number: u32,
     parts: &[Part<'a>],
-) -> Result<Option<Boxed<M>>, ReadFault>
-    ensures { Reads (merged_message M.table (occurrences_of span_in number (parts_seen parts.now))) result }
+) -> Result<Option<Shared<M>>, ReadFault>
+    ensures { AsDefined (λ x. x) cause_of
+        (merged_message M.table (occurrences_of span_in number (parts_seen parts.now))) result }
 {
     match embedded(reader, number, parts)? {
-        Some(message) => Ok(Some(Boxed::new(reader.alloc, message)?)),
+        Some(message) => Ok(Some(Shared::new(reader.alloc, message)?)),
         None => Ok(None),
     }
 }
@@ -69,9 +75,10 @@ pub fn all<'a, M: Message>(
     number: u32,
     parts: &[Part<'a>],
 ) -> Result<Items<M>, ReadFault>
-    ensures { Reads (values M.table (occurrences_of span_in number (parts_seen parts.now))) result }
+    ensures { AsDefined (λ x. x) cause_of
+        (values M.table (occurrences_of span_in number (parts_seen parts.now))) result }
 {
-    let mut items = Vec::with_capacity(reader.alloc, count(number, parts))?;
+    let mut items = Vec::with_capacity(reader.alloc, count(number, parts).min(MOST_ROOM))?;
     for part in parts {
         if let Some(bytes) = span_at(number, part) {
             items.push(read_one(reader, bytes)?)?;
@@ -86,7 +93,8 @@ fn read_placed<'a, M: Message>(
     entity: u32,
     bytes: &'a [u8],
 ) -> Result<M, ReadFault>
-    ensures { Reads (with_entity_number entity (value M.table (bytes.now ∷ []))) result }
+    ensures { AsDefined (λ x. x) cause_of
+        (with_entity_number entity (value M.table (bytes.now ∷ []))) result }
 {
     match read_one(reader, bytes) {
         Err(
@@ -112,9 +120,10 @@ pub fn numbered<'a, M: Message>(
     number: u32,
     parts: &[Part<'a>],
 ) -> Result<Items<M>, ReadFault>
-    ensures { Reads (numbered_values M.table 0 (occurrences_of span_in number (parts_seen parts.now))) result }
+    ensures { AsDefined (λ x. x) cause_of
+        (numbered_values M.table 0 (occurrences_of span_in number (parts_seen parts.now))) result }
 {
-    let mut items = Vec::with_capacity(reader.alloc, count(number, parts))?;
+    let mut items = Vec::with_capacity(reader.alloc, count(number, parts).min(MOST_ROOM))?;
     let mut entity = 0u32;
     for part in parts {
         if let Some(bytes) = span_at(number, part) {

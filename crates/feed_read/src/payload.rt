@@ -1,10 +1,11 @@
-// The kinds of fields that are runs of bytes: the fields of a run, and texts.
+//! The kinds of fields that are runs of bytes: the fields of a run, and texts.
 
 ghost use Rattle.std.specs.Prelude.{◌≡◌, ◌≤◌, is_some, length};
 ghost use Rattle.std.specs.Option.{option_copied};
 ghost use Rattle.feed_defs.specs.Rows.{value_under, last_of, span_in, as_text, fields_in};
 ghost use Rattle.pb_wire.specs.Parts.{part_seen, parts_seen};
-ghost use Rattle.feed_read.specs.Reads.{Reads};
+ghost use Rattle.answer_defs.specs.Defined.{AsDefined};
+ghost use Rattle.feed_read.specs.Causes.{cause_of};
 ghost use Rattle.feed_read.specs.Grows.{Grows};
 
 use crate::fault::ReadFault;
@@ -64,7 +65,8 @@ pub fn text(
     number: u32,
     parts: &[Part<'_>],
 ) -> Result<Option<Text>, ReadFault>
-    ensures { Reads (as_text kind number (last_of span_in number (parts_seen parts.now))) result }
+    ensures { AsDefined (λ x. x) cause_of
+        (as_text kind number (last_of span_in number (parts_seen parts.now))) result }
 {
     let Some(bytes) = last_span(number, parts) else {
         return Ok(None);

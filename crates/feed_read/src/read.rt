@@ -1,7 +1,8 @@
-// The message of a byte list.
+//! The message of a byte list.
 
 ghost use Rattle.feed_defs.specs.Table.{read};
-ghost use Rattle.feed_read.specs.Reads.{Reads};
+ghost use Rattle.answer_defs.specs.Defined.{AsDefined};
+ghost use Rattle.feed_read.specs.Causes.{cause_of};
 
 use crate::fault::ReadFault;
 use crate::message::read_one;
@@ -12,7 +13,7 @@ use std::alloc::Global;
 /// The message of the bytes, or their first fault (GTFS Realtime 2.0; Protocol Buffers, "Encoding").
 #[tactic(auto, unfolding(feed_defs::specs::Table::read))]
 pub fn read_message(alloc: Global, bytes: &[u8]) -> Result<FeedMessage, ReadFault>
-    ensures { Reads (read bytes.now) result }
+    ensures { AsDefined (λ x. x) cause_of (read bytes.now) result }
 {
     read_one(&mut Reader::new(alloc), bytes)
 }

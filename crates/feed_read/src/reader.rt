@@ -1,4 +1,4 @@
-// What a reader of messages keeps from one message to the next.
+//! What a reader of messages keeps from one message to the next.
 
 ghost use Rattle.std.specs.Prelude.{◌≡◌, []};
 

@@ -1,4 +1,4 @@
-// Messages and faults from outside: bytes written by hand after the encoding guide of Protocol Buffers.
+//! Messages and faults from outside: bytes written by hand after the encoding guide of Protocol Buffers.
 
 use crate::message::{Message, read_one};
 use crate::nested::all;

@@ -1,4 +1,4 @@
-// Updates of trips, as their tables list their fields.
+//! Updates of trips, as their tables list their fields.
 
 ghost use Rattle.feed_defs.specs.Table.{trip_update, stop_time_update, stop_time_event, stop_time_properties};
 

@@ -1,4 +1,4 @@
-// Positions of vehicles, as their tables list their fields.
+//! Positions of vehicles, as their tables list their fields.
 
 ghost use Rattle.feed_defs.specs.Table.{vehicle_position, position, vehicle_descriptor};
 

@@ -1,4 +1,4 @@
-// A message with every field that the profile knows. Its bytes were made by protoc from a text.
+//! A message with every field that the profile knows. Its bytes were made by protoc from a text.
 
 use crate::read_message;
 use rt_types::{

@@ -3,7 +3,7 @@ use Rattle.std.proofs.Common.{◌≡◌, ◌<◌, ℕ, ◌+◌, ◌-◌, ◌*◌
 use Rattle.std.specs.Prelude.{◌^◌, Result, Ok, Err, OnOk}
 use Rattle.std.specs.List.{flat_map}
 use Rattle.std.proofs.lemmas.Grind.{flat_map-append}
-use Rattle.std.proofs.lemmas.List.{take_more, length-append}
+use Rattle.std.proofs.lemmas.List.{take_more, take-append-drop, length-append}
 use Rattle.std.proofs.Math.Seq.{take-append_seam, drop-append_seam}
 use Rattle.wire_defs.specs.Field.Payload.{Span}
 use Rattle.wire_defs.specs.Writing.{Written, varint, payload_bytes, field_bytes}
@@ -55,38 +55,31 @@ all_more n m xs i y old before after within item so_far appended =
     ∙ append_assoc old _ _
     ∙ ap (λ bs. old ++ bs) (sym (all_append n m (take i xs) y) ∙ ap (λ ys. flat_map field_bytes (write_all n m ys)) (ap (λ x. take i xs ++ x ∷ []) item ∙ sym (take_more xs i y within)))
 
--- content with its head behind it, once the two are swapped
-pub swapped_is : (n tag size start middle : ℕ) (old content one two all after : List ℕ) →
-    one ≡ old ++ content → two ≡ one ++ varint tag → all ≡ two ++ varint size → tag ≡ n * 8 + 2 → size ≡ middle - start
-    → start ≡ length old → middle ≡ length one
-    → after ≡ take start all ++ drop middle all ++ take (middle - start) (drop start all)
-    → after ≡ old ++ field_bytes (record { number = n; payload = Span content })
+-- content with its length before it, in place of the byte that was kept, behind its tag
+pub framed : {A E : Type 0} (r : Result A E) (n tag place : ℕ) (old content tagged kept all after : List ℕ) →
+    tagged ≡ old ++ varint tag → tag ≡ n * 8 + 2 → place ≡ length tagged → kept ≡ tagged ++ 0 ∷ [] → all ≡ kept ++ content
+    → OnOk r (after ≡ take place all ++ (varint (length (drop (place + 1) all)) ++ drop (place + 1) all))
+    → OnOk r (after ≡ old ++ field_bytes (record { number = n; payload = Span content }))
 unfolding field_bytes payload_bytes
-swapped_is n tag size start middle old content one two all after made tagged sized tag_is size_is begins ends swapped =
-    swapped
-    ∙ ap (λ bs. bs ++ drop middle all ++ take (middle - start) (drop start all)) front
-    ∙ ap (λ bs. old ++ bs ++ take (middle - start) (drop start all)) head
-    ∙ ap (λ bs. old ++ (varint (n * 8 + 2) ++ varint (length content)) ++ bs) body
-    ∙ append_assoc old (varint (n * 8 + 2) ++ varint (length content)) content
-    ∙ ap (λ bs. old ++ bs) (append_assoc (varint (n * 8 + 2)) (varint (length content)) content)
+framed (Ok x) n tag place old content tagged kept all after tagged_is tag_is begins kept_is whole measured =
+    measured
+    ∙ ap (λ bs. bs ++ (varint (length (drop (place + 1) all)) ++ drop (place + 1) all)) front
+    ∙ ap (λ bs. tagged ++ (varint (length bs) ++ bs)) behind
+    ∙ ap (λ bs. bs ++ (varint (length content) ++ content)) (tagged_is ∙ ap (λ k. old ++ varint k) tag_is)
+    ∙ append_assoc old (varint (n * 8 + 2)) (varint (length content) ++ content)
   where
-    span : middle - start ≡ length content
-    span = let both : length one ≡ length old + length content = ap length made ∙ length-append old content in omega arith
+    front : take place all ≡ tagged
+    front = ap (λ k. take k all) begins ∙ ap (take (length tagged)) (whole ∙ ap (λ bs. bs ++ content) kept_is ∙ append_assoc tagged (0 ∷ []) content) ∙ take-append_seam tagged _
 
-    whole : all ≡ old ++ (content ++ (varint (n * 8 + 2) ++ varint (length content)))
-    whole = sized ∙ ap (λ bs. bs ++ varint size) (tagged ∙ ap (λ bs. bs ++ varint tag) made) ∙ ap (λ k. ((old ++ content) ++ varint k) ++ varint size) tag_is ∙ ap (λ k. ((old ++ content) ++ varint (n * 8 + 2)) ++ varint k) (size_is ∙ span) ∙ simp append_assoc
+    behind : drop (place + 1) all ≡ content
+    behind = let size : place + 1 ≡ length kept = omega (arith, ap length kept_is, length-append tagged (0 ∷ [])) in ap (λ k. drop k all) size ∙ ap (drop (length kept)) whole ∙ drop-append_seam kept content
+framed (Err e) n tag place old content tagged kept all after tagged_is tag_is begins kept_is whole measured = tt
 
-    front : take start all ≡ old
-    front = ap (λ k. take k all) begins ∙ ap (take (length old)) whole ∙ take-append_seam old _
-
-    behind : drop start all ≡ content ++ (varint (n * 8 + 2) ++ varint (length content))
-    behind = ap (λ k. drop k all) begins ∙ ap (drop (length old)) whole ∙ drop-append_seam old _
-
-    body : take (middle - start) (drop start all) ≡ content
-    body = ap (λ k. take k (drop start all)) span ∙ ap (take (length content)) behind ∙ take-append_seam content _
-
-    head : drop middle all ≡ varint (n * 8 + 2) ++ varint (length content)
-    head = ap (λ k. drop k all) (ends ∙ ap length made) ∙ ap (drop (length (old ++ content))) (whole ∙ sym (append_assoc old content _)) ∙ drop-append_seam (old ++ content) _
+-- what stands up to a place stays, and so does what stood before it
+pub starts_up_to : (old tagged all after : List ℕ) (place : ℕ) → StartsWith old tagged → place ≡ length tagged → StartsWith tagged all → take place after ≡ take place all → StartsWith old after
+starts_up_to old tagged all after place from is onward same =
+    let front : take place after ≡ tagged = same ∙ ap (λ k. take k all) is ∙ ap (take (length tagged)) onward.whole ∙ take-append_seam tagged onward.more in
+    starts_on old tagged after from (record { more = drop place after; whole = sym (take-append-drop place after) ∙ ap (λ bs. bs ++ drop place after) front })
 
 -- a message that was written within a vector reads again
 pub written_again : {A E : Type 0} (r : Result A E) (m : FeedMessage) (before after : List ℕ) → length after < 2 ^ 64

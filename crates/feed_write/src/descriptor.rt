@@ -1,17 +1,17 @@
-// Which trip a message speaks of (GTFS Realtime 2.0, TripDescriptor), by rising number of its fields.
+//! Which trip a message speaks of (GTFS Realtime 2.0, TripDescriptor), by rising number of its fields.
 
 ghost use Rattle.feed_defs.specs.Table.{trip_descriptor};
 
+use crate::NoMemory;
 use crate::fields::{put_scalar, put_text_if, put_unknown};
 use crate::message::Message;
 use rt_types::TripRef;
-use std::alloc::AllocError;
 
 impl Message for TripRef {
     ghost table = { trip_descriptor };
 
     #[tactic(auto, unfolding(feed_defs::specs::Rows::message_bytes), using(crate::proofs::Spelling::puts))]
-    fn put(&self, out: &mut Vec<u8>) -> Result<(), AllocError> {
+    fn put(&self, out: &mut Vec<u8>) -> Result<(), NoMemory> {
         put_text_if(1, &self.trip_id, out)?;
         put_text_if(2, &self.start_time, out)?;
         put_text_if(3, &self.start_date, out)?;

@@ -1,4 +1,4 @@
-// The numbers of the enums of GTFS Realtime 2.0.
+//! The numbers of the enums of GTFS Realtime 2.0.
 
 ghost use Rattle.std.specs.Prelude.{◌≡◌};
 ghost use Rattle.wire_defs.specs.Field.Payload.{Varint};

@@ -1,24 +1,24 @@
-// How each kind of field is written.
+//! How each kind of field is written.
 
-ghost use Rattle.std.specs.Prelude.{◌≡◌, ◌≤◌, ◌-◌, ◌++◌, take, drop, length, OnOk};
+ghost use Rattle.std.specs.Prelude.{◌≡◌, ◌≤◌, ◌++◌, OnOk};
 ghost use Rattle.std.specs.List.{flat_map};
 ghost use Rattle.wire_defs.specs.Field.Payload.{Span};
 ghost use Rattle.wire_defs.specs.Writing.{field_bytes};
 ghost use Rattle.feed_defs.specs.Rows.{message_bytes, write_if, write_all, degrees_payload};
 ghost use Rattle.feed_write.specs.Puts.{StartsWith};
 
+use crate::NoMemory;
 use crate::message::Message;
 use crate::scalar::Scalar;
-use pb_wire::{write_field, write_four, write_scalar, write_varint};
-use rt_types::{Boxed, Bytes, Degrees, Items, Text};
-use std::alloc::AllocError;
+use pb_wire::{write_field, write_four, write_length, write_scalar, write_varint};
+use rt_types::{Bytes, Degrees, Items, Shared, Text};
 
 /// Appends a number, where there is one.
 pub fn put_scalar<S: Scalar>(
     number: u32,
     value: Option<S>,
     out: &mut Vec<u8>,
-) -> Result<(), AllocError>
+) -> Result<(), NoMemory>
     requires first { 1 ≤ number }
     requires last { number ≤ 536870911 }
     ensures written { OnOk result (out.new.items ≡ out.old.items ++ flat_map field_bytes (write_if number S.payload value)) }
@@ -31,7 +31,7 @@ pub fn put_scalar<S: Scalar>(
 }
 
 /// Appends a text.
-pub fn put_text(number: u32, text: &Text, out: &mut Vec<u8>) -> Result<(), AllocError>
+pub fn put_text(number: u32, text: &Text, out: &mut Vec<u8>) -> Result<(), NoMemory>
     requires first { 1 ≤ number }
     requires last { number ≤ 536870911 }
     ensures written { OnOk result (out.new.items ≡ out.old.items ++ field_bytes (record { number = number; payload = Span text.now })) }
@@ -41,7 +41,7 @@ pub fn put_text(number: u32, text: &Text, out: &mut Vec<u8>) -> Result<(), Alloc
 }
 
 /// Appends a text, where there is one.
-pub fn put_text_if(number: u32, text: &Option<Text>, out: &mut Vec<u8>) -> Result<(), AllocError>
+pub fn put_text_if(number: u32, text: &Option<Text>, out: &mut Vec<u8>) -> Result<(), NoMemory>
     requires first { 1 ≤ number }
     requires last { number ≤ 536870911 }
     ensures written { OnOk result (out.new.items ≡ out.old.items ++ flat_map field_bytes (write_if number Span text.now)) }
@@ -54,7 +54,7 @@ pub fn put_text_if(number: u32, text: &Option<Text>, out: &mut Vec<u8>) -> Resul
 }
 
 /// Appends degrees, as the four bytes of their float.
-pub fn put_degrees(number: u32, value: Degrees, out: &mut Vec<u8>) -> Result<(), AllocError>
+pub fn put_degrees(number: u32, value: Degrees, out: &mut Vec<u8>) -> Result<(), NoMemory>
     requires first { 1 ≤ number }
     requires last { number ≤ 536870911 }
     ensures written { OnOk result (out.new.items ≡ out.old.items ++ field_bytes (record { number = number; payload = degrees_payload value })) }
@@ -64,24 +64,18 @@ pub fn put_degrees(number: u32, value: Degrees, out: &mut Vec<u8>) -> Result<(),
 }
 
 /// Appends a message, as its length and its bytes.
-pub fn put_message<M: Message>(
-    number: u32,
-    message: &M,
-    out: &mut Vec<u8>,
-) -> Result<(), AllocError>
+pub fn put_message<M: Message>(number: u32, message: &M, out: &mut Vec<u8>) -> Result<(), NoMemory>
     requires first { 1 ≤ number }
     requires last { number ≤ 536870911 }
     ensures written { OnOk result (out.new.items ≡ out.old.items ++ field_bytes (record { number = number; payload = Span (message_bytes M.table message.now) })) }
     ensures begins { StartsWith out.old.items out.new.items }
 {
-    let start = out.len();
-    message.put(out)?;
-    let end = out.len();
-    // The length is known only now: the head is written behind the content, and turned in front of it.
     write_varint(u64::from(number) * 8 + 2, out)?;
-    write_varint((end - start) as u64, out)?;
-    swap_ends(out, start, end);
-    Ok(())
+    // The length is known only behind the content: a byte is kept for it, which is enough for most.
+    let place = out.len();
+    out.push(0)?;
+    message.put(out)?;
+    write_length(place, out)
 }
 
 /// Appends a message, where there is one.
@@ -89,7 +83,7 @@ pub fn put_embedded<M: Message>(
     number: u32,
     message: &Option<M>,
     out: &mut Vec<u8>,
-) -> Result<(), AllocError>
+) -> Result<(), NoMemory>
     requires first { 1 ≤ number }
     requires last { number ≤ 536870911 }
     ensures written { OnOk result (out.new.items ≡ out.old.items ++ flat_map field_bytes (write_if number (λ x. Span (message_bytes M.table x)) message.now)) }
@@ -102,11 +96,11 @@ pub fn put_embedded<M: Message>(
 }
 
 /// Appends a message that stands in a box, where there is one.
-pub fn put_boxed<M: Message>(
+pub fn put_shared<M: Message>(
     number: u32,
-    message: &Option<Boxed<M>>,
+    message: &Option<Shared<M>>,
     out: &mut Vec<u8>,
-) -> Result<(), AllocError>
+) -> Result<(), NoMemory>
     requires first { 1 ≤ number }
     requires last { number ≤ 536870911 }
     ensures written { OnOk result (out.new.items ≡ out.old.items ++ flat_map field_bytes (write_if number (λ x. Span (message_bytes M.table x)) message.now)) }
@@ -119,7 +113,7 @@ pub fn put_boxed<M: Message>(
 }
 
 // Appends the messages, each as a field of that number.
-fn put_all<M: Message>(number: u32, messages: &[M], out: &mut Vec<u8>) -> Result<(), AllocError>
+fn put_all<M: Message>(number: u32, messages: &[M], out: &mut Vec<u8>) -> Result<(), NoMemory>
     requires first { 1 ≤ number }
     requires last { number ≤ 536870911 }
     ensures written { OnOk result (out.new.items ≡ out.old.items ++ flat_map field_bytes (write_all number M.table messages.now)) }
@@ -136,7 +130,7 @@ pub fn put_items<M: Message>(
     number: u32,
     messages: &Items<M>,
     out: &mut Vec<u8>,
-) -> Result<(), AllocError>
+) -> Result<(), NoMemory>
     requires first { 1 ≤ number }
     requires last { number ≤ 536870911 }
     ensures written { OnOk result (out.new.items ≡ out.old.items ++ flat_map field_bytes (write_all number M.table messages.now)) }
@@ -146,20 +140,9 @@ pub fn put_items<M: Message>(
 }
 
 /// Appends the fields that a message doesn't know, as they came.
-pub fn put_unknown(bytes: &Bytes, out: &mut Vec<u8>) -> Result<(), AllocError>
+pub fn put_unknown(bytes: &Bytes, out: &mut Vec<u8>) -> Result<(), NoMemory>
     ensures written { OnOk result (out.new.items ≡ out.old.items ++ bytes.now) }
     ensures begins { StartsWith out.old.items out.new.items }
 {
     out.extend_from_slice(bytes.as_slice())
-}
-
-/// Turns what stands from `middle` on in front of what stands from `start` on.
-fn swap_ends(out: &mut Vec<u8>, start: usize, middle: usize)
-    requires ordered { start ≤ middle }
-    requires within { middle ≤ length out.old.items }
-    ensures { out.new.items ≡ take start out.old.items ++ drop middle out.old.items ++ take (middle - start) (drop start out.old.items) }
-{
-    let turned = out.len() - middle;
-    let tail = &mut out[start..];
-    tail.rotate_right(turned);
 }

@@ -1,17 +1,17 @@
-// What a message does to be written.
+//! What a message does to be written.
 
 ghost use Rattle.std.specs.Prelude.{◌≡◌, ◌++◌, OnOk, OnErr};
 ghost use Rattle.feed_defs.specs.Rows.{message_bytes, Message as Table};
 ghost use Rattle.feed_write.specs.Puts.{StartsWith};
 
-use std::alloc::AllocError;
+use crate::NoMemory;
 
 /// A message of the reference, as its table says.
 pub trait Message {
     ghost table: { Table Self };
 
     /// Appends the bytes of the message: its fields by rising number, and then those that it doesn't know.
-    fn put(&self, out: &mut Vec<u8>) -> Result<(), AllocError>
+    fn put(&self, out: &mut Vec<u8>) -> Result<(), NoMemory>
         ensures written { OnOk result (out.new.items ≡ out.old.items ++ message_bytes table self.now) }
         ensures begins { StartsWith out.old.items out.new.items };
 }

@@ -1,4 +1,4 @@
-// Numbers that are written as varints.
+//! Numbers that are written as varints.
 
 ghost use Rattle.std.specs.Prelude.{◌≡◌};
 ghost use Rattle.wire_defs.specs.Field.{Payload};

@@ -1,24 +1,24 @@
-// Bytes of whole messages, and ids under a prefix, with ample memory.
+//! Bytes of whole messages, and ids under a prefix, with ample memory.
 
-use crate::{rename, write_message};
+use crate::{NoMemory, rename, write_message};
 use rt_types::{
-    Alert, Boxed, Bytes, Cause, Degrees, Effect, Entities, Entity, Event, FeedMessage, Header,
-    Incrementality, Period, Periods, Position, Selector, Selectors, StopProps, StopRelation,
-    StopStatus, StopUpdate, StopUpdates, Text, Translated, Translation, Translations, TripRef,
-    TripRelation, TripUpdate, Vehicle, VehicleRef,
+    Alert, Bytes, Cause, Degrees, Effect, Entities, Entity, Event, FeedMessage, Header,
+    Incrementality, Period, Periods, Position, Selector, Selectors, Shared, StopProps,
+    StopRelation, StopStatus, StopUpdate, StopUpdates, Text, Translated, Translation, Translations,
+    TripRef, TripRelation, TripUpdate, Vehicle, VehicleRef,
 };
-use std::alloc::{AllocError, Global};
+use std::alloc::Global;
 use std::test::Fail;
 
 fn none(alloc: Global) -> Bytes {
     Bytes::from_vec(Vec::new(alloc))
 }
 
-fn id(alloc: Global, text: &str) -> Result<Option<Text>, AllocError> {
+fn id(alloc: Global, text: &str) -> Result<Option<Text>, NoMemory> {
     Ok(Some(Text::new(alloc, text)?))
 }
 
-fn trip(alloc: Global, trip_id: &str) -> Result<TripRef, AllocError> {
+fn trip(alloc: Global, trip_id: &str) -> Result<TripRef, NoMemory> {
     Ok(TripRef {
         trip_id: id(alloc, trip_id)?,
         start_time: None,
@@ -30,7 +30,7 @@ fn trip(alloc: Global, trip_id: &str) -> Result<TripRef, AllocError> {
     })
 }
 
-fn stop(alloc: Global) -> Result<StopUpdate, AllocError> {
+fn stop(alloc: Global) -> Result<StopUpdate, NoMemory> {
     Ok(StopUpdate {
         stop_sequence: Some(4_000_000_000),
         arrival: Some(Event {
@@ -55,7 +55,7 @@ fn stop(alloc: Global) -> Result<StopUpdate, AllocError> {
     })
 }
 
-fn trip_update(alloc: Global) -> Result<TripUpdate, AllocError> {
+fn trip_update(alloc: Global) -> Result<TripUpdate, NoMemory> {
     let mut stops = Vec::new(alloc);
     stops.push(stop(alloc)?)?;
     Ok(TripUpdate {
@@ -73,7 +73,7 @@ fn trip_update(alloc: Global) -> Result<TripUpdate, AllocError> {
     })
 }
 
-fn vehicle(alloc: Global) -> Result<Vehicle, AllocError> {
+fn vehicle(alloc: Global) -> Result<Vehicle, NoMemory> {
     Ok(Vehicle {
         trip: Some(TripRef {
             trip_id: id(alloc, "T2")?,
@@ -103,7 +103,7 @@ fn vehicle(alloc: Global) -> Result<Vehicle, AllocError> {
     })
 }
 
-fn selector(alloc: Global) -> Result<Selector, AllocError> {
+fn selector(alloc: Global) -> Result<Selector, NoMemory> {
     Ok(Selector {
         agency_id: id(alloc, "A")?,
         route_id: id(alloc, "")?,
@@ -123,7 +123,7 @@ fn selector(alloc: Global) -> Result<Selector, AllocError> {
     })
 }
 
-fn alert(alloc: Global) -> Result<Alert, AllocError> {
+fn alert(alloc: Global) -> Result<Alert, NoMemory> {
     let mut periods = Vec::new(alloc);
     periods.push(Period {
         start: Some(10),
@@ -160,18 +160,18 @@ fn alert(alloc: Global) -> Result<Alert, AllocError> {
     })
 }
 
-fn entity(alloc: Global) -> Result<Entity, AllocError> {
+fn entity(alloc: Global) -> Result<Entity, NoMemory> {
     Ok(Entity {
         id: Text::new(alloc, "x")?,
         is_deleted: None,
-        trip_update: Some(Boxed::new(alloc, trip_update(alloc)?)?),
-        vehicle: Some(Boxed::new(alloc, vehicle(alloc)?)?),
-        alert: Some(Boxed::new(alloc, alert(alloc)?)?),
+        trip_update: Some(Shared::new(alloc, trip_update(alloc)?)?),
+        vehicle: Some(Shared::new(alloc, vehicle(alloc)?)?),
+        alert: Some(Shared::new(alloc, alert(alloc)?)?),
         unknown: Bytes::new(alloc, b"\x4a\x02hi")?,
     })
 }
 
-fn message(alloc: Global) -> Result<FeedMessage, AllocError> {
+fn message(alloc: Global) -> Result<FeedMessage, NoMemory> {
     let mut entities = Vec::new(alloc);
     entities.push(entity(alloc)?)?;
     Ok(FeedMessage {
@@ -194,7 +194,7 @@ const BYTES: &[u8] =
 fn a_message_is_appended_field_by_field(rt: HostRuntime) -> Result<(), Fail> {
     let alloc = rt.alloc();
     let mut out = vec![in alloc; 7u8]?;
-    write_message(alloc, &message(alloc)?, &mut out)?;
+    write_message(&message(alloc)?, &mut out)?;
     assert_eq!(rt;
         out.as_slice().strip_prefix(b"\x07".as_slice()),
         Some(BYTES)

@@ -1,17 +1,17 @@
-// Updates of trips (GTFS Realtime 2.0, TripUpdate), each a listing of its fields by rising number.
+//! Updates of trips (GTFS Realtime 2.0, TripUpdate), each a listing of its fields by rising number.
 
 ghost use Rattle.feed_defs.specs.Table.{stop_time_event, stop_time_properties, stop_time_update, trip_update};
 
+use crate::NoMemory;
 use crate::fields::{put_embedded, put_items, put_message, put_scalar, put_text_if, put_unknown};
 use crate::message::Message;
 use rt_types::{Event, StopProps, StopUpdate, TripUpdate};
-use std::alloc::AllocError;
 
 impl Message for Event {
     ghost table = { stop_time_event };
 
     #[tactic(auto, unfolding(feed_defs::specs::Rows::message_bytes), using(crate::proofs::Spelling::puts))]
-    fn put(&self, out: &mut Vec<u8>) -> Result<(), AllocError> {
+    fn put(&self, out: &mut Vec<u8>) -> Result<(), NoMemory> {
         put_scalar(1, self.delay, out)?;
         put_scalar(2, self.time, out)?;
         put_scalar(3, self.uncertainty, out)?;
@@ -23,7 +23,7 @@ impl Message for StopProps {
     ghost table = { stop_time_properties };
 
     #[tactic(auto, unfolding(feed_defs::specs::Rows::message_bytes), using(crate::proofs::Spelling::puts))]
-    fn put(&self, out: &mut Vec<u8>) -> Result<(), AllocError> {
+    fn put(&self, out: &mut Vec<u8>) -> Result<(), NoMemory> {
         put_text_if(1, &self.assigned_stop_id, out)?;
         put_unknown(&self.unknown, out)
     }
@@ -33,7 +33,7 @@ impl Message for StopUpdate {
     ghost table = { stop_time_update };
 
     #[tactic(auto, unfolding(feed_defs::specs::Rows::message_bytes), using(crate::proofs::Spelling::puts))]
-    fn put(&self, out: &mut Vec<u8>) -> Result<(), AllocError> {
+    fn put(&self, out: &mut Vec<u8>) -> Result<(), NoMemory> {
         put_scalar(1, self.stop_sequence, out)?;
         put_embedded(2, &self.arrival, out)?;
         put_embedded(3, &self.departure, out)?;
@@ -48,7 +48,7 @@ impl Message for TripUpdate {
     ghost table = { trip_update };
 
     #[tactic(auto, unfolding(feed_defs::specs::Rows::message_bytes), using(crate::proofs::Spelling::puts))]
-    fn put(&self, out: &mut Vec<u8>) -> Result<(), AllocError> {
+    fn put(&self, out: &mut Vec<u8>) -> Result<(), NoMemory> {
         put_message(1, &self.trip, out)?;
         put_items(2, &self.stop_time_update, out)?;
         put_embedded(3, &self.vehicle, out)?;

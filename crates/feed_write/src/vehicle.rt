@@ -1,17 +1,17 @@
-// Positions of vehicles (GTFS Realtime 2.0, VehiclePosition), each a listing of its fields by rising number.
+//! Positions of vehicles (GTFS Realtime 2.0, VehiclePosition), each a listing of its fields by rising number.
 
 ghost use Rattle.feed_defs.specs.Table.{vehicle_descriptor, position, vehicle_position};
 
+use crate::NoMemory;
 use crate::fields::{put_degrees, put_embedded, put_scalar, put_text_if, put_unknown};
 use crate::message::Message;
 use rt_types::{Position, Vehicle, VehicleRef};
-use std::alloc::AllocError;
 
 impl Message for VehicleRef {
     ghost table = { vehicle_descriptor };
 
     #[tactic(auto, unfolding(feed_defs::specs::Rows::message_bytes), using(crate::proofs::Spelling::puts))]
-    fn put(&self, out: &mut Vec<u8>) -> Result<(), AllocError> {
+    fn put(&self, out: &mut Vec<u8>) -> Result<(), NoMemory> {
         put_text_if(1, &self.id, out)?;
         put_text_if(2, &self.label, out)?;
         put_text_if(3, &self.license_plate, out)?;
@@ -23,7 +23,7 @@ impl Message for Position {
     ghost table = { position };
 
     #[tactic(auto, unfolding(feed_defs::specs::Rows::message_bytes), using(crate::proofs::Spelling::puts))]
-    fn put(&self, out: &mut Vec<u8>) -> Result<(), AllocError> {
+    fn put(&self, out: &mut Vec<u8>) -> Result<(), NoMemory> {
         put_degrees(1, self.latitude, out)?;
         put_degrees(2, self.longitude, out)?;
         put_unknown(&self.unknown, out)
@@ -34,7 +34,7 @@ impl Message for Vehicle {
     ghost table = { vehicle_position };
 
     #[tactic(auto, unfolding(feed_defs::specs::Rows::message_bytes), using(crate::proofs::Spelling::puts))]
-    fn put(&self, out: &mut Vec<u8>) -> Result<(), AllocError> {
+    fn put(&self, out: &mut Vec<u8>) -> Result<(), NoMemory> {
         put_embedded(1, &self.trip, out)?;
         put_embedded(2, &self.position, out)?;
         put_scalar(3, self.current_stop_sequence, out)?;

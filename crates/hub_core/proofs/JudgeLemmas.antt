@@ -7,7 +7,8 @@ use Rattle.feed_defs.specs.Table.{read}
 use Rattle.feed_defs.specs.History.{Refusal as Cause, well_formed, sound, if_read, longest_message}
 use Rattle.feed_defs.specs.History.Refusal.{TooLong}
 use Rattle.hub_core.specs.declared.refusal.Refusal.{Refusal}
-use Rattle.hub_core.specs.Answers.{Judges}
+use Rattle.answer_defs.specs.Defined.{AsDefined}
+use Rattle.hub_core.specs.Answers.{cause_of}
 
 fits : (n most : ℕ) → n ≤ most → nat_lt most n ≡ false
 fits n most h = grind (arith, nat_tests)
@@ -17,5 +18,5 @@ of_read : (bytes : List ℕ) (m : FeedMessage) → length bytes ≤ longest_mess
 unfolding well_formed
 of_read bytes m h r = ap (λ b. if b then Err (TooLong (length bytes)) else if_read (read bytes)) (fits (length bytes) longest_message h) ∙ ap if_read r
 
-pub judged_read : (bytes : List ℕ) (m : FeedMessage) (r : Result FeedMessage Refusal) → length bytes ≤ longest_message → read bytes ≡ Ok m → Judges (sound m) r → Judges (well_formed bytes) r
-judged_read bytes m r h is judgement = subst (λ told. Judges told r) (sym (of_read bytes m h is)) judgement
+pub judged_read : (bytes : List ℕ) (m : FeedMessage) (r : Result FeedMessage Refusal) → length bytes ≤ longest_message → read bytes ≡ Ok m → AsDefined (λ m. m) cause_of (sound m) r → AsDefined (λ m. m) cause_of (well_formed bytes) r
+judged_read bytes m r h is judgement = subst (λ told. AsDefined (λ m. m) cause_of told r) (sym (of_read bytes m h is)) judgement

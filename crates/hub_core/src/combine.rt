@@ -1,4 +1,4 @@
-// The one feed that the hub makes of what its feeds hold.
+//! The one feed that the hub makes of what its feeds hold.
 
 ghost use Rattle.std.specs.Prelude.{◌≡◌, ◌++◌, map, length, IfOk, OnOk};
 ghost use Rattle.std.specs.List.{flat_map, enumerate_from};
@@ -7,7 +7,8 @@ ghost use Rattle.hub_core.specs.Hub.{greatest, tabled_entities, message_of};
 
 use entity_table::Table;
 use rt_types::{Bytes, Copied, Entities, Entity, FeedMessage, Header, Incrementality, Text};
-use std::alloc::{AllocError, Global};
+use crate::NoMemory;
+use std::alloc::Global;
 
 /// The whole data set of these feeds, whose last stamps, in seconds since 1970, and tables are given.
 pub fn combined_message(
@@ -15,7 +16,7 @@ pub fn combined_message(
     names: &[Text],
     stamps: &[u64],
     tables: &[Table],
-) -> Result<FeedMessage, AllocError>
+) -> Result<FeedMessage, NoMemory>
     requires { length tables.now ≡ length names.now }
     ensures { IfOk result (λ message. message ≡ message_of names.now stamps.now tables.now) }
 {
@@ -48,7 +49,7 @@ fn named_entities(
     alloc: Global,
     names: &[Text],
     tables: &[Table],
-) -> Result<Vec<Entity>, AllocError>
+) -> Result<Vec<Entity>, NoMemory>
     requires { length tables.now ≡ length names.now }
     ensures { IfOk result (λ entities. entities.items ≡ flat_map (tabled_entities tables.now) (enumerate_from 0 names.now)) }
 {
@@ -65,7 +66,7 @@ fn push_named(
     feed: &str,
     table: &Table,
     entities: &mut Vec<Entity>,
-) -> Result<(), AllocError>
+) -> Result<(), NoMemory>
     ensures { OnOk result (entities.new.items ≡ entities.old.items ++ map (λ change. entity_under_feed feed.now change.1.entity) table.now) }
 {
     for stored in table.iter() {
@@ -75,7 +76,7 @@ fn push_named(
 }
 
 /// The entity under its feed's name, `<feed>:<id>`.
-fn named(alloc: Global, feed: &str, entity: &Entity) -> Result<Entity, AllocError>
+fn named(alloc: Global, feed: &str, entity: &Entity) -> Result<Entity, NoMemory>
     ensures { IfOk result (λ same. same ≡ entity_under_feed feed.now entity.now) }
 {
     let own = entity.id.as_str();

@@ -1,4 +1,4 @@
-// A hub that keeps its history.
+//! A hub that keeps its history.
 
 ghost use Rattle.std.specs.Prelude.{◌≡◌, ◌<◌, [], length, replicate, IfOk};
 ghost use Rattle.feed_defs.specs.Combined.{combined};
@@ -13,7 +13,8 @@ use entity_table::{Table, apply};
 use feed_defs::Entry;
 use feed_write::write_message;
 use rt_types::Text;
-use std::alloc::{AllocError, Global};
+use crate::NoMemory;
+use std::alloc::Global;
 use std::marker::Model;
 
 /// A hub without timetables that keeps all that it accepted.
@@ -39,7 +40,7 @@ impl Model for ReplayHub {
 
 impl ReplayHub {
     /// A hub with these feeds, numbered from 0, and no messages.
-    pub fn plain(alloc: Global, names: Vec<Text>) -> Result<ReplayHub, AllocError>
+    pub fn plain(alloc: Global, names: Vec<Text>) -> Result<ReplayHub, NoMemory>
         ensures { IfOk result (λ hub. hub ≡ record { names = names.items; history = [] }) }
     {
         let stamps = vec![in alloc; 0; names.len()]?;
@@ -72,7 +73,7 @@ impl ReplayHub {
     }
 
     /// The bytes of the whole data set of all feeds, under their names.
-    pub fn combined(&self) -> Result<Vec<u8>, AllocError>
+    pub fn combined(&self) -> Result<Vec<u8>, NoMemory>
         ensures { IfOk result (λ bytes. bytes.items ≡ combined self.now.names self.now.history) }
     {
         let alloc = *self.history.allocator();
@@ -83,13 +84,13 @@ impl ReplayHub {
             self.tables.as_slice(),
         )?;
         let mut bytes = Vec::new(alloc);
-        write_message(alloc, &message, &mut bytes)?;
+        write_message(&message, &mut bytes)?;
         Ok(bytes)
     }
 }
 
 /// The tables of so many feeds that have sent nothing.
-fn empty_tables(alloc: Global, count: usize) -> Result<Vec<Table>, AllocError>
+fn empty_tables(alloc: Global, count: usize) -> Result<Vec<Table>, NoMemory>
     ensures { IfOk result (λ tables. tables.items ≡ replicate count []) }
 {
     let mut tables = Vec::with_capacity(alloc, count)?;

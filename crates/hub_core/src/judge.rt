@@ -1,24 +1,23 @@
-// The judgement of an offered message.
+//! The judgement of an offered message.
 
 ghost use Rattle.std.specs.Prelude.{◌≡◌};
 ghost use Rattle.feed_defs.specs.History.{judgement_of, well_formed, sound, has_version, has_moment, stamp_of};
-ghost use Rattle.hub_core.specs.Answers.{Judges};
+ghost use Rattle.answer_defs.specs.Defined.{AsDefined};
+ghost use Rattle.hub_core.specs.Answers.{cause_of};
 
 use crate::refusal::Refusal;
 use feed_read::{ReadFault, read_message};
 use rt_types::{FeedMessage, Header};
 use std::alloc::Global;
+use texts::LAST_MOMENT;
 
 /// The most bytes that a message may have.
 const LONGEST_MESSAGE: usize = 16_777_216;
 
-/// The last second of the year 9999, since 1970.
-const LAST_MOMENT: u64 = 253_402_300_799;
-
 /// The message of the bytes, where it is well-formed and its stamp is above `last`, which is in seconds
 /// since 1970; else why it is refused.
 pub fn check(alloc: Global, last: u64, bytes: &[u8]) -> Result<FeedMessage, Refusal>
-    ensures { Judges (judgement_of last bytes.now) result }
+    ensures { AsDefined (λ m. m) cause_of (judgement_of last bytes.now) result }
 {
     let message = formed(alloc, bytes)?;
     let got = stamp(&message);
@@ -31,7 +30,7 @@ pub fn check(alloc: Global, last: u64, bytes: &[u8]) -> Result<FeedMessage, Refu
 /// The message of well-formed bytes: at most 16,777,216 of them, that read as a message of the versions
 /// 1.0 or 2.0 with a stamp up to the end of the year 9999.
 fn formed(alloc: Global, bytes: &[u8]) -> Result<FeedMessage, Refusal>
-    ensures { Judges (well_formed bytes.now) result }
+    ensures { AsDefined (λ m. m) cause_of (well_formed bytes.now) result }
 {
     if bytes.len() > LONGEST_MESSAGE {
         return Err(Refusal::TooLong {
@@ -59,7 +58,7 @@ fn formed(alloc: Global, bytes: &[u8]) -> Result<FeedMessage, Refusal>
 
 /// The message, where it has a version and a stamp that a hub takes.
 fn sound(message: FeedMessage) -> Result<FeedMessage, Refusal>
-    ensures { Judges (sound message) result }
+    ensures { AsDefined (λ m. m) cause_of (sound message) result }
 {
     if !has_version(&message) {
         return Err(other_version(message));

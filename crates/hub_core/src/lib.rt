@@ -10,7 +10,6 @@
 mod combine;
 mod hub;
 mod judge;
-mod laws;
 mod refusal;
 #[cfg(test)]
 mod tests;
@@ -18,6 +17,5 @@ mod tests;
 pub use feed_defs::Entry;
 pub use hub::ReplayHub;
 pub use judge::check;
-pub use laws::held_is;
 pub use refusal::Refusal;
 pub use std::alloc::AllocError as NoMemory;

@@ -1,4 +1,4 @@
-// Whole messages with their bytes, with ample memory.
+//! Whole messages with their bytes, with ample memory.
 
 ghost use Rattle.std.specs.Prelude.{◌≡◌, length, IfOk};
 

@@ -30,12 +30,12 @@ pub fn write_varint(value: u64, out: &mut Vec<u8>) -> Result<(), NoMemory>
 
 /// Puts the length of what stands behind the place, as its shortest varint, in place of the byte there. So a run of
 /// bytes is written before its length is known: the byte is kept for it, and only a longer length moves the run.
-/// Want of memory leaves what stands before the place as it was.
+/// What stands before the place stays, also where memory is wanting.
 pub fn write_length(place: usize, out: &mut Vec<u8>) -> Result<(), NoMemory>
     requires { place < length out.old.items }
     ensures written { OnOk result (out.new.items ≡ take place out.old.items
         ++ (varint (length (drop (place + 1) out.old.items)) ++ drop (place + 1) out.old.items)) }
-    ensures kept { OnErr result (take place out.new.items ≡ take place out.old.items) }
+    ensures kept { take place out.new.items ≡ take place out.old.items }
 {
     let mut rest = out.len() - place - 1;
     let mut last = place;

@@ -1,4 +1,4 @@
-// The chunks of a list. A chunk that another version shares is copied before it is changed.
+//! The chunks of a list. A chunk that another version shares is copied before it is changed.
 
 ghost use Rattle.std.specs.Prelude.{◌≡◌, ◌<◌, ◌++◌, length, remove, IfSome, IfOk, OnOk};
 ghost use Rattle.std.specs.FinMap.{put, find};
@@ -9,7 +9,8 @@ ghost use Rattle.shared_list.specs.Parts.{items_of, parts_of};
 
 use crate::items::{copy_items, place, put_item, split_off};
 use crate::keyed::{Keyed, key_order};
-use std::alloc::{AllocError, Global};
+use crate::NoMemory;
+use std::alloc::Global;
 use std::cmp::Ordering;
 use std::sync::Arc;
 
@@ -51,7 +52,7 @@ pub(crate) fn item_in<'a, T: Keyed>(chunks: &'a [Arc<Vec<T>>], key: &str) -> Opt
 }
 
 /// Puts the item in its place among the items, and takes the back of them off where they are too many.
-fn put_and_split<T: Keyed>(items: &mut Vec<T>, item: T) -> Result<Option<Vec<T>>, AllocError>
+fn put_and_split<T: Keyed>(items: &mut Vec<T>, item: T) -> Result<Option<Vec<T>>, NoMemory>
     requires { Rises T.key_of items.old.items }
     ensures put { IfOk result (λ rest. entries T.key_of (items.new.items ++ items_of rest) ≡ put key_cmp (T.key_of item) item (entries T.key_of items.old.items)) }
     ensures front { OnOk result (0 < length items.new.items) }
@@ -66,7 +67,7 @@ fn put_in<T: Keyed>(
     alloc: Global,
     chunk: &mut Arc<Vec<T>>,
     item: T,
-) -> Result<Option<Vec<T>>, AllocError>
+) -> Result<Option<Vec<T>>, NoMemory>
     requires { Rises T.key_of chunk.old.value.items }
     ensures put { IfOk result (λ rest. entries T.key_of (chunk.new.value.items ++ items_of rest) ≡ put key_cmp (T.key_of item) item (entries T.key_of chunk.old.value.items)) }
     ensures front { OnOk result (0 < length chunk.new.value.items) }
@@ -82,7 +83,7 @@ fn put_in<T: Keyed>(
 }
 
 /// Takes the item at that place out of the chunk.
-fn take_from<T: Keyed>(alloc: Global, chunk: &mut Arc<Vec<T>>, at: usize) -> Result<(), AllocError>
+fn take_from<T: Keyed>(alloc: Global, chunk: &mut Arc<Vec<T>>, at: usize) -> Result<(), NoMemory>
     requires { at < length chunk.old.value.items }
     ensures { OnOk result (chunk.new.value.items ≡ remove chunk.old.value.items at) }
 {
@@ -97,7 +98,7 @@ fn take_from<T: Keyed>(alloc: Global, chunk: &mut Arc<Vec<T>>, at: usize) -> Res
 }
 
 /// Puts the item in its place in its chunk.
-pub(crate) fn put_chunks<T: Keyed>(chunks: &mut Vec<Arc<Vec<T>>>, item: T) -> Result<(), AllocError>
+pub(crate) fn put_chunks<T: Keyed>(chunks: &mut Vec<Arc<Vec<T>>>, item: T) -> Result<(), NoMemory>
     requires { AreParts T.key_of (parts_of chunks.old.items) }
     ensures put { OnOk result (joined T.key_of (parts_of chunks.new.items) ≡ put key_cmp (T.key_of item) item (joined T.key_of (parts_of chunks.old.items))) }
     ensures filled { OnOk result (AllByRecursion (λ part. 0 < length part) (parts_of chunks.new.items)) }
@@ -117,7 +118,7 @@ pub(crate) fn put_chunks<T: Keyed>(chunks: &mut Vec<Arc<Vec<T>>>, item: T) -> Re
 }
 
 /// Takes the item with that key out of its chunk, and the chunk out where nothing is left in it.
-pub(crate) fn take_out<T: Keyed>(chunks: &mut Vec<Arc<Vec<T>>>, key: &str) -> Result<(), AllocError>
+pub(crate) fn take_out<T: Keyed>(chunks: &mut Vec<Arc<Vec<T>>>, key: &str) -> Result<(), NoMemory>
     requires { AreParts T.key_of (parts_of chunks.old.items) }
     ensures without { OnOk result (joined T.key_of (parts_of chunks.new.items) ≡ without key.now (joined T.key_of (parts_of chunks.old.items))) }
     ensures filled { OnOk result (AllByRecursion (λ part. 0 < length part) (parts_of chunks.new.items)) }

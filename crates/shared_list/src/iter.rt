@@ -1,4 +1,4 @@
-// The items of a list in order.
+//! The items of a list in order.
 
 ghost use Rattle.std.specs.Prelude.{◌≡◌, ◌<◌, length};
 ghost use Rattle.std.specs.List.{flat_map, AllByRecursion};

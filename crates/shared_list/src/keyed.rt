@@ -1,4 +1,4 @@
-// Items that have a key.
+//! Items that have a key.
 
 ghost use Rattle.std.specs.Prelude.{◌≡◌, ℕ, List};
 ghost use Rattle.shared_list.specs.Order.{key_cmp};

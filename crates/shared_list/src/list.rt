@@ -1,4 +1,4 @@
-// A list that shares its chunks with other versions of it.
+//! A list that shares its chunks with other versions of it.
 
 ghost use Rattle.std.specs.Prelude.{◌≡◌, ◌+◌, [], length, map, T as IsSo, if◌then◌else◌, IfOk};
 ghost use Rattle.std.specs.FinMap.{put, find, is_sorted};
@@ -8,7 +8,8 @@ ghost use Rattle.shared_list.specs.Order.{key_cmp, entries, without};
 use crate::chunks::{item_in, put_chunks, take_out};
 use crate::iter::Iter;
 use crate::keyed::Keyed;
-use std::alloc::{AllocError, Global};
+use crate::NoMemory;
+use std::alloc::Global;
 use std::marker::Model;
 use std::sync::Arc;
 
@@ -45,7 +46,7 @@ impl<T: Keyed> SharedList<T> {
     }
 
     /// The same list, with all its chunks shared, or want of memory.
-    pub fn share(&self) -> Result<Self, AllocError>
+    pub fn share(&self) -> Result<Self, NoMemory>
         ensures { IfOk result (λ same. same ≡ self.now) }
     {
         let mut chunks = Vec::with_capacity(*self.chunks.allocator(), self.chunks.len())?;
@@ -60,7 +61,7 @@ impl<T: Keyed> SharedList<T> {
 
     /// The list with the item in its place, which is that of the item with its key, if there is one; or want
     /// of memory.
-    pub fn with(self, item: T) -> Result<Self, AllocError>
+    pub fn with(self, item: T) -> Result<Self, NoMemory>
         ensures { IfOk result (λ list. list ≡ put key_cmp (T.key_of item) item self) }
     {
         let is_new = self.get(item.key()).is_none();
@@ -71,7 +72,7 @@ impl<T: Keyed> SharedList<T> {
     }
 
     /// The list without the item of that key, or want of memory.
-    pub fn without(self, key: &str) -> Result<Self, AllocError>
+    pub fn without(self, key: &str) -> Result<Self, NoMemory>
         ensures { IfOk result (λ list. list ≡ without key.now self) }
     {
         if self.get(key).is_none() {
@@ -116,7 +117,7 @@ impl<T: Keyed> SharedList<T> {
 }
 
 /// How many items there are with one that may be new. More than can be counted are more than memory holds.
-fn len_with(len: usize, is_new: bool) -> Result<usize, AllocError>
+fn len_with(len: usize, is_new: bool) -> Result<usize, NoMemory>
     ensures { IfOk result (λ count. count ≡ (if is_new then len + 1 else len)) }
 {
     if is_new {

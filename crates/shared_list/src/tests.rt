@@ -1,8 +1,9 @@
-// A list of plain items, with ample memory.
+//! A list of plain items, with ample memory.
 
 use crate::{Keyed, SharedList};
 use rt_types::{Copied, Text};
-use std::alloc::{AllocError, Global};
+use crate::NoMemory;
+use std::alloc::Global;
 use std::test::Fail;
 
 /// A name with a number.
@@ -13,7 +14,7 @@ struct Numbered {
 }
 
 impl Copied for Numbered {
-    fn copy(&self) -> Result<Self, AllocError> {
+    fn copy(&self) -> Result<Self, NoMemory> {
         Ok(Numbered {
             name: self.name.copy()?,
             number: self.number,
@@ -35,7 +36,7 @@ fn with(
     list: SharedList<Numbered>,
     name: &str,
     number: u32,
-) -> Result<SharedList<Numbered>, AllocError> {
+) -> Result<SharedList<Numbered>, NoMemory> {
     let name = Text::new(alloc, name)?;
     list.with(Numbered { name, number })
 }
@@ -52,7 +53,7 @@ fn weighed(list: &SharedList<Numbered>) -> u32 {
 }
 
 /// Whether a version that is changed leaves the other as it was.
-fn versions(alloc: Global) -> Result<bool, AllocError> {
+fn versions(alloc: Global) -> Result<bool, NoMemory> {
     let old = with(
         alloc,
         with(alloc, SharedList::empty(alloc), "b", 10)?,

@@ -1,6 +1,6 @@
 -- The run moves on by a byte for each further byte of its length.
 use Rattle.std.proofs.Common.{◌-◌, ◌<◌, ◌^◌, arith, rules}
-use Rattle.pb_wire.proofs.Lengths.{begins, goes_on, ends}
+use Rattle.pb_wire.proofs.Lengths.{begins, goes_on, ends, stays}
 use Rattle.pb_wire.proofs.writing.write_length.Goals as goal
 
 pub groups-init : goal.groups-init
@@ -14,3 +14,6 @@ groups-preserved c =
 
 pub returns-clause-written : goal.returns-clause-written
 returns-clause-written c = ends _ _ _ c.groups.out.items c.groups.last c.groups.rest c.groups.invariant c.groups-test.false
+
+pub returns-clause-kept : goal.returns-clause-kept
+returns-clause-kept c = stays _ _ _ c.groups.out.items c.groups.last c.groups.rest c.groups.rest c.groups.invariant
