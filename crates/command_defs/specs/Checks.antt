@@ -12,7 +12,7 @@ use Rattle.hub_config.specs.declared.conf.HubConf.{HubConf}
 use Rattle.hub_config.specs.declared.conf.ScheduleConf.{ScheduleConf}
 use Rattle.hub_config.specs.declared.fault.ConfFault.{ConfFault}
 use Rattle.answer_defs.specs.Steps.{◌>>=◌}
-use Rattle.script_defs.specs.Record.{line_feed}
+use Rattle.text_defs.specs.Cleaned.{line_feed}
 use Rattle.script_defs.specs.Output.{Output}
 use Rattle.command_defs.specs.Faults.{load_words}
 

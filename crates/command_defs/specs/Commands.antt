@@ -1,7 +1,7 @@
 -- What `hub` prints, and its status, for a list of words, files and an input.
 use Rattle.std.specs.Prelude.{ℕ, List, ◌++◌, Option, Some, None, codes}
 use Rattle.std.specs.Option.{option_map}
-use Rattle.script_defs.specs.Record.{line_feed}
+use Rattle.text_defs.specs.Cleaned.{line_feed}
 use Rattle.script_defs.specs.Output.{Output, replayed}
 use Rattle.command_defs.specs.Words.{Command, command_of}
 use Rattle.command_defs.specs.Words.Command.{Replay, Check}

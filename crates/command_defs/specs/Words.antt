@@ -2,7 +2,7 @@
 use Rattle.std.specs.Prelude.{ℕ, List, [], ◌∷◌, Option, None, Bool, false, ◌==◌, if◌then◌else◌, codes}
 use Rattle.std.specs.List.{list_any}
 use Rattle.std.specs.Str.{bytes_eq}
-use Rattle.script_defs.specs.Record.{only_if}
+use Rattle.answer_defs.specs.Choices.{only_if}
 
 -- what `hub` is asked to do; `check` names the path of a configuration
 pub data Command : Type 0 where

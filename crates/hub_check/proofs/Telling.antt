@@ -9,7 +9,7 @@ use Rattle.std.proofs.lemmas.List.{append-nil, append_assoc, at_drop_more, drop_
 use Rattle.std.proofs.lemmas.Option.{none-some, same_Some}
 use Rattle.answer_defs.specs.Steps.{◌>>=◌}
 use Rattle.text_defs.specs.Dates.{is_day}
-use Rattle.script_defs.specs.Record.{line_feed}
+use Rattle.text_defs.specs.Cleaned.{line_feed}
 use Rattle.script_defs.specs.Output.{Output}
 use Rattle.hub_outside.specs.Count.{Rose}
 use Rattle.hub_outside.specs.Files.{file_at}

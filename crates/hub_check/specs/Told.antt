@@ -7,7 +7,7 @@ use Rattle.hub_config.specs.declared.fault.ConfFault.{ConfFault}
 use Rattle.hub_config.specs.declared.fault.ConfFault.TheVariants as conf
 use Rattle.hub_outside.specs.Count.{Rose}
 use Rattle.answer_defs.specs.Steps.{◌>>=◌}
-use Rattle.script_defs.specs.Record.{line_feed}
+use Rattle.text_defs.specs.Cleaned.{line_feed}
 use Rattle.std.specs.Fmt.{decimal}
 use Rattle.sched_types.specs.Timetable.{Timetable}
 use Rattle.sched_types.specs.declared.rows.Counts.{Counts}

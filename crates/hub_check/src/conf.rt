@@ -4,7 +4,7 @@ ghost use Rattle.std.specs.List.{list_all};
 ghost use Rattle.hub_outside.specs.Files.{file_at};
 ghost use Rattle.hub_config.specs.Conf.{conf_of};
 ghost use Rattle.hub_config.specs.Lines.{line_of};
-ghost use Rattle.script_defs.specs.Record.{line_feed};
+ghost use Rattle.text_defs.specs.Cleaned.{line_feed};
 ghost use Rattle.hub_config.specs.Right.{has_window};
 ghost use Rattle.command_defs.specs.Checks.{conf_in, conf_or_line};
 ghost use Rattle.hub_check.specs.Told.{HasCheckCause, IsLine, NamesConf, NeedsNoFile, Tells};

@@ -1,7 +1,7 @@
 -- Lists in parts.
 use Rattle.std.proofs.Common.{◌≡◌, ℕ, ◌+◌, ◌-◌, ◌≤◌, List, ◌++◌, length, take, drop, sym, ap, ◌∙◌, subst, length-drop}
-use Rattle.std.proofs.lemmas.List.{take-append-drop, drop-drop, length-take-le}
-use Rattle.std.proofs.Math.Seq.{take-append_seam, take-length}
+use Rattle.std.proofs.lemmas.List.{take-append-drop, drop-drop, length-take-le, take_rest}
+use Rattle.std.proofs.Math.Seq.{take-append_seam, take-length, take-add}
 
 -- the slice from a place on is what stands behind that place
 pub take-drop_all : (at : ℕ) (xs : List ℕ) → take (length xs - at) (drop at xs) ≡ drop at xs
@@ -24,3 +24,7 @@ drop-copied n at xs ys front back same copied within =
     let first : front ≡ take n (drop at xs) = copied ∙ ap (take n) is in
     let long : length front ≡ n = ap length copied ∙ length-take-le n left within in
     drop-split n at xs ∙ ap (λ fs. fs ++ drop (at + n) xs) (sym first ∙ sym (take-written n front back long))
+
+-- a front, and the first of what stands behind it
+pub piece_taken : (at n : ℕ) (bytes : List ℕ) → take at bytes ++ take n (take (length bytes - at) (drop at bytes)) ≡ take (at + n) bytes
+piece_taken at n bytes = rw (take_rest bytes at) (sym (take-add at n bytes))

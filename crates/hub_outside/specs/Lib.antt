@@ -6,5 +6,7 @@ pub mod Files
 pub mod Clock
 pub mod Calls
 pub mod Memory
+pub mod Writing
+pub mod Outside
 pub mod Decisions
 pub mod Adapters

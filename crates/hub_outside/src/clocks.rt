@@ -9,8 +9,8 @@ pub trait Clock {
     // The readings that it will show, where it tells them. There is always one at least.
     ghost ahead: { Self → Option (List ℕ) };
 
-    /// The moment, from 0 to the last one, 9999-12-31 23:59:59 UTC. A clock that tells its readings shows the first of
-    /// them, and drops it unless it is the last.
+    /// The moment, from 0 to the last one, 9999-12-31 23:59:59 UTC. A clock that tells its readings
+    /// shows the first of them, and drops it unless it is the last.
     fn now(&mut self) -> u64
         ensures range { result ≤ last_moment }
         ensures reading { ShowsFirst (ahead self.old) result }

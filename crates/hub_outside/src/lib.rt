@@ -24,6 +24,7 @@ mod file_stores;
 mod memory;
 mod sinks;
 mod sources;
+mod writing;
 
 pub use adapters::clock::SystemClock;
 pub use adapters::files::StdFiles;
@@ -39,6 +40,7 @@ pub use memory::source::MemorySource;
 pub use sinks::{Sink, WriteAnswer};
 pub use sources::{ReadAnswer, Source};
 pub use std::alloc::AllocError as NoMemory;
+pub use writing::{OutputFault, write_all};
 
 #[cfg(test)]
 mod tests;

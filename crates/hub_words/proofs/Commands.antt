@@ -15,7 +15,7 @@ use Rattle.clap.specs.Faults.{built_fault, check_fault, defaults_fault, entered_
 use Rattle.clap.specs.declared.error.kind.ErrorKind.TheVariants as kind
 use Rattle.clap.proofs.FaultLemmas.{stopped_fault}
 use Rattle.clap.proofs.WalkLemmas.{walk_stopped}
-use Rattle.script_defs.specs.Record.{only_if}
+use Rattle.answer_defs.specs.Choices.{only_if}
 use Rattle.command_defs.specs.Words.{Command, command_of, command_with, is_option}
 use Rattle.command_defs.specs.Words.Command.{Replay, Check}
 use Rattle.hub_words.specs.Forms.{Form, app_for, command_in, read_rows, required, fits, form_of, forms, given, takes_words}

@@ -4,3 +4,4 @@ pub mod Words
 pub mod Payloads
 pub mod Turns
 pub mod Runs
+pub mod Opens

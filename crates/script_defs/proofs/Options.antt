@@ -1,6 +1,7 @@
 -- Steps that may give nothing.
 use Rattle.std.proofs.Common.{◌≡◌, Option, Some, None, Bool, true, false, refl}
-use Rattle.script_defs.specs.Record.{◌>>=◌, only_if}
+use Rattle.script_defs.specs.Record.{◌>>=◌}
+use Rattle.answer_defs.specs.Choices.{only_if}
 
 -- a step that gave something, of what the step before it gave
 pub bind_some : {A B : Type 0} (r : Option A) (f : A → Option B) (y : B) → (r >>= f) ≡ Some y → (x : A) × (r ≡ Some x) × (f x ≡ Some y)

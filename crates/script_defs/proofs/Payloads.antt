@@ -3,7 +3,8 @@ use Rattle.std.proofs.Common.{◌≡◌, ℕ, zero, suc, ◌+◌, ◌≤◌, ◌
 use Rattle.std.specs.Prelude.{◌==◌, slice_get}
 use Rattle.std.proofs.lemmas.List.{take-append-le, drop-append-le}
 use Rattle.std.proofs.lemmas.Option.{slice_get_within, slice_get_past}
-use Rattle.script_defs.specs.Record.{payload_at, only_if}
+use Rattle.script_defs.specs.Record.{payload_at}
+use Rattle.answer_defs.specs.Choices.{only_if}
 use Rattle.script_defs.proofs.Options.{passed}
 
 -- whether there is a byte, and it is LF

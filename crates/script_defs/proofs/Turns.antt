@@ -2,7 +2,8 @@
 use Rattle.std.proofs.Common.{◌≡◌, ℕ, ◌≤◌, ◌<◌, List, ◌++◌, length, Some, None, Bool, true, false, refl, ap, ◌∙◌, subst, arith}
 use Rattle.std.specs.List.{position_from}
 use Rattle.std.specs.Str.{bytes_eq}
-use Rattle.script_defs.specs.Record.{◌>>=◌, only_if, longest_line, line_within, head_of, payload_at, Head, Hub, Turn, turn, act, may_declare, offered_turn}
+use Rattle.script_defs.specs.Record.{◌>>=◌, longest_line, line_within, head_of, payload_at, Head, Hub, Turn, turn, act, may_declare, offered_turn}
+use Rattle.answer_defs.specs.Choices.{only_if}
 use Rattle.script_defs.specs.Record.Head.{Feed, Message, Combined, End}
 use Rattle.script_defs.proofs.Options.{bind_some, bind_at, bind_none}
 use Rattle.script_defs.proofs.Lines.{line_more, line_rest, no_line_more}

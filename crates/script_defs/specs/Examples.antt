@@ -1,7 +1,7 @@
 -- Whole scripts, computed by the definitions.
-use Rattle.std.specs.Prelude.{◌≡◌, [], ◌∷◌, ◌++◌, refl, codes}
+use Rattle.std.specs.Prelude.{◌≡◌, ℕ, zero, suc, List, [], ◌∷◌, ◌++◌, length, replicate, Some, None, true, false, refl, codes}
 use Rattle.std.specs.Str.{is_utf8, chars}
-use Rattle.std.specs.Fmt.{digits}
+use Rattle.std.specs.Fmt.{decimal, digits}
 use lib.Utf8.{encode}
 use Rattle.wire_defs.specs.Reading.{groups_at, varint_at, span_at, tag_at, payload_at as wire_payload_at, field_with, behind_end, group_at, field_at, fields_within, fields_of}
 use Rattle.wire_defs.specs.Writing.{groups, varint, payload_bytes, field_bytes}
@@ -9,80 +9,137 @@ use Rattle.feed_defs.specs.Rows.{occurrences_of, last_of, unknown_bytes_of, fiel
 use Rattle.feed_defs.specs.Table.{read, write}
 use Rattle.feed_defs.specs.History.{well_formed, messages_of, since_full, changes_by_id, entities_of}
 use Rattle.feed_defs.specs.Combined.{newest_stamp, combined}
-use Rattle.script_defs.specs.Record.{line_within, words_of, digits_value, head_of, payload_at, turn, line_feed}
-use Rattle.script_defs.specs.Output.{run_within, run, replayed, refused_line}
+use Rattle.text_defs.specs.Cleaned.{line_feed}
+use Rattle.text_defs.specs.Names.{is_name}
+use Rattle.text_defs.specs.Numbers.{number}
+use Rattle.script_defs.specs.Record.{Head, line_within, longest_line, words_of, head_of, length_in, payload_at, turn, start, waits}
+use Rattle.script_defs.specs.Output.{Output, run_within, run, is_open_within, is_open, replayed, refused_line}
 
--- a message comes out as it came in
-pub plain_is_fed : replayed (codes "F a" ++ line_feed ++ codes "M a 11" ++ line_feed ++ (0x0a ∷ 0x09 ∷ 0x0a ∷ 0x03 ∷ 0x32 ∷ 0x2e ∷ 0x30 ∷ 0x10 ∷ 0x00 ∷ 0x18 ∷ 0x05 ∷ []) ++ line_feed ++ codes "O plain" ++ line_feed ++ codes "E" ++ line_feed) ≡ record { message_bytes = codes "accepted 1" ++ line_feed ++ codes "feed 11" ++ line_feed ++ (0x0a ∷ 0x09 ∷ 0x0a ∷ 0x03 ∷ 0x32 ∷ 0x2e ∷ 0x30 ∷ 0x10 ∷ 0x00 ∷ 0x18 ∷ 0x05 ∷ []) ++ line_feed; status = 0 }
-unfolding is_utf8 chars digits encode groups_at varint_at span_at tag_at wire_payload_at field_with behind_end group_at field_at fields_within fields_of groups varint payload_bytes field_bytes occurrences_of last_of unknown_bytes_of fields_of_all value message_bytes merged_message values numbered_values read write well_formed messages_of since_full changes_by_id entities_of newest_stamp combined line_within words_of digits_value head_of payload_at turn run_within run replayed
-plain_is_fed = refl
+-- a header of version 2.0 with that incrementality and that stamp, both below 128
+abbrev pub header : ℕ → ℕ → List ℕ
+header kind stamp = 0x0a ∷ 0x09 ∷ 0x0a ∷ 0x03 ∷ 0x32 ∷ 0x2e ∷ 0x30 ∷ 0x10 ∷ kind ∷ 0x18 ∷ stamp ∷ []
 
--- a message is taken once
-pub stale_is_refused : replayed (codes "F a" ++ line_feed ++ codes "M a 11" ++ line_feed ++ (0x0a ∷ 0x09 ∷ 0x0a ∷ 0x03 ∷ 0x32 ∷ 0x2e ∷ 0x30 ∷ 0x10 ∷ 0x00 ∷ 0x18 ∷ 0x05 ∷ []) ++ line_feed ++ codes "M a 11" ++ line_feed ++ (0x0a ∷ 0x09 ∷ 0x0a ∷ 0x03 ∷ 0x32 ∷ 0x2e ∷ 0x30 ∷ 0x10 ∷ 0x00 ∷ 0x18 ∷ 0x05 ∷ []) ++ line_feed ++ codes "E" ++ line_feed) ≡ record { message_bytes = codes "accepted 1" ++ line_feed ++ codes "refused stale 5 5" ++ line_feed; status = 0 }
-unfolding is_utf8 chars digits encode groups_at varint_at span_at tag_at wire_payload_at field_with behind_end group_at field_at fields_within fields_of groups varint payload_bytes field_bytes occurrences_of last_of unknown_bytes_of fields_of_all value message_bytes merged_message values numbered_values read write well_formed messages_of since_full changes_by_id entities_of newest_stamp combined line_within words_of digits_value head_of payload_at turn run_within run replayed
-stale_is_refused = refl
+-- an embedded entity of those bytes, fewer than 128
+abbrev pub entity : List ℕ → List ℕ
+entity content = 0x12 ∷ length content ∷ content
 
--- an entity goes out under its feed
-pub entity_is_named : replayed (codes "F a" ++ line_feed ++ codes "M a 16" ++ line_feed ++ (0x0a ∷ 0x09 ∷ 0x0a ∷ 0x03 ∷ 0x32 ∷ 0x2e ∷ 0x30 ∷ 0x10 ∷ 0x00 ∷ 0x18 ∷ 0x05 ∷ 0x12 ∷ 0x03 ∷ 0x0a ∷ 0x01 ∷ 0x78 ∷ []) ++ line_feed ++ codes "O plain" ++ line_feed ++ codes "E" ++ line_feed) ≡ record { message_bytes = codes "accepted 1" ++ line_feed ++ codes "feed 18" ++ line_feed ++ (0x0a ∷ 0x09 ∷ 0x0a ∷ 0x03 ∷ 0x32 ∷ 0x2e ∷ 0x30 ∷ 0x10 ∷ 0x00 ∷ 0x18 ∷ 0x05 ∷ 0x12 ∷ 0x05 ∷ 0x0a ∷ 0x03 ∷ 0x61 ∷ 0x3a ∷ 0x78 ∷ []) ++ line_feed; status = 0 }
-unfolding is_utf8 chars digits encode groups_at varint_at span_at tag_at wire_payload_at field_with behind_end group_at field_at fields_within fields_of groups varint payload_bytes field_bytes occurrences_of last_of unknown_bytes_of fields_of_all value message_bytes merged_message values numbered_values read write well_formed messages_of since_full changes_by_id entities_of newest_stamp combined line_within words_of digits_value head_of payload_at turn run_within run replayed
-entity_is_named = refl
+-- the id of an entity, fewer than 128 bytes
+abbrev pub id : List ℕ → List ℕ
+id text = 0x0a ∷ length text ∷ text
 
--- an entity that the same message deletes is gone
-pub deleted_is_gone : replayed (codes "F a" ++ line_feed ++ codes "M a 23" ++ line_feed ++ (0x0a ∷ 0x09 ∷ 0x0a ∷ 0x03 ∷ 0x32 ∷ 0x2e ∷ 0x30 ∷ 0x10 ∷ 0x01 ∷ 0x18 ∷ 0x05 ∷ 0x12 ∷ 0x03 ∷ 0x0a ∷ 0x01 ∷ 0x78 ∷ 0x12 ∷ 0x05 ∷ 0x0a ∷ 0x01 ∷ 0x78 ∷ 0x10 ∷ 0x01 ∷ []) ++ line_feed ++ codes "O plain" ++ line_feed ++ codes "E" ++ line_feed) ≡ record { message_bytes = codes "accepted 1" ++ line_feed ++ codes "feed 11" ++ line_feed ++ (0x0a ∷ 0x09 ∷ 0x0a ∷ 0x03 ∷ 0x32 ∷ 0x2e ∷ 0x30 ∷ 0x10 ∷ 0x00 ∷ 0x18 ∷ 0x05 ∷ []) ++ line_feed; status = 0 }
-unfolding is_utf8 chars digits encode groups_at varint_at span_at tag_at wire_payload_at field_with behind_end group_at field_at fields_within fields_of groups varint payload_bytes field_bytes occurrences_of last_of unknown_bytes_of fields_of_all value message_bytes merged_message values numbered_values read write well_formed messages_of since_full changes_by_id entities_of newest_stamp combined line_within words_of digits_value head_of payload_at turn run_within run replayed
-deleted_is_gone = refl
+abbrev pub line : List ℕ → List ℕ
+line text = text ++ line_feed
+
+-- the record that offers a message to the feed a
+abbrev pub offer : List ℕ → List ℕ
+offer message = line (codes "M a " ++ decimal (length message)) ++ line message
+
+-- the script of the feed a with those records, and its output where it is done
+abbrev pub script : List ℕ → List ℕ
+script records = line (codes "F a") ++ records ++ line (codes "E")
+
+abbrev pub done : List ℕ → Output
+done text = record { written = text; status = 0 }
+
+abbrev pub refused_at : ℕ → Output
+refused_at place = record { written = refused_line place; status = 7 }
+
+abbrev pub plain : List ℕ
+plain = line (codes "O plain")
+
+-- the lines of a combined feed
+abbrev pub feed : List ℕ → List ℕ
+feed message = line (codes "feed " ++ decimal (length message)) ++ line message
+
+abbrev pub accepted : ℕ → List ℕ
+accepted count = line (codes "accepted " ++ decimal count)
+
+-- a message comes out as it came in; two headers are one; feeds that sent nothing; a schedule that is not there
+pub messages_are_fed :
+    (replayed (script (offer (header 0 5) ++ plain)) ≡ done (accepted 1 ++ feed (header 0 5)))
+    × (replayed (script (offer (0x0a ∷ 0x05 ∷ 0x0a ∷ 0x03 ∷ codes "2.0" ++ 0x0a ∷ 0x02 ∷ 0x18 ∷ 0x05 ∷ []) ++ plain))
+        ≡ done (accepted 1 ++ feed (header 0 5)))
+    × (replayed (script plain) ≡ done (feed (header 0 0)))
+    × (replayed (script (line (codes "O city"))) ≡ done (line (codes "feed none")))
+unfolding is_utf8 chars digits encode groups_at varint_at span_at tag_at wire_payload_at field_with behind_end group_at field_at fields_within fields_of groups varint payload_bytes field_bytes occurrences_of last_of unknown_bytes_of fields_of_all value message_bytes merged_message values numbered_values read write well_formed messages_of since_full changes_by_id entities_of newest_stamp combined line_within words_of head_of payload_at turn run_within run replayed is_name number waits is_open_within is_open
+messages_are_fed = (refl, refl, refl, refl)
+
+-- an entity goes out under its feed, and what is unknown within it as it came; one that the same message deletes is gone
+pub entities_are_named :
+    (replayed (script (offer (header 0 5 ++ entity (id (codes "x"))) ++ plain))
+        ≡ done (accepted 1 ++ feed (header 0 5 ++ entity (id (codes "a:x")))))
+    × (replayed (script (offer (header 0 5 ++ entity (id (codes "x") ++ 0x4a ∷ 0x02 ∷ codes "hi")) ++ plain))
+        ≡ done (accepted 1 ++ feed (header 0 5 ++ entity (id (codes "a:x") ++ 0x4a ∷ 0x02 ∷ codes "hi"))))
+    × (replayed (script (offer (header 1 5 ++ entity (id (codes "x")) ++ entity (id (codes "x") ++ 0x10 ∷ 0x01 ∷ [])) ++ plain))
+        ≡ done (accepted 1 ++ feed (header 0 5)))
+unfolding is_utf8 chars digits encode groups_at varint_at span_at tag_at wire_payload_at field_with behind_end group_at field_at fields_within fields_of groups varint payload_bytes field_bytes occurrences_of last_of unknown_bytes_of fields_of_all value message_bytes merged_message values numbered_values read write well_formed messages_of since_full changes_by_id entities_of newest_stamp combined line_within words_of head_of payload_at turn run_within run replayed is_name number waits is_open_within is_open
+entities_are_named = (refl, refl, refl)
 
 -- a whole data set takes the place of all before it
-pub full_starts_anew : replayed (codes "F a" ++ line_feed ++ codes "M a 16" ++ line_feed ++ (0x0a ∷ 0x09 ∷ 0x0a ∷ 0x03 ∷ 0x32 ∷ 0x2e ∷ 0x30 ∷ 0x10 ∷ 0x01 ∷ 0x18 ∷ 0x01 ∷ 0x12 ∷ 0x03 ∷ 0x0a ∷ 0x01 ∷ 0x70 ∷ []) ++ line_feed ++ codes "M a 16" ++ line_feed ++ (0x0a ∷ 0x09 ∷ 0x0a ∷ 0x03 ∷ 0x32 ∷ 0x2e ∷ 0x30 ∷ 0x10 ∷ 0x01 ∷ 0x18 ∷ 0x02 ∷ 0x12 ∷ 0x03 ∷ 0x0a ∷ 0x01 ∷ 0x71 ∷ []) ++ line_feed ++ codes "M a 16" ++ line_feed ++ (0x0a ∷ 0x09 ∷ 0x0a ∷ 0x03 ∷ 0x32 ∷ 0x2e ∷ 0x30 ∷ 0x10 ∷ 0x01 ∷ 0x18 ∷ 0x03 ∷ 0x12 ∷ 0x03 ∷ 0x0a ∷ 0x01 ∷ 0x72 ∷ []) ++ line_feed ++ codes "M a 16" ++ line_feed ++ (0x0a ∷ 0x09 ∷ 0x0a ∷ 0x03 ∷ 0x32 ∷ 0x2e ∷ 0x30 ∷ 0x10 ∷ 0x00 ∷ 0x18 ∷ 0x04 ∷ 0x12 ∷ 0x03 ∷ 0x0a ∷ 0x01 ∷ 0x73 ∷ []) ++ line_feed ++ codes "O plain" ++ line_feed ++ codes "E" ++ line_feed) ≡ record { message_bytes = codes "accepted 1" ++ line_feed ++ codes "accepted 2" ++ line_feed ++ codes "accepted 3" ++ line_feed ++ codes "accepted 4" ++ line_feed ++ codes "feed 18" ++ line_feed ++ (0x0a ∷ 0x09 ∷ 0x0a ∷ 0x03 ∷ 0x32 ∷ 0x2e ∷ 0x30 ∷ 0x10 ∷ 0x00 ∷ 0x18 ∷ 0x04 ∷ 0x12 ∷ 0x05 ∷ 0x0a ∷ 0x03 ∷ 0x61 ∷ 0x3a ∷ 0x73 ∷ []) ++ line_feed; status = 0 }
-unfolding is_utf8 chars digits encode groups_at varint_at span_at tag_at wire_payload_at field_with behind_end group_at field_at fields_within fields_of groups varint payload_bytes field_bytes occurrences_of last_of unknown_bytes_of fields_of_all value message_bytes merged_message values numbered_values read write well_formed messages_of since_full changes_by_id entities_of newest_stamp combined line_within words_of digits_value head_of payload_at turn run_within run replayed
+pub full_starts_anew :
+    replayed (script (offer (header 1 1 ++ entity (id (codes "p"))) ++ offer (header 1 2 ++ entity (id (codes "q")))
+        ++ offer (header 1 3 ++ entity (id (codes "r"))) ++ offer (header 0 4 ++ entity (id (codes "s"))) ++ plain))
+    ≡ done (accepted 1 ++ accepted 2 ++ accepted 3 ++ accepted 4 ++ feed (header 0 4 ++ entity (id (codes "a:s"))))
+unfolding is_utf8 chars digits encode groups_at varint_at span_at tag_at wire_payload_at field_with behind_end group_at field_at fields_within fields_of groups varint payload_bytes field_bytes occurrences_of last_of unknown_bytes_of fields_of_all value message_bytes merged_message values numbered_values read write well_formed messages_of since_full changes_by_id entities_of newest_stamp combined line_within words_of head_of payload_at turn run_within run replayed is_name number waits is_open_within is_open
 full_starts_anew = refl
 
--- two headers are one
-pub headers_are_merged : replayed (codes "F a" ++ line_feed ++ codes "M a 11" ++ line_feed ++ (0x0a ∷ 0x05 ∷ 0x0a ∷ 0x03 ∷ 0x32 ∷ 0x2e ∷ 0x30 ∷ 0x0a ∷ 0x02 ∷ 0x18 ∷ 0x05 ∷ []) ++ line_feed ++ codes "O plain" ++ line_feed ++ codes "E" ++ line_feed) ≡ record { message_bytes = codes "accepted 1" ++ line_feed ++ codes "feed 11" ++ line_feed ++ (0x0a ∷ 0x09 ∷ 0x0a ∷ 0x03 ∷ 0x32 ∷ 0x2e ∷ 0x30 ∷ 0x10 ∷ 0x00 ∷ 0x18 ∷ 0x05 ∷ []) ++ line_feed; status = 0 }
-unfolding is_utf8 chars digits encode groups_at varint_at span_at tag_at wire_payload_at field_with behind_end group_at field_at fields_within fields_of groups varint payload_bytes field_bytes occurrences_of last_of unknown_bytes_of fields_of_all value message_bytes merged_message values numbered_values read write well_formed messages_of since_full changes_by_id entities_of newest_stamp combined line_within words_of digits_value head_of payload_at turn run_within run replayed
-headers_are_merged = refl
-
--- what is unknown within an entity goes out as it came
-pub unknown_is_kept : replayed (codes "F a" ++ line_feed ++ codes "M a 20" ++ line_feed ++ (0x0a ∷ 0x09 ∷ 0x0a ∷ 0x03 ∷ 0x32 ∷ 0x2e ∷ 0x30 ∷ 0x10 ∷ 0x00 ∷ 0x18 ∷ 0x05 ∷ 0x12 ∷ 0x07 ∷ 0x0a ∷ 0x01 ∷ 0x78 ∷ 0x4a ∷ 0x02 ∷ 0x68 ∷ 0x69 ∷ []) ++ line_feed ++ codes "O plain" ++ line_feed ++ codes "E" ++ line_feed) ≡ record { message_bytes = codes "accepted 1" ++ line_feed ++ codes "feed 22" ++ line_feed ++ (0x0a ∷ 0x09 ∷ 0x0a ∷ 0x03 ∷ 0x32 ∷ 0x2e ∷ 0x30 ∷ 0x10 ∷ 0x00 ∷ 0x18 ∷ 0x05 ∷ 0x12 ∷ 0x09 ∷ 0x0a ∷ 0x03 ∷ 0x61 ∷ 0x3a ∷ 0x78 ∷ 0x4a ∷ 0x02 ∷ 0x68 ∷ 0x69 ∷ []) ++ line_feed; status = 0 }
-unfolding is_utf8 chars digits encode groups_at varint_at span_at tag_at wire_payload_at field_with behind_end group_at field_at fields_within fields_of groups varint payload_bytes field_bytes occurrences_of last_of unknown_bytes_of fields_of_all value message_bytes merged_message values numbered_values read write well_formed messages_of since_full changes_by_id entities_of newest_stamp combined line_within words_of digits_value head_of payload_at turn run_within run replayed
-unknown_is_kept = refl
-
--- feeds that sent nothing
-pub empty_is_fed : replayed (codes "F a" ++ line_feed ++ codes "O plain" ++ line_feed ++ codes "E" ++ line_feed) ≡ record { message_bytes = codes "feed 11" ++ line_feed ++ (0x0a ∷ 0x09 ∷ 0x0a ∷ 0x03 ∷ 0x32 ∷ 0x2e ∷ 0x30 ∷ 0x10 ∷ 0x00 ∷ 0x18 ∷ 0x00 ∷ []) ++ line_feed; status = 0 }
-unfolding is_utf8 chars digits encode groups_at varint_at span_at tag_at wire_payload_at field_with behind_end group_at field_at fields_within fields_of groups varint payload_bytes field_bytes occurrences_of last_of unknown_bytes_of fields_of_all value message_bytes merged_message values numbered_values read write well_formed messages_of since_full changes_by_id entities_of newest_stamp combined line_within words_of digits_value head_of payload_at turn run_within run replayed
-empty_is_fed = refl
-
--- another version
-pub version_is_refused : replayed (codes "F a" ++ line_feed ++ codes "M a 11" ++ line_feed ++ (0x0a ∷ 0x09 ∷ 0x0a ∷ 0x03 ∷ 0x33 ∷ 0x2e ∷ 0x30 ∷ 0x10 ∷ 0x00 ∷ 0x18 ∷ 0x05 ∷ []) ++ line_feed ++ codes "E" ++ line_feed) ≡ record { message_bytes = codes "refused version 3.0" ++ line_feed; status = 0 }
-unfolding is_utf8 chars digits encode groups_at varint_at span_at tag_at wire_payload_at field_with behind_end group_at field_at fields_within fields_of groups varint payload_bytes field_bytes occurrences_of last_of unknown_bytes_of fields_of_all value message_bytes merged_message values numbered_values read write well_formed messages_of since_full changes_by_id entities_of newest_stamp combined line_within words_of digits_value head_of payload_at turn run_within run replayed
-version_is_refused = refl
-
--- a schedule that is not there
-pub another_schedule : replayed (codes "F a" ++ line_feed ++ codes "O city" ++ line_feed ++ codes "E" ++ line_feed) ≡ record { message_bytes = codes "feed none" ++ line_feed; status = 0 }
-unfolding is_utf8 chars digits encode groups_at varint_at span_at tag_at wire_payload_at field_with behind_end group_at field_at fields_within fields_of groups varint payload_bytes field_bytes occurrences_of last_of unknown_bytes_of fields_of_all value message_bytes merged_message values numbered_values read write well_formed messages_of since_full changes_by_id entities_of newest_stamp combined line_within words_of digits_value head_of payload_at turn run_within run replayed
-another_schedule = refl
-
--- a line that is no record
-pub no_record : replayed (codes "X" ++ line_feed) ≡ record { message_bytes = refused_line 0; status = 7 }
-unfolding is_utf8 chars digits encode groups_at varint_at span_at tag_at wire_payload_at field_with behind_end group_at field_at fields_within fields_of groups varint payload_bytes field_bytes occurrences_of last_of unknown_bytes_of fields_of_all value message_bytes merged_message values numbered_values read write well_formed messages_of since_full changes_by_id entities_of newest_stamp combined line_within words_of digits_value head_of payload_at turn run_within run replayed
-no_record = refl
-
--- an input that ends before E
-pub no_end : replayed (codes "F a" ++ line_feed) ≡ record { message_bytes = refused_line 4; status = 7 }
-unfolding is_utf8 chars digits encode groups_at varint_at span_at tag_at wire_payload_at field_with behind_end group_at field_at fields_within fields_of groups varint payload_bytes field_bytes occurrences_of last_of unknown_bytes_of fields_of_all value message_bytes merged_message values numbered_values read write well_formed messages_of since_full changes_by_id entities_of newest_stamp combined line_within words_of digits_value head_of payload_at turn run_within run replayed
-no_end = refl
+-- a message is taken once; another version, and one whose control characters would break the line; no stamp
+pub messages_are_refused :
+    (replayed (script (offer (header 0 5) ++ offer (header 0 5))) ≡ done (accepted 1 ++ line (codes "refused stale 5 5")))
+    × (replayed (script (offer (0x0a ∷ 0x09 ∷ 0x0a ∷ 0x03 ∷ codes "3.0" ++ 0x10 ∷ 0x00 ∷ 0x18 ∷ 0x05 ∷ [])))
+        ≡ done (line (codes "refused version 3.0")))
+    × (replayed (script (offer (0x0a ∷ 0x09 ∷ 0x0a ∷ 0x03 ∷ 0x0a ∷ 0x7f ∷ 0x30 ∷ 0x10 ∷ 0x00 ∷ 0x18 ∷ 0x05 ∷ [])))
+        ≡ done (line (codes "refused version   0")))
+    × (replayed (script (offer (0x0a ∷ 0x05 ∷ 0x0a ∷ 0x03 ∷ codes "2.0"))) ≡ done (line (codes "refused stamp 0")))
+unfolding is_utf8 chars digits encode groups_at varint_at span_at tag_at wire_payload_at field_with behind_end group_at field_at fields_within fields_of groups varint payload_bytes field_bytes occurrences_of last_of unknown_bytes_of fields_of_all value message_bytes merged_message values numbered_values read write well_formed messages_of since_full changes_by_id entities_of newest_stamp combined line_within words_of head_of payload_at turn run_within run replayed is_name number waits is_open_within is_open
+messages_are_refused = (refl, refl, refl, refl)
 
 -- faults tell the entity that they are in, and change nothing
-pub faults_are_named : replayed (codes "F a" ++ line_feed ++ codes "M a 15" ++ line_feed ++ (0x0a ∷ 0x09 ∷ 0x0a ∷ 0x03 ∷ 0x32 ∷ 0x2e ∷ 0x30 ∷ 0x10 ∷ 0x00 ∷ 0x18 ∷ 0x05 ∷ 0x12 ∷ 0x02 ∷ 0x0a ∷ 0x01 ∷ []) ++ line_feed ++ codes "M a 15" ++ line_feed ++ (0x0a ∷ 0x09 ∷ 0x0a ∷ 0x03 ∷ 0x32 ∷ 0x2e ∷ 0x30 ∷ 0x10 ∷ 0x00 ∷ 0x18 ∷ 0x05 ∷ 0x12 ∷ 0x03 ∷ 0x0a ∷ 0x01 ∷ []) ++ line_feed ++ codes "M a 11" ++ line_feed ++ (0x0a ∷ 0x09 ∷ 0x0a ∷ 0x03 ∷ 0x32 ∷ 0x2e ∷ 0x30 ∷ 0x10 ∷ 0x00 ∷ 0x18 ∷ 0x05 ∷ []) ++ line_feed ++ codes "E" ++ line_feed) ≡ record { message_bytes = codes "refused malformed 1 cut FeedEntity 0" ++ line_feed ++ codes "refused malformed 0 cut FeedMessage 0" ++ line_feed ++ codes "accepted 1" ++ line_feed; status = 0 }
-unfolding is_utf8 chars digits encode groups_at varint_at span_at tag_at wire_payload_at field_with behind_end group_at field_at fields_within fields_of groups varint payload_bytes field_bytes occurrences_of last_of unknown_bytes_of fields_of_all value message_bytes merged_message values numbered_values read write well_formed messages_of since_full changes_by_id entities_of newest_stamp combined line_within words_of digits_value head_of payload_at turn run_within run replayed
+pub faults_are_named :
+    replayed (script (offer (header 0 5 ++ entity (0x0a ∷ 0x01 ∷ []))
+        ++ offer (header 0 5 ++ 0x12 ∷ 0x03 ∷ 0x0a ∷ 0x01 ∷ []) ++ offer (header 0 5)))
+    ≡ done (line (codes "refused malformed 1 cut FeedEntity 0")
+        ++ line (codes "refused malformed 0 cut FeedMessage 0") ++ accepted 1)
+unfolding is_utf8 chars digits encode groups_at varint_at span_at tag_at wire_payload_at field_with behind_end group_at field_at fields_within fields_of groups varint payload_bytes field_bytes occurrences_of last_of unknown_bytes_of fields_of_all value message_bytes merged_message values numbered_values read write well_formed messages_of since_full changes_by_id entities_of newest_stamp combined line_within words_of head_of payload_at turn run_within run replayed is_name number waits is_open_within is_open
 faults_are_named = refl
 
+-- so many groups, one within the other
+abbrev pub nested : ℕ → List ℕ
+nested depth = replicate depth 0x4b ++ replicate depth 0x4c
+
 -- groups nest 64 deep
-pub groups_nest : replayed (codes "F a" ++ line_feed ++ codes "M a 139" ++ line_feed ++ (0x0a ∷ 0x09 ∷ 0x0a ∷ 0x03 ∷ 0x32 ∷ 0x2e ∷ 0x30 ∷ 0x10 ∷ 0x00 ∷ 0x18 ∷ 0x05 ∷ 0x4b ∷ 0x4b ∷ 0x4b ∷ 0x4b ∷ 0x4b ∷ 0x4b ∷ 0x4b ∷ 0x4b ∷ 0x4b ∷ 0x4b ∷ 0x4b ∷ 0x4b ∷ 0x4b ∷ 0x4b ∷ 0x4b ∷ 0x4b ∷ 0x4b ∷ 0x4b ∷ 0x4b ∷ 0x4b ∷ 0x4b ∷ 0x4b ∷ 0x4b ∷ 0x4b ∷ 0x4b ∷ 0x4b ∷ 0x4b ∷ 0x4b ∷ 0x4b ∷ 0x4b ∷ 0x4b ∷ 0x4b ∷ 0x4b ∷ 0x4b ∷ 0x4b ∷ 0x4b ∷ 0x4b ∷ 0x4b ∷ 0x4b ∷ 0x4b ∷ 0x4b ∷ 0x4b ∷ 0x4b ∷ 0x4b ∷ 0x4b ∷ 0x4b ∷ 0x4b ∷ 0x4b ∷ 0x4b ∷ 0x4b ∷ 0x4b ∷ 0x4b ∷ 0x4b ∷ 0x4b ∷ 0x4b ∷ 0x4b ∷ 0x4b ∷ 0x4b ∷ 0x4b ∷ 0x4b ∷ 0x4b ∷ 0x4b ∷ 0x4b ∷ 0x4b ∷ 0x4c ∷ 0x4c ∷ 0x4c ∷ 0x4c ∷ 0x4c ∷ 0x4c ∷ 0x4c ∷ 0x4c ∷ 0x4c ∷ 0x4c ∷ 0x4c ∷ 0x4c ∷ 0x4c ∷ 0x4c ∷ 0x4c ∷ 0x4c ∷ 0x4c ∷ 0x4c ∷ 0x4c ∷ 0x4c ∷ 0x4c ∷ 0x4c ∷ 0x4c ∷ 0x4c ∷ 0x4c ∷ 0x4c ∷ 0x4c ∷ 0x4c ∷ 0x4c ∷ 0x4c ∷ 0x4c ∷ 0x4c ∷ 0x4c ∷ 0x4c ∷ 0x4c ∷ 0x4c ∷ 0x4c ∷ 0x4c ∷ 0x4c ∷ 0x4c ∷ 0x4c ∷ 0x4c ∷ 0x4c ∷ 0x4c ∷ 0x4c ∷ 0x4c ∷ 0x4c ∷ 0x4c ∷ 0x4c ∷ 0x4c ∷ 0x4c ∷ 0x4c ∷ 0x4c ∷ 0x4c ∷ 0x4c ∷ 0x4c ∷ 0x4c ∷ 0x4c ∷ 0x4c ∷ 0x4c ∷ 0x4c ∷ 0x4c ∷ 0x4c ∷ 0x4c ∷ []) ++ line_feed ++ codes "M a 141" ++ line_feed ++ (0x0a ∷ 0x09 ∷ 0x0a ∷ 0x03 ∷ 0x32 ∷ 0x2e ∷ 0x30 ∷ 0x10 ∷ 0x00 ∷ 0x18 ∷ 0x06 ∷ 0x4b ∷ 0x4b ∷ 0x4b ∷ 0x4b ∷ 0x4b ∷ 0x4b ∷ 0x4b ∷ 0x4b ∷ 0x4b ∷ 0x4b ∷ 0x4b ∷ 0x4b ∷ 0x4b ∷ 0x4b ∷ 0x4b ∷ 0x4b ∷ 0x4b ∷ 0x4b ∷ 0x4b ∷ 0x4b ∷ 0x4b ∷ 0x4b ∷ 0x4b ∷ 0x4b ∷ 0x4b ∷ 0x4b ∷ 0x4b ∷ 0x4b ∷ 0x4b ∷ 0x4b ∷ 0x4b ∷ 0x4b ∷ 0x4b ∷ 0x4b ∷ 0x4b ∷ 0x4b ∷ 0x4b ∷ 0x4b ∷ 0x4b ∷ 0x4b ∷ 0x4b ∷ 0x4b ∷ 0x4b ∷ 0x4b ∷ 0x4b ∷ 0x4b ∷ 0x4b ∷ 0x4b ∷ 0x4b ∷ 0x4b ∷ 0x4b ∷ 0x4b ∷ 0x4b ∷ 0x4b ∷ 0x4b ∷ 0x4b ∷ 0x4b ∷ 0x4b ∷ 0x4b ∷ 0x4b ∷ 0x4b ∷ 0x4b ∷ 0x4b ∷ 0x4b ∷ 0x4b ∷ 0x4c ∷ 0x4c ∷ 0x4c ∷ 0x4c ∷ 0x4c ∷ 0x4c ∷ 0x4c ∷ 0x4c ∷ 0x4c ∷ 0x4c ∷ 0x4c ∷ 0x4c ∷ 0x4c ∷ 0x4c ∷ 0x4c ∷ 0x4c ∷ 0x4c ∷ 0x4c ∷ 0x4c ∷ 0x4c ∷ 0x4c ∷ 0x4c ∷ 0x4c ∷ 0x4c ∷ 0x4c ∷ 0x4c ∷ 0x4c ∷ 0x4c ∷ 0x4c ∷ 0x4c ∷ 0x4c ∷ 0x4c ∷ 0x4c ∷ 0x4c ∷ 0x4c ∷ 0x4c ∷ 0x4c ∷ 0x4c ∷ 0x4c ∷ 0x4c ∷ 0x4c ∷ 0x4c ∷ 0x4c ∷ 0x4c ∷ 0x4c ∷ 0x4c ∷ 0x4c ∷ 0x4c ∷ 0x4c ∷ 0x4c ∷ 0x4c ∷ 0x4c ∷ 0x4c ∷ 0x4c ∷ 0x4c ∷ 0x4c ∷ 0x4c ∷ 0x4c ∷ 0x4c ∷ 0x4c ∷ 0x4c ∷ 0x4c ∷ 0x4c ∷ 0x4c ∷ 0x4c ∷ []) ++ line_feed ++ codes "E" ++ line_feed) ≡ record { message_bytes = codes "accepted 1" ++ line_feed ++ codes "refused malformed 0 group FeedMessage 0" ++ line_feed; status = 0 }
-unfolding is_utf8 chars digits encode groups_at varint_at span_at tag_at wire_payload_at field_with behind_end group_at field_at fields_within fields_of groups varint payload_bytes field_bytes occurrences_of last_of unknown_bytes_of fields_of_all value message_bytes merged_message values numbered_values read write well_formed messages_of since_full changes_by_id entities_of newest_stamp combined line_within words_of digits_value head_of payload_at turn run_within run replayed
+pub groups_nest :
+    replayed (script (offer (header 0 5 ++ nested 64) ++ offer (header 0 6 ++ nested 65)))
+    ≡ done (accepted 1 ++ line (codes "refused malformed 0 group FeedMessage 0"))
+unfolding is_utf8 chars digits encode groups_at varint_at span_at tag_at wire_payload_at field_with behind_end group_at field_at fields_within fields_of groups varint payload_bytes field_bytes occurrences_of last_of unknown_bytes_of fields_of_all value message_bytes merged_message values numbered_values read write well_formed messages_of since_full changes_by_id entities_of newest_stamp combined line_within words_of head_of payload_at turn run_within run replayed is_name number waits is_open_within is_open
 groups_nest = refl
 
--- a message without a stamp
-pub stamp_is_needed : replayed (codes "F a" ++ line_feed ++ codes "M a 7" ++ line_feed ++ (0x0a ∷ 0x05 ∷ 0x0a ∷ 0x03 ∷ 0x32 ∷ 0x2e ∷ 0x30 ∷ []) ++ line_feed ++ codes "E" ++ line_feed) ≡ record { message_bytes = codes "refused stamp 0" ++ line_feed; status = 0 }
-unfolding is_utf8 chars digits encode groups_at varint_at span_at tag_at wire_payload_at field_with behind_end group_at field_at fields_within fields_of groups varint payload_bytes field_bytes occurrences_of last_of unknown_bytes_of fields_of_all value message_bytes merged_message values numbered_values read write well_formed messages_of since_full changes_by_id entities_of newest_stamp combined line_within words_of digits_value head_of payload_at turn run_within run replayed
-stamp_is_needed = refl
+-- a line that is no record; an input that ends before E
+pub scripts_are_refused :
+    (replayed (line (codes "X")) ≡ refused_at 0) × (replayed (line (codes "F a")) ≡ refused_at 4)
+unfolding is_utf8 chars digits encode groups_at varint_at span_at tag_at wire_payload_at field_with behind_end group_at field_at fields_within fields_of groups varint payload_bytes field_bytes occurrences_of last_of unknown_bytes_of fields_of_all value message_bytes merged_message values numbered_values read write well_formed messages_of since_full changes_by_id entities_of newest_stamp combined line_within words_of head_of payload_at turn run_within run replayed is_name number waits is_open_within is_open
+scripts_are_refused = (refl, refl)
+
+-- a length of 12 digits is one, a length of 13 digits and one above the greatest are none
+pub lengths :
+    (length_in (codes "000000000011") ≡ Some 11) × (length_in (codes "0000000000011") ≡ None)
+    × (length_in (codes "999999999") ≡ Some 999999999) × (length_in (codes "1000000000") ≡ None)
+    × (length_in [] ≡ None)
+unfolding number
+lengths = (refl, refl, refl, refl, refl)
+
+-- a line has 4096 bytes at most, its LF included
+pub lines_are_bounded :
+    (line_within longest_line (line (replicate 4095 0x78)) ≡ Some (replicate 4095 0x78, []))
+    × (line_within longest_line (line (replicate 4096 0x78)) ≡ None)
+unfolding line_within
+lines_are_bounded = (refl, refl)
+
+-- what waits for more bytes, and what is refused whatever follows
+pub records_wait :
+    (waits start (codes "X") ≡ true) × (waits start (line (codes "X")) ≡ false)
+    × (is_open start (line (codes "F a") ++ line (codes "M a 2") ++ codes "ab") ≡ true)
+    × (is_open start (line (codes "F a") ++ line (codes "M b 2")) ≡ false)
+    × (is_open start (line (codes "F a") ++ line (codes "E")) ≡ false)
+unfolding is_utf8 chars digits encode groups_at varint_at span_at tag_at wire_payload_at field_with behind_end group_at field_at fields_within fields_of groups varint payload_bytes field_bytes occurrences_of last_of unknown_bytes_of fields_of_all value message_bytes merged_message values numbered_values read write well_formed messages_of since_full changes_by_id entities_of newest_stamp combined line_within words_of head_of payload_at turn run_within run replayed is_name number waits is_open_within is_open
+records_wait = (refl, refl, refl, refl, refl)

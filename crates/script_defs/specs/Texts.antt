@@ -1,6 +1,7 @@
 -- The words and lines that tell why a message was refused.
-use Rattle.std.specs.Prelude.{ℕ, List, ◌++◌, map, nat_lt, ◌==◌, ◌||◌, if◌then◌else◌, codes}
+use Rattle.std.specs.Prelude.{ℕ, List, ◌++◌, codes}
 use Rattle.std.specs.Fmt.{decimal}
+use Rattle.text_defs.specs.Cleaned.{cleaned_text}
 use Rattle.rt_types.specs.declared.fault.Kind.{Kind}
 use Rattle.rt_types.specs.declared.fault.Kind.TheVariants as kind
 use Rattle.rt_types.specs.declared.fault.What.{What}
@@ -8,10 +9,6 @@ use Rattle.rt_types.specs.declared.fault.What.TheVariants as what
 use Rattle.feed_defs.specs.Rows.{Fault}
 use Rattle.feed_defs.specs.History.{Refusal}
 use Rattle.feed_defs.specs.History.Refusal.{TooLong, Malformed, Version, BadStamp, Stale}
-
--- a text without control characters, which would break its line: each stands as a space
-abbrev pub cleaned : List ℕ → List ℕ
-cleaned text = map (λ b. if nat_lt b 32 || (b == 127) then 32 else b) text
 
 -- what is wrong in a message
 abbrev pub what_word : What → List ℕ
@@ -41,15 +38,17 @@ kind_name kind.TranslatedString = codes "TranslatedString"
 kind_name kind.Translation = codes "Translation"
 kind_name kind.TripDescriptor = codes "TripDescriptor"
 
--- where a message is at fault: the number of the entity, what it is, and the message and the field that it is in
+-- where a message is at fault: the number of the entity, what it is, and the message and the field
+-- that it is in
 abbrev pub fault_words : Fault → List ℕ
 fault_words fault =
-    decimal fault.entity ++ codes " " ++ what_word fault.what ++ codes " " ++ kind_name fault.kind ++ codes " " ++ decimal fault.field
+    decimal fault.entity ++ codes " " ++ what_word fault.what ++ codes " " ++ kind_name fault.kind
+        ++ codes " " ++ decimal fault.field
 
 -- why a message was refused
 abbrev pub refusal_words : Refusal → List ℕ
 refusal_words (TooLong size) = codes "refused toolong " ++ decimal size
 refusal_words (Malformed fault) = codes "refused malformed " ++ fault_words fault
-refusal_words (Version version) = codes "refused version " ++ cleaned version
+refusal_words (Version version) = codes "refused version " ++ cleaned_text version
 refusal_words (BadStamp got) = codes "refused stamp " ++ decimal got
 refusal_words (Stale last got) = codes "refused stale " ++ decimal last ++ codes " " ++ decimal got

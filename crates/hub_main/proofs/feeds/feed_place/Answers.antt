@@ -1,5 +1,0 @@
-use Rattle.hub_main.proofs.Names.{place_found}
-use Rattle.hub_main.proofs.feeds.feed_place.Goals as goal
-
-pub returns : goal.returns
-returns c = place_found _ c.args.names.now c.first_place.result c.first_place.ensures

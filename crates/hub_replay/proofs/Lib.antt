@@ -1,0 +1,9 @@
+pub mod Texts
+pub mod Places
+pub mod Windows
+pub mod Names
+pub mod Doing
+pub mod Offering
+pub mod Skipping
+pub mod Going
+pub mod Outcomes

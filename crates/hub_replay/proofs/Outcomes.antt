@@ -1,0 +1,273 @@
+-- From the ending of a replay to the outcome of the command.
+use Rattle.std.proofs.Common.{◌≡◌, ℕ, zero, suc, ◌+◌, ◌-◌, ◌≤◌, List, [], ◌∷◌, ◌++◌, length, take, Option, Some, None, IfSome, Bool, true, false, refl, sym, ap, ◌∙◌, subst, arith, inl, inr, append-nil, append_assoc}
+use Rattle.std.specs.Prelude.{unwrap_or, min, ◌⊎◌}
+use Rattle.std.specs.Io.KnownBytes.{Appends, Consumes}
+use Rattle.std.proofs.KnownBytes.{Appends-trans, Consumes-nil}
+use Rattle.std.proofs.lemmas.List.{take-append-le, take_min}
+use Rattle.std.proofs.Math.Seq.{take-append-add, take-append_seam, take-nil}
+use Rattle.hub_outside.specs.Count.{Rose}
+use Rattle.script_defs.specs.Record.{start}
+use Rattle.script_defs.specs.Output.{Run, Output, run, output_of, longest_script, refused_line, fault_line}
+use Rattle.hub_replay.specs.declared.steps.Ending.{Ending}
+use Rattle.hub_replay.specs.declared.steps.Ending.TheVariants.{Ended, Refused, InputFault, OutputFault, NoMemory}
+use Rattle.hub_replay.specs.Window.{remaining}
+use Rattle.hub_replay.specs.Steps.{Leaves, HasCause, at_start}
+use Rattle.hub_replay.specs.Outcome.{IsStatus, IsScript, Outcome, InputFailed, OutputFailed, RanOut, Last, Finishes, output_of_script, Whole}
+
+-- what is told of the script is told of all that the input had
+pub script_told : (left left' : Option (List ℕ)) (script : List ℕ) (P : List ℕ → Type 0) → IsScript left left' script → P script → IfSome left P
+script_told None left' script P s h = tt
+script_told (Some xs) None script P s h = absurd s.read
+script_told (Some xs) (Some ys) script P s h = subst P (s.all ∙ sym s.read) h
+
+-- the front of a list and what of its end is within
+take_over : (n : ℕ) (front back : List ℕ) → length front ≤ n → take n (front ++ back) ≡ front ++ take (n - length front) back
+take_over n front back h = let sum : length front + (n - length front) ≡ n = omega arith in subst (λ k. take k (front ++ back) ≡ front ++ take (n - length front) back) sum (take-append-add front back (n - length front))
+
+-- the front of a front
+take_front : (n : ℕ) (front back : List ℕ) → take n front ≡ take (min n (length front)) (front ++ back)
+take_front n front back = let few : min n (length front) ≤ length front = omega arith in sym (take_min n front) ∙ sym (take-append-le (min n (length front)) front back few)
+
+-- the front of two lists
+take_both : (n : ℕ) (front back : List ℕ) → take n (front ++ back) ≡ take n front ++ take (n - length front) back
+take_both n [] back = let same : n - length {A = ℕ} [] ≡ n = omega arith in rw (take-nil n, same) refl
+take_both zero (x ∷ xs) back = let none : zero - length (x ∷ xs) ≡ 0 = omega arith in rw none refl
+take_both (suc n) (x ∷ xs) back = let same : suc n - length (x ∷ xs) ≡ n - length xs = omega arith in rw same (ap (λ ys. x ∷ ys) (take_both n xs back))
+
+written_from : (r : Run) (test : Bool) → r.ended ≡ test → (later : List ℕ) × ((output_of r).written ≡ r.out ++ later)
+written_from r true h = ([], rw h (sym (append-nil r.out)))
+written_from r false h = (refused_line r.taken, rw h refl)
+
+-- what a run prints is the front of its output
+written_front : (r : Run) (told later : List ℕ) → r.out ≡ told ++ later → (more : List ℕ) × ((output_of r).written ≡ told ++ more)
+written_front r told later h =
+    let w = written_from r r.ended refl in
+    (later ++ w.0, w.1 ∙ ap (λ xs. xs ++ w.0) h ∙ append_assoc told later w.0)
+
+pub rose_later : (a b d : ℕ) → a ≤ b → Rose b d → Rose a d
+rose_later a b d h r = omega arith
+
+-- the facts of an ending that its outcome takes
+pub record Told (left left' written written' : Option (List ℕ)) (told sent : List ℕ) (script : List ℕ) : Type 0 where
+  pub is_script : IsScript left left' script
+  pub wrote : Appends written written' sent
+  pub later : List ℕ
+  pub front : (output_of_script script).written ≡ told ++ later
+
+module _ (result : ℕ) (left left' written written' written'' : Option (List ℕ)) (input input' out out' out'' : ℕ) (inputs : input ≤ input') (outs : out ≤ out') (outs' : out' ≤ out'') where
+  abbrev Ends : Type 0
+  Ends = Outcome output_of_script result left left' written written'' input input' out out''
+
+  done : (status : ℕ) → (status ≡ 0) ⊎ (status ≡ 7) → result ≡ status
+      → IfSome left (λ script. Appends written written'' (output_of_script script).written × (result ≡ (output_of_script script).status)) → Ends
+  done status (inl zero_is) is whole = record {
+    is_status = inl (is ∙ zero_is);
+    not_usage = λ e. omega arith;
+    whole = λ _. whole;
+    input_fault = λ e. absurd (omega arith);
+    output_fault = λ e. absurd (omega arith);
+    no_memory = λ e. absurd (omega arith);
+    input_count = inputs;
+    output_count = omega arith;
+  }
+  done status (inr seven) is whole = record {
+    is_status = inr (inr (inr (inr (inr (is ∙ seven)))));
+    not_usage = λ e. omega arith;
+    whole = λ _. whole;
+    input_fault = λ e. absurd (omega arith);
+    output_fault = λ e. absurd (omega arith);
+    no_memory = λ e. absurd (omega arith);
+    input_count = inputs;
+    output_count = omega arith;
+  }
+
+  input_failed : result ≡ 4 → Rose input input' × (taken : List ℕ) × Consumes left left' taken × (length taken ≤ longest_script) × Appends written written'' ((run start taken).out ++ fault_line) → Ends
+  input_failed is h = record {
+    is_status = inr (inr (inl is));
+    not_usage = λ e. omega arith;
+    whole = elim [ inl e ↦ absurd (omega arith) | inr (inl e) ↦ absurd (omega arith) | inr (inr e) ↦ absurd (omega arith) ];
+    input_fault = λ _. h;
+    output_fault = λ e. absurd (omega arith);
+    no_memory = λ e. absurd (omega arith);
+    input_count = inputs;
+    output_count = omega arith;
+  }
+
+  output_failed : result ≡ 5 → Rose out out''
+      × (script : List ℕ) × IsScript left left' script × (m : ℕ) × (n : ℕ) × Appends written written'' (take m (output_of_script script).written ++ take n fault_line) → Ends
+  output_failed is h = record {
+    is_status = inr (inr (inr (inl is)));
+    not_usage = λ e. omega arith;
+    whole = elim [ inl e ↦ absurd (omega arith) | inr (inl e) ↦ absurd (omega arith) | inr (inr e) ↦ absurd (omega arith) ];
+    input_fault = λ e. absurd (omega arith);
+    output_fault = λ _. h;
+    no_memory = λ e. absurd (omega arith);
+    input_count = inputs;
+    output_count = omega arith;
+  }
+
+  out_of_memory : result ≡ 6 → (script : List ℕ) × IsScript left left' script × (m : ℕ) × Appends written written'' (take m (output_of_script script).written) → Ends
+  out_of_memory is h = record {
+    is_status = inr (inr (inr (inr (inl is))));
+    not_usage = λ e. omega arith;
+    whole = elim [ inl e ↦ absurd (omega arith) | inr (inl e) ↦ absurd (omega arith) | inr (inr e) ↦ absurd (omega arith) ];
+    input_fault = λ e. absurd (omega arith);
+    output_fault = λ e. absurd (omega arith);
+    no_memory = λ _. h;
+    input_count = inputs;
+    output_count = omega arith;
+  }
+
+  -- what was written first, and the rest of what is told
+  joined : (told sent unsent line : List ℕ) → told ≡ sent ++ unsent → Appends written written' sent → Appends written' written'' (unsent ++ line) → Appends written written'' (told ++ line)
+  joined told sent unsent line says first last =
+      let all : sent ++ (unsent ++ line) ≡ told ++ line = sym (append_assoc sent unsent line) ∙ ap (λ xs. xs ++ line) (sym says) in
+      subst (Appends written written'') all (Appends-trans written written' written'' sent (unsent ++ line) first last)
+
+  cut : (told sent unsent line : List ℕ) (n : ℕ) → told ≡ sent ++ unsent → Appends written written' sent → Appends written' written'' (take n (unsent ++ line)) → Appends written written'' (take (length sent + n) (told ++ line))
+  cut told sent unsent line n says first last =
+      let all : sent ++ take n (unsent ++ line) ≡ take (length sent + n) (told ++ line) =
+      sym (take-append-add sent (unsent ++ line) n) ∙ ap (take (length sent + n)) (sym (append_assoc sent unsent line) ∙ ap (λ xs. xs ++ line) (sym says)) in
+      subst (Appends written written'') all (Appends-trans written written' written'' sent (take n (unsent ++ line)) first last)
+
+  -- the output failed in the midst of what is defined
+  cut_within : (script told line : List ℕ) (m : ℕ) → Rose out out'' → IsScript left left' script → (more : List ℕ) → (output_of_script script).written ≡ told ++ line ++ more → Appends written written'' (take m (told ++ line)) → result ≡ 5 → Ends
+  cut_within script told line m rose is more front wrote e =
+      let whole = take_front m (told ++ line) more in
+      let same : take m (told ++ line) ≡ take (min m (length (told ++ line))) (output_of_script script).written ++ take 0 fault_line =
+      whole ∙ ap (take (min m (length (told ++ line)))) (sym front) ∙ sym (append-nil (take (min m (length (told ++ line))) (output_of_script script).written)) in
+      output_failed e (rose, script, is, min m (length (told ++ line)), 0, subst (Appends written written'') same wrote)
+
+  -- the output failed in the midst of what is defined, or of the fault's line behind it
+  cut_fault : (script told : List ℕ) (m : ℕ) → Rose out out'' → IsScript left left' script → (more : List ℕ) → (output_of_script script).written ≡ told ++ more → Appends written written'' (take m (told ++ fault_line)) → result ≡ 5 → Ends
+  cut_fault script told m rose is more front wrote e =
+      let same : take m (told ++ fault_line) ≡ take (min m (length told)) (output_of_script script).written ++ take (m - length told) fault_line =
+      take_both m told fault_line ∙ ap (λ xs. xs ++ take (m - length told) fault_line) (take_front m told more ∙ ap (take (min m (length told))) (sym front)) in
+      output_failed e (rose, script, is, min m (length told), m - length told, subst (Appends written written'') same wrote)
+
+  -- memory ran out behind what is told
+  short_of : (script told : List ℕ) → IsScript left left' script → (more : List ℕ) → (output_of_script script).written ≡ told ++ more → Appends written written'' told → result ≡ 6 → Ends
+  short_of script told is more front wrote e =
+      let same : told ≡ take (length told) (output_of_script script).written = sym (take-append_seam told more) ∙ ap (take (length told)) (sym front) in
+      out_of_memory e (script, is, length told, subst (Appends written written'') same wrote)
+
+  abbrev Leaving : Ending → List ℕ → Type 0
+  Leaving ending said = Leaves ending at_start said left left' written written'
+
+  abbrev script_of : (ending : Ending) (said : List ℕ) → Leaving ending said → List ℕ
+  script_of ending said p = p.more ++ unwrap_or left' []
+
+  abbrev rest_of : (ending : Ending) (said : List ℕ) → Leaving ending said → List ℕ
+  rest_of ending said p = remaining left' (longest_script - length p.more)
+
+  is_script_of : (ending : Ending) (said : List ℕ) (p : Leaving ending said) → IsScript left left' (script_of ending said p)
+  is_script_of ending said p = record { taken = p.more; read = p.read; within = p.allowed; all = refl }
+
+  defined_of : (ending : Ending) (said : List ℕ) (p : Leaving ending said) → output_of_script (script_of ending said p) ≡ output_of (run start (p.more ++ rest_of ending said p))
+  defined_of ending said p = ap (λ xs. output_of (run start xs)) (take_over longest_script p.more (unwrap_or left' []) p.allowed)
+
+  front_of : (ending : Ending) (said : List ℕ) (p : Leaving ending said) → (later : List ℕ) × ((output_of_script (script_of ending said p)).written ≡ p.told ++ later)
+  front_of ending said p =
+      let rest = rest_of ending said p in
+      let w = written_front (run start (p.more ++ rest)) p.told (p.front rest).0 (p.front rest).1 in
+      (w.0, ap (λ (o : Output). o.written) (defined_of ending said p) ∙ w.1)
+
+  from_unsent : (unsent said line : List ℕ) → unsent ≡ said → Appends written' written'' (said ++ line) → Appends written' written'' (unsent ++ line)
+  from_unsent unsent said line e h = subst (λ s. Appends written' written'' (s ++ line)) (sym e) h
+
+  cut_unsent : (unsent said line : List ℕ) (n : ℕ) → unsent ≡ said → Appends written' written'' (take n (said ++ line)) → Appends written' written'' (take n (unsent ++ line))
+  cut_unsent unsent said line n e h = subst (λ s. Appends written' written'' (take n (s ++ line))) (sym e) h
+
+  -- the whole of what is defined was written
+  whole_of : (ending : Ending) (said line : List ℕ) (status : ℕ) → (status ≡ 0) ⊎ (status ≡ 7) → (p : Leaving ending said) → p.unsent ≡ said → output_of_script (script_of ending said p) ≡ record { written = p.told ++ line; status = status }
+      → result ≡ status → Appends written' written'' (said ++ line) → Ends
+  whole_of ending said line status which p keeps is e wrote =
+      let all = joined p.told p.sent p.unsent line p.says p.wrote (from_unsent p.unsent said line keeps wrote) in
+      let P : List ℕ → Type 0 = λ script. Appends written written'' (output_of_script script).written × (result ≡ (output_of_script script).status) in
+      done status which e (script_told left left' (script_of ending said p) P (is_script_of ending said p) (rw is (all, e)))
+
+  -- the output failed in the midst of the last bytes
+  cut_of : (ending : Ending) (said line later : List ℕ) → (p : Leaving ending said) → p.unsent ≡ said → (output_of_script (script_of ending said p)).written ≡ p.told ++ line ++ later
+      → result ≡ 5 → Rose out' out'' → (n : ℕ) → Appends written' written'' (take n (said ++ line)) → Ends
+  cut_of ending said line later p keeps front e rose n wrote =
+      cut_within (script_of ending said p) p.told line (length p.sent + n) (rose_later out out' out'' outs rose) (is_script_of ending said p) later front
+      (cut p.told p.sent p.unsent line n p.says p.wrote (cut_unsent p.unsent said line n keeps wrote)) e
+
+  -- memory ran out behind what is told
+  short_here : (ending : Ending) (said : List ℕ) → (p : Leaving ending said) → p.unsent ≡ said → result ≡ 6 → Appends written' written'' (said ++ []) → Ends
+  short_here ending said p keeps e wrote =
+      let front = front_of ending said p in
+      let all = joined p.told p.sent p.unsent [] p.says p.wrote (from_unsent p.unsent said [] keeps wrote) in
+      short_of (script_of ending said p) p.told (is_script_of ending said p) front.0 front.1 (subst (Appends written written'') (append-nil p.told) all) e
+
+  cut_here : (ending : Ending) (said : List ℕ) → (p : Leaving ending said) → p.unsent ≡ said → result ≡ 5 → Rose out' out'' → (n : ℕ) → Appends written' written'' (take n (said ++ [])) → Ends
+  cut_here ending said p keeps e rose n wrote =
+      let front = front_of ending said p in
+      let nothing : p.told ++ [] ≡ p.told = append-nil p.told in
+      cut_of ending said [] front.0 p keeps (front.1 ∙ ap (λ xs. xs ++ front.0) (sym nothing)) e rose n wrote
+
+  refused_outcome : (place : ℕ) (said : List ℕ) (p : Leaving (Refused place) said) → output_of_script (script_of (Refused place) said p) ≡ record { written = p.told ++ refused_line place; status = 7 }
+      → Finishes (Refused place) result said written' written'' out' out'' → Ends
+  refused_outcome place said p is (inl (count, inl (e, wrote))) = whole_of (Refused place) said (refused_line place) 7 (inr refl) p p.keeps is e wrote
+  refused_outcome place said p is (inl (count, inr (e, rose, (n, wrote)))) =
+      cut_of (Refused place) said (refused_line place) [] p p.keeps (ap (λ (o : Output). o.written) is ∙ sym (append-nil (p.told ++ refused_line place))) e rose n wrote
+  refused_outcome place said p is (inr (count, inl (e, wrote))) = short_here (Refused place) said p p.keeps e wrote
+  refused_outcome place said p is (inr (count, inr (e, rose, (n, wrote)))) = cut_here (Refused place) said p p.keeps e rose n wrote
+
+  -- the outcome of a replay
+  pub outcome : (ending : Ending) (said : List ℕ) → Leaving ending said → HasCause (Some ending) input input' out out' → Finishes ending result said written' written'' out' out'' → Ends
+  outcome Ended said p cause (count, inl (e, wrote)) =
+      let whole = p.ends (rest_of Ended said p) in
+      let is : output_of_script (script_of Ended said p) ≡ record { written = p.told ++ []; status = 0 } =
+      defined_of Ended said p ∙ ap output_of whole.1 ∙ ap (λ (xs : List ℕ). let o : Output = record { written = xs; status = 0 } in o) (sym (append-nil p.told)) in
+      whole_of Ended said [] 0 (inl refl) p p.keeps is e wrote
+  outcome Ended said p cause (count, inr (e, rose, (n, wrote))) = cut_here Ended said p p.keeps e rose n wrote
+  outcome (Refused place) said p cause h =
+      let whole = p.ends.1 in
+      let exact : place - 0 ≡ place = omega arith in
+      let is : output_of_script (script_of (Refused place) said p) ≡ record { written = p.told ++ refused_line place; status = 7 } =
+      defined_of (Refused place) said p ∙ ap output_of whole ∙ ap (λ (n : ℕ). let o : Output = record { written = p.told ++ refused_line n; status = 7 } in o) exact in
+      refused_outcome place said p is h
+  outcome InputFault said p cause (count, inl (e, wrote)) =
+      let all = joined p.told p.sent p.unsent fault_line p.says p.wrote (from_unsent p.unsent said fault_line p.keeps wrote) in
+      input_failed e (cause.2, p.more, p.read, p.allowed, subst (λ xs. Appends written written'' (xs ++ fault_line)) (sym p.ends) all)
+  outcome InputFault said p cause (count, inr (e, rose, (n, wrote))) =
+      let front = front_of InputFault said p in
+      cut_fault (script_of InputFault said p) p.told (length p.sent + n) (rose_later out out' out'' outs rose) (is_script_of InputFault said p) front.0 front.1
+      (cut p.told p.sent p.unsent fault_line n p.says p.wrote (cut_unsent p.unsent said fault_line n p.keeps wrote)) e
+  outcome OutputFault said p cause (e, count, wrote) =
+      let front = front_of OutputFault said p in
+      let rose : Rose out out'' = omega (arith, cause.2) in
+      let sent_is : p.sent ++ [] ≡ take (length p.sent) (p.told ++ []) =
+      append-nil p.sent ∙ sym (take-append_seam p.sent p.unsent) ∙ ap (take (length p.sent)) (sym p.says ∙ sym (append-nil p.told)) in
+      cut_within (script_of OutputFault said p) p.told [] (length p.sent) rose (is_script_of OutputFault said p) front.0 (front.1 ∙ ap (λ xs. xs ++ front.0) (sym (append-nil p.told)))
+      (subst (Appends written written'') sent_is (Appends-trans written written' written'' p.sent [] p.wrote wrote)) e
+  outcome NoMemory said p cause (count, inl (e, wrote)) = short_here NoMemory said p p.keeps e wrote
+  outcome NoMemory said p cause (count, inr (e, rose, (n, wrote))) = cut_here NoMemory said p p.keeps e rose n wrote
+
+-- no count falls at an ending
+pub finishes_count : (ending : Ending) (result : ℕ) (said : List ℕ) (written written' : Option (List ℕ)) (out out' : ℕ) → Finishes ending result said written written' out out' → out ≤ out'
+finishes_count Ended result said written written' out out' h = h.0
+finishes_count (Refused place) result said written written' out out' (inl h) = h.0
+finishes_count (Refused place) result said written written' out out' (inr h) = h.0
+finishes_count InputFault result said written written' out out' h = h.0
+finishes_count OutputFault result said written written' out out' h = h.1
+finishes_count NoMemory result said written written' out out' h = h.0
+
+whole_given : (f g : List ℕ → Output) → ((script : List ℕ) → f script ≡ g script) → (status : ℕ) (left written written' : Option (List ℕ)) → Whole f status left written written' → Whole g status left written written'
+whole_given f g same status None written written' h = h
+whole_given f g same status (Some xs) written written' h = λ which. rw (← same xs) (h which)
+
+-- an outcome, by another word for what is defined
+pub outcome_given : (f g : List ℕ → Output) → ((script : List ℕ) → f script ≡ g script) → (status : ℕ) (left left' written written' : Option (List ℕ)) (input input' out out' : ℕ)
+    → Outcome f status left left' written written' input input' out out' → Outcome g status left left' written written' input input' out out'
+outcome_given f g same status left left' written written' input input' out out' o = record {
+  is_status = o.is_status;
+  not_usage = o.not_usage;
+  whole = whole_given f g same status left written written' o.whole;
+  input_fault = o.input_fault;
+  output_fault = λ e. let h = o.output_fault e in (h.0, h.1, h.2, h.3, h.4, rw (← same h.1) h.5);
+  no_memory = λ e. let h = o.no_memory e in (h.0, h.1, h.2, rw (← same h.0) h.3);
+  input_count = o.input_count;
+  output_count = o.output_count;
+}

@@ -1,0 +1,6 @@
+pub mod Lines
+pub mod Window
+pub mod Feeds
+pub mod Records
+pub mod Steps
+pub mod Outcome
