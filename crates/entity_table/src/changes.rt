@@ -17,7 +17,8 @@ use std::alloc::Global;
 /// deleted takes its id away, and any other takes the place of what its id had, whole, with the message's stamp.
 pub fn apply(alloc: Global, table: &Table, message: &FeedMessage) -> Result<Table, NoMemory>
     ensures applied { IfOk result (λ next. next ≡ entities_after message.now table.now) }
-    ensures stands { (ms : List FeedMessage) → table.now ≡ entities_of ms → IfOk result (λ next. next ≡ entities_of (ms ++ message.now ∷ [])) }
+    ensures stands { (ms : List FeedMessage) → table.now
+        ≡ entities_of ms → IfOk result (λ next. next ≡ entities_of (ms ++ message.now ∷ [])) }
 {
     let mut list = start(alloc, table, message)?;
     let stamp = message.header.timestamp.unwrap_or(0);
@@ -48,7 +49,8 @@ fn change(
     entity: &Entity,
     stamp: u64,
 ) -> Result<SharedList<SharedStored>, NoMemory>
-    ensures { IfOk result (λ next. next ≡ changes_with list (entity.now.id, record { entity = entity.now; stamp = stamp })) }
+    ensures { IfOk result (λ next. next
+        ≡ changes_with list (entity.now.id, record { entity = entity.now; stamp = stamp })) }
 {
     if is_deleted(entity) {
         return list.without(entity.id.as_str());

@@ -51,7 +51,8 @@ fn named_entities(
     tables: &[Table],
 ) -> Result<Vec<Entity>, NoMemory>
     requires { length tables.now ≡ length names.now }
-    ensures { IfOk result (λ entities. entities.items ≡ flat_map (tabled_entities tables.now) (enumerate_from 0 names.now)) }
+    ensures { IfOk result (λ entities. entities.items
+        ≡ flat_map (tabled_entities tables.now) (enumerate_from 0 names.now)) }
 {
     let mut entities = Vec::new(alloc);
     for (feed, name) in names.iter().enumerate() {
@@ -67,7 +68,9 @@ fn push_named(
     table: &Table,
     entities: &mut Vec<Entity>,
 ) -> Result<(), NoMemory>
-    ensures { OnOk result (entities.new.items ≡ entities.old.items ++ map (λ change. entity_under_feed feed.now change.1.entity) table.now) }
+    ensures { OnOk result (entities.new.items
+        ≡ entities.old.items
+        ++ map (λ change. entity_under_feed feed.now change.1.entity) table.now) }
 {
     for stored in table.iter() {
         entities.push(named(alloc, feed, &stored.entity)?)?;

@@ -93,9 +93,11 @@ impl<T: Keyed> SharedList<T> {
         item_in(self.chunks.as_slice(), key)
     }
 
-    /// The items in the order of their keys.
+    /// The items in the order of their keys, which strictly rise; each is under its own key.
     pub fn iter(&self) -> Iter<'_, T>
-        ensures { result ≡ map (λ entry. entry.1) self.entry.now }
+        ensures items { result ≡ map (λ entry. entry.1) self.entry.now }
+        ensures rising { IsSo (is_sorted key_cmp self.entry.now) }
+        ensures keyed { entries T.key_of (map (λ entry. entry.1) self.entry.now) ≡ self.entry.now }
     {
         Iter::over(self.chunks.as_slice())
     }
@@ -105,14 +107,6 @@ impl<T: Keyed> SharedList<T> {
         ensures { result ≡ length self.now }
     {
         self.len
-    }
-
-    /// What is true of every list: its keys strictly rise, and each is the key of its item.
-    pub fn sound(&self)
-        ensures rising { IsSo (is_sorted key_cmp self.now) }
-        ensures keyed { entries T.key_of (map (λ entry. entry.1) self.now) ≡ self.now }
-    {
-        let _chunks = &self.chunks;
     }
 }
 

@@ -1,7 +1,8 @@
 //! A list of plain items, with ample memory.
 
 use crate::{Keyed, SharedList};
-use rt_types::{Copied, Text};
+use copying::Copied;
+use texts::ShortText;
 use crate::NoMemory;
 use std::alloc::Global;
 use std::test::Fail;
@@ -9,7 +10,7 @@ use std::test::Fail;
 /// A name with a number.
 #[derive(Drop)]
 struct Numbered {
-    name: Text,
+    name: ShortText,
     number: u32,
 }
 
@@ -37,7 +38,7 @@ fn with(
     name: &str,
     number: u32,
 ) -> Result<SharedList<Numbered>, NoMemory> {
-    let name = Text::new(alloc, name)?;
+    let name = ShortText::new(alloc, name)?;
     list.with(Numbered { name, number })
 }
 
