@@ -1,0 +1,4 @@
+pub mod Parts
+pub mod CityBoards
+pub mod LineBoards
+pub mod Feeds
