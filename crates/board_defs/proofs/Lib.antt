@@ -2,3 +2,4 @@ pub mod Parts
 pub mod CityBoards
 pub mod LineBoards
 pub mod Feeds
+pub mod ViewLaws
