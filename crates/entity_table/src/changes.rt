@@ -4,12 +4,12 @@ ghost use Rattle.std.specs.Prelude.{◌≡◌, ◌∷◌, ◌++◌, [], List, if
 ghost use Rattle.feed_defs.specs.History.{entities_after, changes_with, entities_of, is_full};
 ghost use Rattle.rt_types.specs.declared.message.FeedMessage.{FeedMessage};
 
+use crate::NoMemory;
 use crate::stored::SharedStored;
 use crate::table::Table;
 use feed_defs::Stored;
 use rt_types::{Copied, Entity, FeedMessage, Incrementality};
 use shared_list::SharedList;
-use crate::NoMemory;
 use std::alloc::Global;
 
 /// The table after the message (GTFS Realtime 2.0, FeedHeader, `incrementality`). A whole data set starts from

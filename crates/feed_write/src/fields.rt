@@ -74,8 +74,11 @@ pub fn put_message<M: Message>(number: u32, message: &M, out: &mut Vec<u8>) -> R
     requires last { number ≤ 536870911 }
     ensures written { OnOk result (out.new.items
         ≡ out.old.items
-        ++ field_bytes (record { number = number; payload = Span
-        (message_bytes M.table message.now) })) }
+        ++ field_bytes (record {
+          number = number;
+          payload = Span
+              (message_bytes M.table message.now);
+        })) }
     ensures begins { StartsWith out.old.items out.new.items }
 {
     write_varint(u64::from(number) * 8 + 2, out)?;

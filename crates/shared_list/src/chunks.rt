@@ -7,9 +7,9 @@ ghost use Rattle.std.specs.Option.{option_copied};
 ghost use Rattle.shared_list.specs.Order.{key_cmp, entries, joined, lead, without, AreParts, IsHome, Rises};
 ghost use Rattle.shared_list.specs.Parts.{items_of, parts_of};
 
+use crate::NoMemory;
 use crate::items::{copy_items, place, put_item, split_off};
 use crate::keyed::{Keyed, key_order};
-use crate::NoMemory;
 use std::alloc::Global;
 use std::cmp::Ordering;
 use std::sync::Arc;

@@ -5,8 +5,8 @@ ghost use Rattle.std.specs.FinMap.{put};
 ghost use Rattle.shared_list.specs.Order.{key_cmp, entries, IsAt, IsGap, Rises};
 ghost use Rattle.shared_list.specs.Parts.{items_of};
 
-use crate::keyed::{Keyed, key_order};
 use crate::NoMemory;
+use crate::keyed::{Keyed, key_order};
 use std::alloc::Global;
 
 /// The most items of a chunk.

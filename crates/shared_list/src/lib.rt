@@ -21,3 +21,4 @@ mod tests;
 pub use iter::Iter;
 pub use keyed::Keyed;
 pub use list::SharedList;
+pub use std::alloc::AllocError as NoMemory;

@@ -5,10 +5,10 @@ ghost use Rattle.std.specs.FinMap.{put, find, is_sorted};
 ghost use Rattle.std.specs.Option.{option_copied};
 ghost use Rattle.shared_list.specs.Order.{key_cmp, entries, without};
 
+use crate::NoMemory;
 use crate::chunks::{item_in, put_chunks, take_out};
 use crate::iter::Iter;
 use crate::keyed::Keyed;
-use crate::NoMemory;
 use std::alloc::Global;
 use std::marker::Model;
 use std::sync::Arc;
@@ -115,7 +115,7 @@ fn len_with(len: usize, is_new: bool) -> Result<usize, NoMemory>
     ensures { IfOk result (λ count. count ≡ (if is_new then len + 1 else len)) }
 {
     if is_new {
-        len.checked_add(1).ok_or(AllocError)
+        len.checked_add(1).ok_or(NoMemory)
     } else {
         Ok(len)
     }

@@ -1,11 +1,10 @@
 //! A list of plain items, with ample memory.
 
-use crate::{Keyed, SharedList};
+use crate::{Keyed, NoMemory, SharedList};
 use copying::Copied;
-use texts::ShortText;
-use crate::NoMemory;
 use std::alloc::Global;
 use std::test::Fail;
+use texts::ShortText;
 
 /// A name with a number.
 #[derive(Drop)]
