@@ -53,6 +53,13 @@ impl ReplayHub {
         })
     }
 
+    /// The names of its feeds, by number.
+    pub fn names(&self) -> &[Text]
+        ensures { result.now ≡ self.now.names }
+    {
+        self.names.as_slice()
+    }
+
     /// Takes the message of the bytes for the feed of that number, and answers how many messages the hub
     /// has accepted with it; or refuses it, and stays as it was.
     pub fn offer(&mut self, feed: u32, bytes: &[u8]) -> Result<u64, Refusal>

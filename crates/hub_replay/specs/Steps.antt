@@ -5,7 +5,7 @@ use Rattle.std.specs.Io.KnownBytes.{Appends, Consumes}
 use Rattle.hub_outside.specs.Count.{Rose}
 use Rattle.script_defs.specs.Record.{Hub, start, reply_line}
 use Rattle.hub_replay.specs.Records.{is_fed}
-use Rattle.script_defs.specs.Output.{run, behind, longest_script}
+use Rattle.script_defs.specs.Output.{run, is_open, behind, longest_script}
 use Rattle.hub_replay.specs.declared.steps.Replay.{Replay}
 use Rattle.hub_replay.specs.declared.steps.Ending.{Ending as HowEnded}
 use Rattle.hub_replay.specs.declared.steps.Ending.TheVariants.{Ended, Refused, InputFault, OutputFault, NoMemory}
@@ -44,6 +44,7 @@ pub record Goes (old new : At) (left left' written written' : Option (List ℕ))
   pub rises : old.place ≤ new.place
   pub size : new.place + length new.held ≡ old.place + length old.held + length more
   pub runs : (rest : List ℕ) → run old.hub (old.held ++ (more ++ rest)) ≡ behind told (new.place - old.place) (run new.hub (new.held ++ rest))
+  pub opens : (rest : List ℕ) → is_open old.hub (old.held ++ (more ++ rest)) ≡ is_open new.hub (new.held ++ rest)
 
 -- what is to be said of an ending, where `told` was printed since and `more` read
 abbrev pub EndsAs : HowEnded → At → List ℕ → List ℕ → Option (List ℕ) → Type 0
@@ -51,7 +52,8 @@ EndsAs Ended old more told left' = (rest : List ℕ) → (taken : ℕ) × (run o
 EndsAs (Refused place) old more told left' =
     (old.place ≤ place)
     × (run old.hub (old.held ++ (more ++ remaining left' (old.allowed - length more))) ≡ record { out = told; taken = place - old.place; ended = false })
-EndsAs InputFault old more told left' = (run old.hub (old.held ++ more)).out ≡ told
+EndsAs InputFault old more told left' =
+    ((run old.hub (old.held ++ more)).out ≡ told) × (is_open old.hub (old.held ++ more) ≡ true)
 EndsAs OutputFault old more told left' = Unit {0}
 EndsAs NoMemory old more told left' = Unit {0}
 

@@ -4,7 +4,8 @@ ghost use Rattle.hub_outside.specs.Source.{IsReadWithin, TakesBytes, HasReadCaus
 ghost use Rattle.hub_replay.specs.Window.{Windowed, fresh, Refills, HasRefillCause};
 
 use hub_outside::{ReadAnswer, Source};
-use std::alloc::{AllocError, Global};
+use crate::NoMemory;
+use std::alloc::Global;
 use std::marker::Model;
 
 /// The least room for one read, in bytes.
@@ -119,7 +120,7 @@ impl Window {
 
     // Makes room for a piece. What is in hand moves to the front only once the buffer's end is reached,
     // and the buffer at least doubles where half of it is in use, so all moves together stay linear.
-    fn make_room(&mut self) -> Result<(), AllocError>
+    fn make_room(&mut self) -> Result<(), NoMemory>
         ensures held { self.new.held ≡ self.old.held }
         ensures allowed { self.new.allowed ≡ self.old.allowed }
         ensures room { OnOk result (0 < self.new.room) }
