@@ -1,8 +1,8 @@
 -- Why reading gave no message.
 use Rattle.std.specs.Prelude.{Option, Some, None}
 use Rattle.feed_defs.specs.Rows.{Fault}
-use Rattle.feed_read.specs.declared.fault.ReadFault.{ReadFault}
-use Rattle.feed_read.specs.declared.fault.ReadFault.TheVariants.{Malformed, NoMemory}
+use Rattle.field_read.specs.declared.fault.ReadFault.{ReadFault}
+use Rattle.field_read.specs.declared.fault.ReadFault.TheVariants.{Malformed, NoMemory}
 
 -- the fault of the bytes that is told; want of memory tells none
 abbrev pub cause_of : ReadFault → Option Fault

@@ -3,9 +3,9 @@ use Rattle.std.specs.Prelude.{◌≡◌, List, ◌++◌, Result, Ok, Err}
 use Rattle.answer_defs.specs.Steps.{◌>>=◌}
 use Rattle.wire_defs.specs.Field.{Field}
 use Rattle.feed_defs.specs.Rows.{Fault}
-use Rattle.feed_read.specs.declared.fault.ReadFault.{ReadFault}
+use Rattle.field_read.specs.declared.fault.ReadFault.{ReadFault}
 use Rattle.answer_defs.specs.Defined.{IsCause}
-use Rattle.feed_read.specs.Causes.{cause_of}
+use Rattle.field_read.specs.Causes.{cause_of}
 
 -- fields with these before them, or the fault in their place
 abbrev pub with_more : List Field → Result (List Field) Fault → Result (List Field) Fault

@@ -1,7 +1,7 @@
 //! Why no message was read.
 
 ghost use Rattle.std.specs.Prelude.{◌≡◌};
-ghost use Rattle.feed_read.specs.declared.fault.ReadFault.TheVariants.{NoMemory};
+ghost use Rattle.field_read.specs.declared.fault.ReadFault.TheVariants.{NoMemory};
 
 use crate::NoMemory;
 use rt_types::{Kind, What};

@@ -4,11 +4,11 @@ use Rattle.std.specs.Prelude.{Result, Ok, Err}
 use Rattle.std.specs.Result.{IsErrAnd}
 use Rattle.wire_defs.specs.Field.{Field}
 use Rattle.feed_defs.specs.Rows.{Fault}
-use Rattle.feed_read.specs.declared.fault.ReadFault.{ReadFault}
-use Rattle.feed_read.specs.declared.fault.ReadFault.TheVariants.{Malformed, NoMemory}
+use Rattle.field_read.specs.declared.fault.ReadFault.{ReadFault}
+use Rattle.field_read.specs.declared.fault.ReadFault.TheVariants.{Malformed, NoMemory}
 use Rattle.answer_defs.specs.Defined.{AsDefined, IsCause}
-use Rattle.feed_read.specs.Causes.{cause_of}
-use Rattle.feed_read.specs.Grows.{Grows}
+use Rattle.field_read.specs.Causes.{cause_of}
+use Rattle.field_read.specs.Grows.{Grows}
 
 -- what is at fault in a part is at fault in the whole
 pub fails_whole : {A B : Type 0} (part : Result A Fault) (whole : Result B Fault) (e : ReadFault) → ((f : Fault) → part ≡ Err f → whole ≡ Err f) → IsCause part (cause_of e) → IsCause whole (cause_of e)

@@ -5,8 +5,8 @@ ghost use Rattle.std.specs.Option.{option_copied};
 ghost use Rattle.feed_defs.specs.Rows.{value_under, last_of, span_in, as_text, fields_in};
 ghost use Rattle.pb_wire.specs.Parts.{part_seen, parts_seen};
 ghost use Rattle.answer_defs.specs.Defined.{AsDefined};
-ghost use Rattle.feed_read.specs.Causes.{cause_of};
-ghost use Rattle.feed_read.specs.Grows.{Grows};
+ghost use Rattle.field_read.specs.Causes.{cause_of};
+ghost use Rattle.field_read.specs.Grows.{Grows};
 
 use crate::fault::ReadFault;
 use pb_wire::{Part, PartPayload, WireFault, read_parts};
