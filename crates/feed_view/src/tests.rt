@@ -48,9 +48,14 @@ fn counted<L: Ledger>(alloc: Global, blank: Blank) -> Result<FeedView, NoMemory>
     FeedView::next(alloc, &plan, &first, message(alloc, 7, "b")?, &mut steps)
 }
 
+/// The same view.
+fn spoken(alloc: Global) -> Result<FeedView, NoMemory> {
+    counted::<Brand>(alloc, Blank::new(1))
+}
+
 #[test]
 fn a_view_goes_on_from_the_one_before(rt: HostRuntime) -> Result<(), Fail> {
-    let view = counted::<Brand>(rt.alloc(), Blank::new(1))?;
+    let view = spoken(rt.alloc())?;
     assert_eq!(rt; view.count(), 2);
     assert_eq!(rt; view.stamp(), 7);
     assert_eq!(rt; view.table().len(), 2);
