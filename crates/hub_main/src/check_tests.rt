@@ -1,4 +1,4 @@
-// Checks of the sample timetable and of changed copies of it, with ample memory.
+//! Checks of the sample timetable and of changed copies of it, with ample memory.
 use crate::run_offline;
 use hub_outside::{FixedClock, MemoryFile, MemoryFiles, MemorySink, MemorySource};
 use rt_types::Text;
@@ -249,5 +249,24 @@ fn a_name_that_is_no_text(rt: HostRuntime) -> Result<(), Fail> {
         b"stop_id,stop_name,location_type,parent_station\nST,Market,1,\nS1,Market A,0,ST\nS2,Market \xff,0,ST\n";
     let told = "hub: load city text stops.txt 4 stop_name\n";
     assert!(rt; changed(rt.alloc(), "city/stops.txt", stops, 3, told)?);
+    Ok(())
+}
+
+// The configuration with a comment that makes it so long.
+fn long_conf(alloc: Global, length: usize) -> Result<Vec<u8>, Fail> {
+    let mut conf = CITY_CONF.as_bytes().to_vec(alloc)?;
+    conf.push(b'#')?;
+    let rest = length.saturating_sub(conf.len());
+    conf.extend_from_slice(&vec![in alloc; b' '; rest]?)?;
+    Ok(conf)
+}
+
+#[test]
+fn longest_configuration(rt: HostRuntime) -> Result<(), Fail> {
+    let alloc = rt.alloc();
+    let most = long_conf(alloc, 1_048_576)?;
+    assert!(rt; changed(alloc, "city.toml", &most, 0, CITY_LINE)?);
+    let more = long_conf(alloc, 1_048_577)?;
+    assert!(rt; changed(alloc, "city.toml", &more, 3, "hub: config long\n")?);
     Ok(())
 }

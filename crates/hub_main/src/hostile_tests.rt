@@ -1,4 +1,4 @@
-// Messages that are at fault, each offered through a replay to a hub that holds nothing, with the line that
+//! Messages that are at fault, each offered through a replay to a hub that holds nothing, with the line that
 // answers it.
 use crate::tests::replayed;
 use std::alloc::Global;
