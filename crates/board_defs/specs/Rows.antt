@@ -1,14 +1,14 @@
 -- The rows of a board: of all runs of a timetable all places at which passengers may board at the asked stop.
-use Rattle.std.specs.Prelude.{ℕ, ◌+◌, ◌-◌, Bool, true, false, not, ◌&&◌, ◌||◌, ◌==◌, if◌then◌else◌, is_empty, List, [], ◌∷◌, ◌++◌, length, map, take, filter, slice_get, Option, Some, None, unwrap_or, ℤ, pos, ◌+ℤ◌, int_le, int_lt, codes}
+use Rattle.std.specs.Prelude.{ℕ, ◌+◌, ◌-◌, Bool, true, false, not, ◌&&◌, ◌||◌, ◌==◌, if◌then◌else◌, List, [], ◌++◌, length, map, take, filter, slice_get, Option, Some, None, unwrap_or, ℤ, pos, ◌+ℤ◌, int_le, int_lt}
 use Rattle.std.specs.Cmp.Lexicographic.{slice_cmp}
 use Rattle.std.specs.Fmt.{decimal}
 use Rattle.std.specs.List.{filter_map, flat_map, enumerate_from, range_with_len}
 use Rattle.std.specs.Option.{option_map}
 use Rattle.std.specs.Ordering.{bool_cmp, int_cmp, nat_cmp, ordering_then}
+use Rattle.std.specs.Str.{bytes_eq}
 use Rattle.std.specs.declared.cmp.Ordering.{Ordering}
 use Rattle.rt_types.specs.declared.enums.TripRelation.{TripRelation}
 use Rattle.rt_types.specs.declared.enums.TripRelation.TheVariants as relation
-use Rattle.sched_types.specs.declared.plans.NamedPlan.{NamedPlan}
 use Rattle.sched_types.specs.declared.rows.Place.{Place}
 use Rattle.sched_types.specs.declared.rows.Route.{Route}
 use Rattle.sched_types.specs.declared.rows.Run.{Run}
@@ -108,7 +108,7 @@ shown_at t run (Some u) i = by_relation (relation_of u.update.trip) (slice_get (
 -- the short name of a route, else its long name
 abbrev pub route_name : Option Route → List ℕ
 route_name None = []
-route_name (Some route) = if is_empty route.short then route.long else route.short
+route_name (Some route) = if bytes_eq route.short [] then route.long else route.short
 
 abbrev pub route_text : Timetable → Option Trip → List ℕ
 route_text t None = []
@@ -141,9 +141,9 @@ abbrev pub place_row : Timetable → ℕ → Run → Option Update → ℕ × Pl
 place_row t asked run update (i, place) =
     if may_board place && is_asked t asked (stands_at place)
     then
-      option_map
-      (λ shown. record { row = row_of t run place shown; subject = RunOf run; place = i; stop = stands_at place })
-      (shown_at t run update i)
+    option_map
+    (λ shown. record { row = row_of t run place shown; subject = RunOf run; place = i; stop = stands_at place })
+    (shown_at t run update i)
     else None
 
 -- the rows of a run at the asked stop

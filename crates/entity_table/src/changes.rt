@@ -4,12 +4,12 @@ ghost use Rattle.std.specs.Prelude.{◌≡◌, ◌∷◌, ◌++◌, [], List, if
 ghost use Rattle.feed_defs.specs.History.{entities_after, changes_with, entities_of, is_full};
 ghost use Rattle.rt_types.specs.declared.message.FeedMessage.{FeedMessage};
 
+use crate::NoMemory;
 use crate::stored::SharedStored;
 use crate::table::Table;
 use feed_defs::Stored;
 use rt_types::{Copied, Entity, FeedMessage, Incrementality};
 use shared_list::SharedList;
-use crate::NoMemory;
 use std::alloc::Global;
 
 /// The table after the message (GTFS Realtime 2.0, FeedHeader, `incrementality`). A whole data set starts from
@@ -17,7 +17,8 @@ use std::alloc::Global;
 /// deleted takes its id away, and any other takes the place of what its id had, whole, with the message's stamp.
 pub fn apply(alloc: Global, table: &Table, message: &FeedMessage) -> Result<Table, NoMemory>
     ensures applied { IfOk result (λ next. next ≡ entities_after message.now table.now) }
-    ensures stands { (ms : List FeedMessage) → table.now ≡ entities_of ms → IfOk result (λ next. next ≡ entities_of (ms ++ message.now ∷ [])) }
+    ensures stands { (ms : List FeedMessage) → table.now
+        ≡ entities_of ms → IfOk result (λ next. next ≡ entities_of (ms ++ message.now ∷ [])) }
 {
     let mut list = start(alloc, table, message)?;
     let stamp = message.header.timestamp.unwrap_or(0);
@@ -48,7 +49,8 @@ fn change(
     entity: &Entity,
     stamp: u64,
 ) -> Result<SharedList<SharedStored>, NoMemory>
-    ensures { IfOk result (λ next. next ≡ changes_with list (entity.now.id, record { entity = entity.now; stamp = stamp })) }
+    ensures { IfOk result (λ next. next
+        ≡ changes_with list (entity.now.id, record { entity = entity.now; stamp = stamp })) }
 {
     if is_deleted(entity) {
         return list.without(entity.id.as_str());

@@ -2,10 +2,10 @@
 
 ghost use Rattle.std.specs.Prelude.{◌≡◌, IfOk};
 
+use crate::NoMemory;
 use feed_defs::Stored;
 use rt_types::{Copied, Shared};
 use shared_list::Keyed;
-use crate::NoMemory;
 use std::alloc::Global;
 use std::marker::Model;
 

@@ -44,14 +44,19 @@ impl Table {
     /// What is held under the id; `None` exactly where nothing is.
     pub fn get(&self, id: &str) -> Option<&Stored>
         ensures found { option_copied result ≡ find (slice_cmp nat_cmp) id.now self.entry.now }
-        ensures said { (ms : List FeedMessage) → self.entry.now ≡ entities_of ms → option_copied result ≡ entity_at ms id.now }
+        ensures said { (ms : List FeedMessage) → self.entry.now ≡ entities_of ms
+            → option_copied result ≡ entity_at ms id.now }
     {
         stored_in(&self.list, id)
     }
 
-    /// All that is held, one entity for each id, in byte order of the ids.
+    /// All that the feed holds, one entity for each id, in byte order of the ids, which strictly rise.
     pub fn iter(&self) -> TableIter<'_>
-        ensures { result ≡ map (λ change. change.1) self.entry.now }
+        ensures items { result ≡ map (λ change. change.1) self.entry.now }
+        ensures rising { IsSo (is_sorted (slice_cmp nat_cmp) self.entry.now) }
+        ensures keyed { map (λ stored. (stored.entity.id, stored)) (map
+            (λ change. change.1) self.entry.now)
+            ≡ self.entry.now }
     {
         TableIter {
             inner: self.list.iter(),
@@ -63,14 +68,6 @@ impl Table {
         ensures { result ≡ length self.now }
     {
         self.list.len()
-    }
-
-    /// What is true of every table: its ids strictly rise, and each is the id of its entity.
-    pub fn sound(&self)
-        ensures rising { IsSo (is_sorted (slice_cmp nat_cmp) self.now) }
-        ensures keyed { map (λ stored. (stored.entity.id, stored)) (map (λ change. change.1) self.now) ≡ self.now }
-    {
-        self.list.sound();
     }
 }
 

@@ -1,8 +1,7 @@
 //! Tables of few ids and of several hundred, with ample memory.
 
-use crate::{Table, apply};
+use crate::{NoMemory, Table, apply};
 use rt_types::{Bytes, Entities, Entity, FeedMessage, Header, Incrementality, Text};
-use crate::NoMemory;
 use std::alloc::Global;
 use std::test::Fail;
 

@@ -10,7 +10,8 @@ use pb_wire::PartPayload;
 use rt_types::{Cause, Effect, Incrementality, StopRelation, StopStatus, TripRelation};
 
 impl Scalar for Incrementality {
-    ghost says = { λ payload. option_and_then (λ n. incrementality_named (n % 2 ^ 32)) (varint_in payload) };
+    ghost says = { λ payload. option_and_then (λ n. incrementality_named (n % 2 ^ 32))
+        (varint_in payload) };
 
     fn said(payload: &PartPayload<'_>) -> Option<Incrementality> {
         match low_bits(payload)? {
@@ -22,7 +23,8 @@ impl Scalar for Incrementality {
 }
 
 impl Scalar for StopRelation {
-    ghost says = { λ payload. option_and_then (λ n. stop_relation_named (n % 2 ^ 32)) (varint_in payload) };
+    ghost says = { λ payload. option_and_then (λ n. stop_relation_named (n % 2 ^ 32))
+        (varint_in payload) };
 
     fn said(payload: &PartPayload<'_>) -> Option<StopRelation> {
         match low_bits(payload)? {
@@ -36,7 +38,8 @@ impl Scalar for StopRelation {
 }
 
 impl Scalar for TripRelation {
-    ghost says = { λ payload. option_and_then (λ n. trip_relation_named (n % 2 ^ 32)) (varint_in payload) };
+    ghost says = { λ payload. option_and_then (λ n. trip_relation_named (n % 2 ^ 32))
+        (varint_in payload) };
 
     fn said(payload: &PartPayload<'_>) -> Option<TripRelation> {
         match low_bits(payload)? {
@@ -53,7 +56,8 @@ impl Scalar for TripRelation {
 }
 
 impl Scalar for StopStatus {
-    ghost says = { λ payload. option_and_then (λ n. stop_status_named (n % 2 ^ 32)) (varint_in payload) };
+    ghost says = { λ payload. option_and_then (λ n. stop_status_named (n % 2 ^ 32))
+        (varint_in payload) };
 
     fn said(payload: &PartPayload<'_>) -> Option<StopStatus> {
         match low_bits(payload)? {
@@ -88,7 +92,8 @@ impl Scalar for Cause {
 }
 
 impl Scalar for Effect {
-    ghost says = { λ payload. option_and_then (λ n. effect_named (n % 2 ^ 32)) (varint_in payload) };
+    ghost says = { λ payload. option_and_then (λ n. effect_named (n % 2 ^ 32))
+        (varint_in payload) };
 
     fn said(payload: &PartPayload<'_>) -> Option<Effect> {
         match low_bits(payload)? {

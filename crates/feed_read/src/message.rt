@@ -38,7 +38,8 @@ pub trait Message: Drop {
 
 /// The bytes of the parts that the message doesn't know, in order.
 fn unknown<M: Message>(alloc: Global, parts: &[Part<'_>]) -> Result<Bytes, NoMemory>
-    ensures { IfOk result (λ bytes. bytes ≡ unknown_bytes_of M.table.is_known (parts_seen parts.now)) }
+    ensures { IfOk result (λ bytes. bytes
+        ≡ unknown_bytes_of M.table.is_known (parts_seen parts.now)) }
 {
     let mut bytes = Vec::new(alloc);
     for part in parts {

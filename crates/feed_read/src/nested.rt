@@ -25,7 +25,7 @@ fn join_parts<'a>(
     inner: &mut Vec<Part<'a>>,
 ) -> Result<(), ReadFault>
     ensures { Grows (parts_seen inner.old.items) (parts_seen inner.new.items)
-        (joined kind (occurring span_in number (parts_seen parts.now))) result }
+        (fields_of_all kind (occurrences_of span_in number (parts_seen parts.now))) result }
 {
     for part in parts {
         if let Some(bytes) = span_at(number, part) {

@@ -88,7 +88,8 @@ pub fn add_parts<'a>(
     bytes: &'a [u8],
     parts: &mut Vec<Part<'a>>,
 ) -> Result<(), ReadFault>
-    ensures { Grows (parts_seen parts.old.items) (parts_seen parts.new.items) (fields_in kind bytes.now) result }
+    ensures { Grows (parts_seen parts.old.items) (parts_seen parts.new.items)
+        (fields_in kind bytes.now) result }
 {
     let what = match read_parts(bytes, parts) {
         Ok(()) => return Ok(()),

@@ -30,7 +30,8 @@ fn varint(payload: &PartPayload<'_>) -> Option<u64>
 
 /// The low 32 bits of a varint, which number the values of an enum.
 pub fn low_bits(payload: &PartPayload<'_>) -> Option<u32>
-    ensures { result ≡ option_and_then (λ n. Some (n % 2 ^ 32)) (varint_in (payload_seen payload.now)) }
+    ensures { result
+        ≡ option_and_then (λ n. Some (n % 2 ^ 32)) (varint_in (payload_seen payload.now)) }
 {
     match varint(payload) {
         Some(number) => Some((number % (1 << 32)) as u32),

@@ -21,7 +21,8 @@ pub fn put_scalar<S: Scalar>(
 ) -> Result<(), NoMemory>
     requires first { 1 ≤ number }
     requires last { number ≤ 536870911 }
-    ensures written { OnOk result (out.new.items ≡ out.old.items ++ flat_map field_bytes (write_if number S.payload value)) }
+    ensures written { OnOk result (out.new.items
+        ≡ out.old.items ++ flat_map field_bytes (write_if number S.payload value)) }
     ensures begins { StartsWith out.old.items out.new.items }
 {
     match value {
@@ -34,7 +35,8 @@ pub fn put_scalar<S: Scalar>(
 pub fn put_text(number: u32, text: &Text, out: &mut Vec<u8>) -> Result<(), NoMemory>
     requires first { 1 ≤ number }
     requires last { number ≤ 536870911 }
-    ensures written { OnOk result (out.new.items ≡ out.old.items ++ field_bytes (record { number = number; payload = Span text.now })) }
+    ensures written { OnOk result (out.new.items
+        ≡ out.old.items ++ field_bytes (record { number = number; payload = Span text.now })) }
     ensures begins { StartsWith out.old.items out.new.items }
 {
     write_field(number, text.as_str().as_bytes(), out)
@@ -44,7 +46,8 @@ pub fn put_text(number: u32, text: &Text, out: &mut Vec<u8>) -> Result<(), NoMem
 pub fn put_text_if(number: u32, text: &Option<Text>, out: &mut Vec<u8>) -> Result<(), NoMemory>
     requires first { 1 ≤ number }
     requires last { number ≤ 536870911 }
-    ensures written { OnOk result (out.new.items ≡ out.old.items ++ flat_map field_bytes (write_if number Span text.now)) }
+    ensures written { OnOk result (out.new.items
+        ≡ out.old.items ++ flat_map field_bytes (write_if number Span text.now)) }
     ensures begins { StartsWith out.old.items out.new.items }
 {
     match text {
@@ -57,7 +60,9 @@ pub fn put_text_if(number: u32, text: &Option<Text>, out: &mut Vec<u8>) -> Resul
 pub fn put_degrees(number: u32, value: Degrees, out: &mut Vec<u8>) -> Result<(), NoMemory>
     requires first { 1 ≤ number }
     requires last { number ≤ 536870911 }
-    ensures written { OnOk result (out.new.items ≡ out.old.items ++ field_bytes (record { number = number; payload = degrees_payload value })) }
+    ensures written { OnOk result (out.new.items
+        ≡ out.old.items
+        ++ field_bytes (record { number = number; payload = degrees_payload value })) }
     ensures begins { StartsWith out.old.items out.new.items }
 {
     write_four(number, value.bits, out)
@@ -67,7 +72,13 @@ pub fn put_degrees(number: u32, value: Degrees, out: &mut Vec<u8>) -> Result<(),
 pub fn put_message<M: Message>(number: u32, message: &M, out: &mut Vec<u8>) -> Result<(), NoMemory>
     requires first { 1 ≤ number }
     requires last { number ≤ 536870911 }
-    ensures written { OnOk result (out.new.items ≡ out.old.items ++ field_bytes (record { number = number; payload = Span (message_bytes M.table message.now) })) }
+    ensures written { OnOk result (out.new.items
+        ≡ out.old.items
+        ++ field_bytes (record {
+          number = number;
+          payload = Span
+              (message_bytes M.table message.now);
+        })) }
     ensures begins { StartsWith out.old.items out.new.items }
 {
     write_varint(u64::from(number) * 8 + 2, out)?;
@@ -86,7 +97,10 @@ pub fn put_embedded<M: Message>(
 ) -> Result<(), NoMemory>
     requires first { 1 ≤ number }
     requires last { number ≤ 536870911 }
-    ensures written { OnOk result (out.new.items ≡ out.old.items ++ flat_map field_bytes (write_if number (λ x. Span (message_bytes M.table x)) message.now)) }
+    ensures written { OnOk result (out.new.items
+        ≡ out.old.items
+        ++ flat_map field_bytes (write_if number (λ x. Span
+        (message_bytes M.table x)) message.now)) }
     ensures begins { StartsWith out.old.items out.new.items }
 {
     match message {
@@ -103,7 +117,10 @@ pub fn put_shared<M: Message>(
 ) -> Result<(), NoMemory>
     requires first { 1 ≤ number }
     requires last { number ≤ 536870911 }
-    ensures written { OnOk result (out.new.items ≡ out.old.items ++ flat_map field_bytes (write_if number (λ x. Span (message_bytes M.table x)) message.now)) }
+    ensures written { OnOk result (out.new.items
+        ≡ out.old.items
+        ++ flat_map field_bytes (write_if number (λ x. Span
+        (message_bytes M.table x)) message.now)) }
     ensures begins { StartsWith out.old.items out.new.items }
 {
     match message {
@@ -116,7 +133,8 @@ pub fn put_shared<M: Message>(
 fn put_all<M: Message>(number: u32, messages: &[M], out: &mut Vec<u8>) -> Result<(), NoMemory>
     requires first { 1 ≤ number }
     requires last { number ≤ 536870911 }
-    ensures written { OnOk result (out.new.items ≡ out.old.items ++ flat_map field_bytes (write_all number M.table messages.now)) }
+    ensures written { OnOk result (out.new.items
+        ≡ out.old.items ++ flat_map field_bytes (write_all number M.table messages.now)) }
     ensures begins { StartsWith out.old.items out.new.items }
 {
     for message in messages {
@@ -133,7 +151,8 @@ pub fn put_items<M: Message>(
 ) -> Result<(), NoMemory>
     requires first { 1 ≤ number }
     requires last { number ≤ 536870911 }
-    ensures written { OnOk result (out.new.items ≡ out.old.items ++ flat_map field_bytes (write_all number M.table messages.now)) }
+    ensures written { OnOk result (out.new.items
+        ≡ out.old.items ++ flat_map field_bytes (write_all number M.table messages.now)) }
     ensures begins { StartsWith out.old.items out.new.items }
 {
     put_all(number, messages.as_slice(), out)

@@ -12,6 +12,7 @@ pub trait Message {
 
     /// Appends the bytes of the message: its fields by rising number, and then those that it doesn't know.
     fn put(&self, out: &mut Vec<u8>) -> Result<(), NoMemory>
-        ensures written { OnOk result (out.new.items ≡ out.old.items ++ message_bytes table self.now) }
+        ensures written { OnOk result (out.new.items
+            ≡ out.old.items ++ message_bytes table self.now) }
         ensures begins { StartsWith out.old.items out.new.items };
 }

@@ -5,9 +5,9 @@ ghost use Rattle.std.specs.List.{flat_map, enumerate_from};
 ghost use Rattle.feed_defs.specs.Combined.{entity_under_feed};
 ghost use Rattle.hub_core.specs.Hub.{greatest, tabled_entities, message_of};
 
+use crate::NoMemory;
 use entity_table::Table;
 use rt_types::{Bytes, Copied, Entities, Entity, FeedMessage, Header, Incrementality, Text};
-use crate::NoMemory;
 use std::alloc::Global;
 
 /// The whole data set of these feeds, whose last stamps, in seconds since 1970, and tables are given.
@@ -45,13 +45,10 @@ fn greatest(numbers: &[u64]) -> u64
 }
 
 /// What the feeds hold under their names, by feed and then by id.
-fn named_entities(
-    alloc: Global,
-    names: &[Text],
-    tables: &[Table],
-) -> Result<Vec<Entity>, NoMemory>
+fn named_entities(alloc: Global, names: &[Text], tables: &[Table]) -> Result<Vec<Entity>, NoMemory>
     requires { length tables.now ≡ length names.now }
-    ensures { IfOk result (λ entities. entities.items ≡ flat_map (tabled_entities tables.now) (enumerate_from 0 names.now)) }
+    ensures { IfOk result (λ entities. entities.items
+        ≡ flat_map (tabled_entities tables.now) (enumerate_from 0 names.now)) }
 {
     let mut entities = Vec::new(alloc);
     for (feed, name) in names.iter().enumerate() {
@@ -67,7 +64,9 @@ fn push_named(
     table: &Table,
     entities: &mut Vec<Entity>,
 ) -> Result<(), NoMemory>
-    ensures { OnOk result (entities.new.items ≡ entities.old.items ++ map (λ change. entity_under_feed feed.now change.1.entity) table.now) }
+    ensures { OnOk result (entities.new.items
+        ≡ entities.old.items
+        ++ map (λ change. entity_under_feed feed.now change.1.entity) table.now) }
 {
     for stored in table.iter() {
         entities.push(named(alloc, feed, &stored.entity)?)?;

@@ -6,6 +6,7 @@ ghost use Rattle.feed_defs.specs.History.{IsLegal};
 ghost use Rattle.hub_core.specs.Answers.{Offers};
 ghost use Rattle.hub_core.specs.Hub.{Kept};
 
+use crate::NoMemory;
 use crate::combine::combined_message;
 use crate::judge::{check, stamp};
 use crate::refusal::Refusal;
@@ -13,7 +14,6 @@ use entity_table::{Table, apply};
 use feed_defs::Entry;
 use feed_write::write_message;
 use rt_types::Text;
-use crate::NoMemory;
 use std::alloc::Global;
 use std::marker::Model;
 

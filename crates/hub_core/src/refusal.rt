@@ -2,8 +2,8 @@
 
 ghost use Rattle.std.specs.Prelude.{◌≡◌};
 
-use rt_types::{Kind, Text, What};
 use crate::NoMemory;
+use rt_types::{Kind, Text, What};
 use std::alloc::{AllocError, AllocFailed};
 use thiserror::Error;
 

@@ -131,6 +131,60 @@ fn a_fault_is_told_with_its_place(rt: HostRuntime) {
     );
 }
 
+// Whether the bytes are refused for this fault of theirs.
+fn is_malformed(bytes: &[u8], alloc: Global, place: u32, fault: What, message: Kind) -> bool {
+    match check(alloc, 0, bytes) {
+        Err(
+            Refusal::Malformed {
+                entity,
+                what,
+                kind,
+                field,
+            },
+        ) => entity == place && what == fault && kind == message && field == 0,
+        _ => false,
+    }
+}
+
+#[test]
+fn bytes_that_are_cut_off_are_refused(rt: HostRuntime) {
+    let within = b"\x0a\x09\x0a\x032.0\x10\x00\x18\x05\x12\x02\x0a\x01";
+    assert!(rt; is_malformed(within, rt.alloc(), 1, What::Cut, Kind::FeedEntity));
+    let outside = b"\x0a\x09\x0a\x032.0\x10\x00\x18\x05\x12\x03\x0a\x01";
+    assert!(rt; is_malformed(outside, rt.alloc(), 0, What::Cut, Kind::FeedMessage));
+}
+
+/// The plain message with so many groups in one another behind it.
+fn with_groups(alloc: Global, depth: usize) -> Result<Vec<u8>, Fail> {
+    let mut bytes = Vec::from_slice(alloc, PLAIN)?;
+    for _ in 0..depth {
+        bytes.push(0x4b)?;
+    }
+    for _ in 0..depth {
+        bytes.push(0x4c)?;
+    }
+    Ok(bytes)
+}
+
+#[test]
+fn groups_stand_64_deep(rt: HostRuntime) -> Result<(), Fail> {
+    let deep = with_groups(rt.alloc(), 64)?;
+    assert!(rt; check(rt.alloc(), 0, &deep).is_ok());
+    let deeper = with_groups(rt.alloc(), 65)?;
+    assert!(rt; is_malformed(&deeper, rt.alloc(), 0, What::Group, Kind::FeedMessage));
+    Ok(())
+}
+
+#[test]
+fn a_message_of_16777216_bytes_is_taken(rt: HostRuntime) -> Result<(), Fail> {
+    // Behind the plain message stands one unknown field of 16,777,200 bytes.
+    let mut bytes = Vec::from_slice(rt.alloc(), PLAIN)?;
+    bytes.extend_from_slice(b"\x7a\xf0\xff\xff\x07")?;
+    bytes.resize(16_777_216, 0)?;
+    assert!(rt; check(rt.alloc(), 0, &bytes).is_ok());
+    Ok(())
+}
+
 #[test]
 fn a_message_of_too_many_bytes_is_refused(rt: HostRuntime) -> Result<(), Fail> {
     let bytes = vec![in rt.alloc(); 0u8; 16_777_217]?;

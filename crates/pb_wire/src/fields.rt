@@ -28,7 +28,8 @@ pub fn read_fields(alloc: Global, bytes: &[u8]) -> Result<Vec<Field>, WireFault>
     ensures none { (fault : WireFault) → result ≡ Err fault → (fault ≡ WireFault.NoMemory → ⊥)
         → (fields : List wire.Field) → HasFields bytes.now fields → ⊥ }
     // It is what reading from the left gives, the first fault too.
-    ensures exact { AsDefined (λ v. fields_in bytes.now v.items) cause_of (fields_of bytes.now) result }
+    ensures exact { AsDefined (λ v. fields_in bytes.now v.items) cause_of
+        (fields_of bytes.now) result }
 {
     placed_fields(alloc, bytes)
 }

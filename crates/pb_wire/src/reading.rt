@@ -14,7 +14,8 @@ use crate::payloads::payload_at;
 /// fault of the bytes (Protocol Buffers, "Encoding") and leaves `parts` as it was.
 pub fn read_parts<'a>(bytes: &'a [u8], parts: &mut Vec<Part<'a>>) -> Result<(), WireFault>
     ensures read { OnOk result
-        (with_front (parts_seen parts.old.items) (fields_of bytes.now) ≡ Ok (parts_seen parts.new.items)) }
+        (with_front (parts_seen parts.old.items) (fields_of bytes.now)
+        ≡ Ok (parts_seen parts.new.items)) }
     ensures fault { IfErr result (λ fault. IsCause (fields_of bytes.now) (cause_of fault)) }
     ensures kept { OnErr result (parts.new.items ≡ parts.old.items) }
 {
@@ -29,7 +30,8 @@ pub fn read_parts<'a>(bytes: &'a [u8], parts: &mut Vec<Part<'a>>) -> Result<(), 
 // Pushes the fields of the bytes, in order, up to the first fault.
 fn push_parts<'a>(bytes: &'a [u8], parts: &mut Vec<Part<'a>>) -> Result<(), WireFault>
     ensures read { OnOk result
-        (with_front (parts_seen parts.old.items) (fields_of bytes.now) ≡ Ok (parts_seen parts.new.items)) }
+        (with_front (parts_seen parts.old.items) (fields_of bytes.now)
+        ≡ Ok (parts_seen parts.new.items)) }
     ensures fault { IfErr result (λ fault. IsCause (fields_of bytes.now) (cause_of fault)) }
     ensures begins { take (length parts.old.items) parts.new.items ≡ parts.old.items }
 {

@@ -55,7 +55,8 @@ pub fn write_scalar(number: u32, value: u64, out: &mut Vec<u8>) -> Result<(), No
     requires first { 1 ≤ number }
     requires last { number ≤ 536870911 }
     ensures written { OnOk result
-        (out.new.items ≡ out.old.items ++ field_bytes (record { number = number; payload = Varint value })) }
+        (out.new.items
+        ≡ out.old.items ++ field_bytes (record { number = number; payload = Varint value })) }
     ensures kept { OnErr result (out.new.items ≡ out.old.items) }
 {
     let length = out.len();
@@ -72,7 +73,8 @@ pub fn write_field(number: u32, bytes: &[u8], out: &mut Vec<u8>) -> Result<(), N
     requires first { 1 ≤ number }
     requires last { number ≤ 536870911 }
     ensures written { OnOk result
-        (out.new.items ≡ out.old.items ++ field_bytes (record { number = number; payload = Span bytes.now })) }
+        (out.new.items
+        ≡ out.old.items ++ field_bytes (record { number = number; payload = Span bytes.now })) }
     ensures kept { OnErr result (out.new.items ≡ out.old.items) }
 {
     let length = out.len();
@@ -89,7 +91,8 @@ pub fn write_four(number: u32, value: u32, out: &mut Vec<u8>) -> Result<(), NoMe
     requires first { 1 ≤ number }
     requires last { number ≤ 536870911 }
     ensures written { OnOk result
-        (out.new.items ≡ out.old.items ++ field_bytes (record { number = number; payload = Four value })) }
+        (out.new.items
+        ≡ out.old.items ++ field_bytes (record { number = number; payload = Four value })) }
     ensures kept { OnErr result (out.new.items ≡ out.old.items) }
 {
     let length = out.len();
@@ -104,7 +107,8 @@ pub fn write_four(number: u32, value: u32, out: &mut Vec<u8>) -> Result<(), NoMe
 fn append_scalar(number: u32, value: u64, out: &mut Vec<u8>) -> Result<(), NoMemory>
     requires { number ≤ 536870911 }
     ensures written { OnOk result
-        (out.new.items ≡ out.old.items ++ field_bytes (record { number = number; payload = Varint value })) }
+        (out.new.items
+        ≡ out.old.items ++ field_bytes (record { number = number; payload = Varint value })) }
     ensures begins { OnErr result ((more : List ℕ) × (out.new.items ≡ out.old.items ++ more)) }
 {
     write_varint(u64::from(number) * 8, out)?;
@@ -115,7 +119,8 @@ fn append_scalar(number: u32, value: u64, out: &mut Vec<u8>) -> Result<(), NoMem
 fn append_field(number: u32, bytes: &[u8], out: &mut Vec<u8>) -> Result<(), NoMemory>
     requires { number ≤ 536870911 }
     ensures written { OnOk result
-        (out.new.items ≡ out.old.items ++ field_bytes (record { number = number; payload = Span bytes.now })) }
+        (out.new.items
+        ≡ out.old.items ++ field_bytes (record { number = number; payload = Span bytes.now })) }
     ensures begins { OnErr result ((more : List ℕ) × (out.new.items ≡ out.old.items ++ more)) }
 {
     write_varint(u64::from(number) * 8 + 2, out)?;
@@ -127,7 +132,8 @@ fn append_field(number: u32, bytes: &[u8], out: &mut Vec<u8>) -> Result<(), NoMe
 fn append_four(number: u32, value: u32, out: &mut Vec<u8>) -> Result<(), NoMemory>
     requires { number ≤ 536870911 }
     ensures written { OnOk result
-        (out.new.items ≡ out.old.items ++ field_bytes (record { number = number; payload = Four value })) }
+        (out.new.items
+        ≡ out.old.items ++ field_bytes (record { number = number; payload = Four value })) }
     ensures begins { OnErr result ((more : List ℕ) × (out.new.items ≡ out.old.items ++ more)) }
 {
     write_varint(u64::from(number) * 8 + 5, out)?;

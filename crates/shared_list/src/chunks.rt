@@ -7,9 +7,9 @@ ghost use Rattle.std.specs.Option.{option_copied};
 ghost use Rattle.shared_list.specs.Order.{key_cmp, entries, joined, lead, without, AreParts, IsHome, Rises};
 ghost use Rattle.shared_list.specs.Parts.{items_of, parts_of};
 
+use crate::NoMemory;
 use crate::items::{copy_items, place, put_item, split_off};
 use crate::keyed::{Keyed, key_order};
-use crate::NoMemory;
 use std::alloc::Global;
 use std::cmp::Ordering;
 use std::sync::Arc;
@@ -39,7 +39,8 @@ fn home<T: Keyed>(chunks: &[Arc<Vec<T>>], key: &str) -> usize
 /// The item with that key.
 pub(crate) fn item_in<'a, T: Keyed>(chunks: &'a [Arc<Vec<T>>], key: &str) -> Option<&'a T>
     requires { AreParts T.key_of (parts_of chunks.now) }
-    ensures { option_copied result ≡ find key_cmp key.now (joined T.key_of (parts_of chunks.entry.now)) }
+    ensures { option_copied result
+        ≡ find key_cmp key.now (joined T.key_of (parts_of chunks.entry.now)) }
 {
     if chunks.is_empty() {
         return None;
@@ -54,7 +55,8 @@ pub(crate) fn item_in<'a, T: Keyed>(chunks: &'a [Arc<Vec<T>>], key: &str) -> Opt
 /// Puts the item in its place among the items, and takes the back of them off where they are too many.
 fn put_and_split<T: Keyed>(items: &mut Vec<T>, item: T) -> Result<Option<Vec<T>>, NoMemory>
     requires { Rises T.key_of items.old.items }
-    ensures put { IfOk result (λ rest. entries T.key_of (items.new.items ++ items_of rest) ≡ put key_cmp (T.key_of item) item (entries T.key_of items.old.items)) }
+    ensures put { IfOk result (λ rest. entries T.key_of (items.new.items ++ items_of rest)
+        ≡ put key_cmp (T.key_of item) item (entries T.key_of items.old.items)) }
     ensures front { OnOk result (0 < length items.new.items) }
     ensures back { IfOk result (λ rest. IfSome rest (λ back. 0 < length back.items)) }
 {
@@ -69,7 +71,8 @@ fn put_in<T: Keyed>(
     item: T,
 ) -> Result<Option<Vec<T>>, NoMemory>
     requires { Rises T.key_of chunk.old.value.items }
-    ensures put { IfOk result (λ rest. entries T.key_of (chunk.new.value.items ++ items_of rest) ≡ put key_cmp (T.key_of item) item (entries T.key_of chunk.old.value.items)) }
+    ensures put { IfOk result (λ rest. entries T.key_of (chunk.new.value.items ++ items_of rest)
+        ≡ put key_cmp (T.key_of item) item (entries T.key_of chunk.old.value.items)) }
     ensures front { OnOk result (0 < length chunk.new.value.items) }
     ensures back { IfOk result (λ rest. IfSome rest (λ back. 0 < length back.items)) }
 {
@@ -100,8 +103,10 @@ fn take_from<T: Keyed>(alloc: Global, chunk: &mut Arc<Vec<T>>, at: usize) -> Res
 /// Puts the item in its place in its chunk.
 pub(crate) fn put_chunks<T: Keyed>(chunks: &mut Vec<Arc<Vec<T>>>, item: T) -> Result<(), NoMemory>
     requires { AreParts T.key_of (parts_of chunks.old.items) }
-    ensures put { OnOk result (joined T.key_of (parts_of chunks.new.items) ≡ put key_cmp (T.key_of item) item (joined T.key_of (parts_of chunks.old.items))) }
-    ensures filled { OnOk result (AllByRecursion (λ part. 0 < length part) (parts_of chunks.new.items)) }
+    ensures put { OnOk result (joined T.key_of (parts_of chunks.new.items)
+        ≡ put key_cmp (T.key_of item) item (joined T.key_of (parts_of chunks.old.items))) }
+    ensures filled { OnOk result (AllByRecursion (λ part. 0 < length part)
+        (parts_of chunks.new.items)) }
 {
     let alloc = *chunks.allocator();
     if chunks.is_empty() {
@@ -120,8 +125,10 @@ pub(crate) fn put_chunks<T: Keyed>(chunks: &mut Vec<Arc<Vec<T>>>, item: T) -> Re
 /// Takes the item with that key out of its chunk, and the chunk out where nothing is left in it.
 pub(crate) fn take_out<T: Keyed>(chunks: &mut Vec<Arc<Vec<T>>>, key: &str) -> Result<(), NoMemory>
     requires { AreParts T.key_of (parts_of chunks.old.items) }
-    ensures without { OnOk result (joined T.key_of (parts_of chunks.new.items) ≡ without key.now (joined T.key_of (parts_of chunks.old.items))) }
-    ensures filled { OnOk result (AllByRecursion (λ part. 0 < length part) (parts_of chunks.new.items)) }
+    ensures without { OnOk result (joined T.key_of (parts_of chunks.new.items)
+        ≡ without key.now (joined T.key_of (parts_of chunks.old.items))) }
+    ensures filled { OnOk result (AllByRecursion (λ part. 0 < length part)
+        (parts_of chunks.new.items)) }
 {
     if chunks.is_empty() {
         return Ok(());

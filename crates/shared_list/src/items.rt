@@ -5,8 +5,8 @@ ghost use Rattle.std.specs.FinMap.{put};
 ghost use Rattle.shared_list.specs.Order.{key_cmp, entries, IsAt, IsGap, Rises};
 ghost use Rattle.shared_list.specs.Parts.{items_of};
 
-use crate::keyed::{Keyed, key_order};
 use crate::NoMemory;
+use crate::keyed::{Keyed, key_order};
 use std::alloc::Global;
 
 /// The most items of a chunk.
@@ -18,7 +18,8 @@ const KEPT_ITEMS: usize = 64;
 /// Where the item with that key stands, or where it would.
 pub(crate) fn place<T: Keyed>(items: &[T], key: &str) -> Result<usize, usize>
     requires { Rises T.key_of items.now }
-    ensures { MatchResult result (IsAt T.key_of key.now items.now) (IsGap T.key_of key.now items.now) }
+    ensures { MatchResult result (IsAt T.key_of key.now items.now)
+        (IsGap T.key_of key.now items.now) }
 {
     items.binary_search_by(|item| key_order(item, key))
 }
@@ -26,7 +27,8 @@ pub(crate) fn place<T: Keyed>(items: &[T], key: &str) -> Result<usize, usize>
 /// Puts the item in its place, which is that of the item with its key, if there is one.
 pub(crate) fn put_item<T: Keyed>(items: &mut Vec<T>, item: T) -> Result<(), NoMemory>
     requires { Rises T.key_of items.old.items }
-    ensures put { OnOk result (entries T.key_of items.new.items ≡ put key_cmp (T.key_of item) item (entries T.key_of items.old.items)) }
+    ensures put { OnOk result (entries T.key_of items.new.items
+        ≡ put key_cmp (T.key_of item) item (entries T.key_of items.old.items)) }
     ensures filled { OnOk result (0 < length items.new.items) }
 {
     match place(items.as_slice(), item.key()) {

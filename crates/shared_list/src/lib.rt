@@ -6,7 +6,7 @@
 //! stand in chunks of at most 128, `share` takes one share of each chunk, and a change copies the one
 //! chunk in which the key stands, and that only once for each version.
 //!
-//! It stands on `rt_types` for `Copied`, by which the items of a chunk are copied, and on nothing else of
+//! It stands on `copying` for `Copied`, by which the items of a chunk are copied, and on nothing else of
 //! this repository.
 #![tactic(auto)]
 
@@ -21,3 +21,4 @@ mod tests;
 pub use iter::Iter;
 pub use keyed::Keyed;
 pub use list::SharedList;
+pub use std::alloc::AllocError as NoMemory;

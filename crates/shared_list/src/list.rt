@@ -5,10 +5,10 @@ ghost use Rattle.std.specs.FinMap.{put, find, is_sorted};
 ghost use Rattle.std.specs.Option.{option_copied};
 ghost use Rattle.shared_list.specs.Order.{key_cmp, entries, without};
 
+use crate::NoMemory;
 use crate::chunks::{item_in, put_chunks, take_out};
 use crate::iter::Iter;
 use crate::keyed::Keyed;
-use crate::NoMemory;
 use std::alloc::Global;
 use std::marker::Model;
 use std::sync::Arc;
@@ -93,9 +93,11 @@ impl<T: Keyed> SharedList<T> {
         item_in(self.chunks.as_slice(), key)
     }
 
-    /// The items in the order of their keys.
+    /// The items in the order of their keys, which strictly rise; each is under its own key.
     pub fn iter(&self) -> Iter<'_, T>
-        ensures { result ≡ map (λ entry. entry.1) self.entry.now }
+        ensures items { result ≡ map (λ entry. entry.1) self.entry.now }
+        ensures rising { IsSo (is_sorted key_cmp self.entry.now) }
+        ensures keyed { entries T.key_of (map (λ entry. entry.1) self.entry.now) ≡ self.entry.now }
     {
         Iter::over(self.chunks.as_slice())
     }
@@ -106,14 +108,6 @@ impl<T: Keyed> SharedList<T> {
     {
         self.len
     }
-
-    /// What is true of every list: its keys strictly rise, and each is the key of its item.
-    pub fn sound(&self)
-        ensures rising { IsSo (is_sorted key_cmp self.now) }
-        ensures keyed { entries T.key_of (map (λ entry. entry.1) self.now) ≡ self.now }
-    {
-        let _chunks = &self.chunks;
-    }
 }
 
 /// How many items there are with one that may be new. More than can be counted are more than memory holds.
@@ -121,7 +115,7 @@ fn len_with(len: usize, is_new: bool) -> Result<usize, NoMemory>
     ensures { IfOk result (λ count. count ≡ (if is_new then len + 1 else len)) }
 {
     if is_new {
-        len.checked_add(1).ok_or(AllocError)
+        len.checked_add(1).ok_or(NoMemory)
     } else {
         Ok(len)
     }

@@ -1,15 +1,15 @@
 //! A list of plain items, with ample memory.
 
-use crate::{Keyed, SharedList};
-use rt_types::{Copied, Text};
-use crate::NoMemory;
+use crate::{Keyed, NoMemory, SharedList};
+use copying::Copied;
 use std::alloc::Global;
 use std::test::Fail;
+use texts::ShortText;
 
 /// A name with a number.
 #[derive(Drop)]
 struct Numbered {
-    name: Text,
+    name: ShortText,
     number: u32,
 }
 
@@ -37,7 +37,7 @@ fn with(
     name: &str,
     number: u32,
 ) -> Result<SharedList<Numbered>, NoMemory> {
-    let name = Text::new(alloc, name)?;
+    let name = ShortText::new(alloc, name)?;
     list.with(Numbered { name, number })
 }
 

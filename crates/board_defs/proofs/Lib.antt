@@ -1,0 +1,5 @@
+pub mod Parts
+pub mod CityBoards
+pub mod LineBoards
+pub mod Feeds
+pub mod ViewLaws
