@@ -1,4 +1,4 @@
-// A configuration and its timetables.
+//! A configuration and its timetables.
 ghost use Rattle.std.specs.Prelude.{◌≡◌, IfSome};
 ghost use Rattle.command_defs.specs.Checks.{check_output};
 ghost use Rattle.hub_check.specs.Told.{Checks, HasCheckCause};

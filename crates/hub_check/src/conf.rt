@@ -1,4 +1,4 @@
-// The configuration in a file.
+//! The configuration in a file.
 ghost use Rattle.std.specs.Prelude.{◌≡◌, ◌++◌, IfOk, IfSome, true};
 ghost use Rattle.std.specs.List.{list_all};
 ghost use Rattle.hub_outside.specs.Files.{file_at};

@@ -16,3 +16,4 @@ mod words;
 
 pub use checking::check;
 pub use fault::CheckFault;
+pub use std::alloc::AllocError as NoMemory;

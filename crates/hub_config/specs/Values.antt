@@ -6,6 +6,7 @@ use Rattle.std.specs.Str.{bytes_eq}
 use Rattle.std.specs.Char.{is_ascii_digit}
 use Rattle.std.specs.Prelude.{codes}
 use Rattle.std.specs.Str.Parse.{digits_value}
+use Rattle.text_defs.specs.Names.{is_name}
 use Rattle.text_defs.specs.Dates.{is_day}
 use Rattle.toml.specs.Data.{Data, Items, no_items, item, Members, get_member, as_integer, as_str, as_array, as_table}
 use Rattle.hub_config.specs.declared.rule.Key.{Key}
@@ -35,14 +36,6 @@ is_window_date date = nat_le 19700201 date && nat_le date 29991231 && is_day dat
 -- the number of such digits
 unfoldable pub date_of : List ℕ → Option ℕ
 date_of t = option_and_then (λ date. if is_window_date date then Some date else None) (eight_digits t)
-
--- a to z, 0 to 9 or _
-abbrev pub is_name_byte : ℕ → Bool
-is_name_byte b = (nat_le 97 b && nat_le b 122) || (nat_le 48 b && nat_le b 57) || (b == 95)
-
--- a name is 1 to 32 of these
-unfoldable pub is_name : List ℕ → Bool
-is_name t = nat_le 1 (length t) && nat_le (length t) 32 && list_all is_name_byte t
 
 -- the way that a word names in which messages come to a feed
 unfoldable pub port_of : List ℕ → Option PortKind

@@ -1,4 +1,4 @@
-// The configuration of a hub.
+//! The configuration of a hub.
 
 use rt_types::{Items, Text};
 

@@ -1,4 +1,4 @@
-// Why there is no configuration.
+//! Why there is no configuration.
 
 ghost use Rattle.std.specs.Prelude.{◌≡◌};
 

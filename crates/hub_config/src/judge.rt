@@ -1,4 +1,4 @@
-// The first fault of a table.
+//! The first fault of a table.
 
 ghost use Rattle.std.specs.Prelude.{◌≡◌, not, option_map, string_bytes};
 ghost use Rattle.std.specs.BTreeMap as tree;
@@ -8,7 +8,7 @@ ghost use Rattle.toml.specs.View.{view, table_view};
 ghost use Rattle.hub_config.specs.Faults as faults;
 ghost use Rattle.hub_config.specs.Rules.{rule_of};
 ghost use Rattle.hub_config.specs.Seen.{absent_seen};
-ghost use Rattle.hub_config.specs.Tells.{Judges};
+ghost use Rattle.hub_config.specs.Answer.{Judges};
 
 use crate::conf::{FeedConf, ScheduleConf};
 use crate::fault::{ConfFault, ConfWhy, TableName};

@@ -1,4 +1,4 @@
-// The keys of the tables of a configuration, and what each may hold.
+//! The keys of the tables of a configuration, and what each may hold.
 
 ghost use Rattle.std.specs.Prelude.{◌≡◌};
 ghost use Rattle.hub_config.specs.Rules as rules;

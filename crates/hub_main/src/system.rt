@@ -12,7 +12,7 @@ use std::{io, rt};
 /// Runs the command of the program's words on files and a clock of the system, an input and an output, and
 /// gives the exit status that [`run_offline`] gives: 6 where memory for the words is wanting. The first word
 /// is the program's name.
-pub fn run_on_system<R: rt::Files + rt::Clock, I: Read, O: Write>(
+pub fn run_on_system<R: rt::Files + rt::Clock, I: Read + Drop, O: Write + Drop>(
     alloc: Global,
     words: io::Result<Args>,
     system: &R,

@@ -15,3 +15,4 @@ mod read;
 mod tests;
 
 pub use read::{Command, WordsFault, read_words};
+pub use std::alloc::AllocError as NoMemory;

@@ -1,4 +1,4 @@
-// The command of a list of words.
+//! The command of a list of words.
 ghost use Rattle.std.specs.Prelude.{◌≡◌, false, codes};
 ghost use Rattle.std.specs.Option.{option_map};
 ghost use Rattle.std.specs.List.{list_any};
@@ -6,7 +6,7 @@ ghost use Rattle.clap.specs.Words.{first_of, found_of, kind_of, rows_of, subcomm
 ghost use Rattle.command_defs.specs.Words.{command_of, is_option};
 ghost use Rattle.command_defs.specs.Words.Command.{Check};
 ghost use Rattle.hub_words.specs.Forms.{command_in, named};
-ghost use Rattle.hub_words.specs.Answer.{Blames, Reads, Parses, seen};
+ghost use Rattle.hub_words.specs.Answer.{IsFaultOf, Reads, Parses, seen};
 
 use crate::parser::parser;
 use clap::error::ErrorKind;
@@ -85,7 +85,7 @@ fn matches_of<'a>(alloc: Global, words: &'a [Text]) -> Result<ArgMatches<'a>, Wo
 
 // Why clap refuses the words.
 fn fault_of(error: &Error) -> WordsFault
-    ensures { Blames (kind_of error.now) result }
+    ensures { IsFaultOf (kind_of error.now) result }
 {
     match error.kind() {
         ErrorKind::OutOfMemory => WordsFault::NoMemory,
