@@ -26,5 +26,7 @@ why_word why.NoName = codes "noname"
 -- the line: where the fault is, and what is wrong there
 unfoldable pub line_of : ConfFault → List ℕ
 line_of Toml = codes "hub: config toml"
-line_of (Bad table row key why) = codes "hub: config " ++ (table_word table ++ (codes " " ++ (decimal row ++ codes " "))) ++ cleaned_text key ++ codes " " ++ why_word why
+line_of (Bad table row key why) = codes "hub: config "
+    ++ (table_word table ++ (codes " " ++ (decimal row ++ codes " "))) ++ cleaned_text key
+    ++ codes " " ++ why_word why
 line_of NoMemory = []

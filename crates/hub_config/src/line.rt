@@ -39,14 +39,16 @@ impl ConfWhy {
 
 // The front of a line: where the fault is.
 fn place(alloc: Global, table: TableName, row: u32) -> Result<String, NoMemory>
-    ensures { IfOk result (λ text. string_bytes text ≡ codes "hub: config " ++ (lines.table_word table ++ (codes " " ++ (decimal row ++ codes " ")))) }
+    ensures { IfOk result (λ text. string_bytes text ≡ codes "hub: config "
+        ++ (lines.table_word table ++ (codes " " ++ (decimal row ++ codes " ")))) }
 {
     format!(in alloc; "hub: config {} {} ", table.word(), row)
 }
 
 /// The line that a command prints for a fault, without the LF at its end: `hub: config toml`, or
-/// `hub: config <table> <row> <key> <why>` with a space for each control character of ASCII in the key. The
-/// line for want of memory is empty: it is no fault of the configuration, and nothing is printed for it.
+/// `hub: config <table> <row> <key> <why>` with a space for each control character of ASCII in the
+/// key. The line for want of memory is empty: it is no fault of the configuration, and nothing is
+/// printed for it.
 #[tactic(auto, unfolding(crate::specs::Lines::line_of))]
 pub fn fault_line(alloc: Global, fault: &ConfFault) -> Result<Vec<u8>, NoMemory>
     ensures { IfOk result (λ line. line.items ≡ lines.line_of fault.now) }

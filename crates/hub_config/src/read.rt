@@ -35,7 +35,8 @@ trait Row: Drop {
         before: &[Self],
     ) -> Result<Self, ConfFault>
         requires { length schedules.now < 2 ^ 32 }
-        ensures { AsDefined (λ x. x) cause_of (row_of schedules.now row before.now (table_view table.now)) result };
+        ensures { AsDefined (λ x. x) cause_of
+            (row_of schedules.now row before.now (table_view table.now)) result };
 }
 
 #[tactic(auto, unfolding(crate::specs::Conf::schedule_of))]
@@ -128,7 +129,8 @@ fn read_rows<R: Row>(
 ) -> Result<Items<R>, ConfFault>
     requires few { length values.now ≤ 64 }
     requires few_schedules { length schedules.now < 2 ^ 32 }
-    ensures rows { AsDefined (λ x. x) cause_of (conf.rows_from (R.row_of schedules.now) 1 [] (items_view values.now)) result }
+    ensures rows { AsDefined (λ x. x) cause_of
+        (conf.rows_from (R.row_of schedules.now) 1 [] (items_view values.now)) result }
     ensures few { IfOk result (λ rows. length rows ≤ length values.now) }
 {
     let mut rows = Vec::new(alloc);
@@ -172,9 +174,10 @@ fn conf_in(alloc: Global, table: &Table) -> Result<HubConf, ConfFault>
     Ok(hub_of(alloc, table, schedules, feeds)?)
 }
 
-/// Reads a configuration, a document of TOML 1.1 in UTF-8: the configuration, or the first fault. The document's
-/// own keys are judged first, then the schedules by row, and then the feeds. Of a table the unknown names come
-/// first, in byte order, and then its keys in the order of their table, each for all that may be wrong with it.
+/// Reads a configuration, a document of TOML 1.1 in UTF-8: the configuration, or the first fault.
+/// The document's own keys are judged first, then the schedules by row, and then the feeds. Of a
+/// table the unknown names come first, in byte order, and then its keys in the order of their
+/// table, each for all that may be wrong with it.
 pub fn read_conf(alloc: Global, bytes: &[u8]) -> Result<HubConf, ConfFault>
     ensures { AsDefined (λ x. x) cause_of (conf.conf_of bytes.now) result }
 {

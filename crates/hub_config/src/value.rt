@@ -54,8 +54,8 @@ fn eight_digits(text: &str) -> Option<u32>
     }
 }
 
-/// The number of eight digits YYYYMMDD of a day of the Gregorian calendar from 1 February 1970 to 31 December
-/// 2999 (GTFS Schedule, "Field Types", Date).
+/// The number of eight digits YYYYMMDD of a day of the Gregorian calendar from 1 February 1970 to
+/// 31 December 2999 (GTFS Schedule, "Field Types", Date).
 #[tactic(auto, unfolding(crate::specs::Values::date_of))]
 fn date_of(text: &str) -> Option<u32>
     ensures { result ≡ values.date_of text.now }
@@ -162,7 +162,8 @@ fn is_array_for(holds: Holds, rows: &[Value]) -> bool
 /// The tables that a value says, where its key may hold them.
 #[tactic(auto, unfolding(crate::specs::Values::tables_of))]
 pub fn tables_of(holds: Holds, value: &Value) -> Option<&[Value]>
-    ensures value { option_map (λ rows. items_view rows.now) result ≡ values.tables_of holds (view value.now) }
+    ensures value { option_map (λ rows. items_view rows.now) result ≡ values.tables_of holds
+        (view value.now) }
     ensures few { IfSome result (λ rows. length rows.now ≤ values.most_tables holds) }
 {
     match value.as_array() {

@@ -34,8 +34,8 @@ fn put(alloc: Global, files: &mut Vec<MemoryFile>, path: &str, bytes: &[u8]) -> 
     Ok(())
 }
 
-// The configuration and the files of the timetable, with another file in front of them: the first of a path
-// counts.
+// The configuration and the files of the timetable, with another file in front of them: the first
+// of a path counts.
 fn city_with(alloc: Global, path: &str, bytes: &[u8]) -> Result<Vec<MemoryFile>, Fail> {
     let mut files = Vec::new(alloc);
     put(alloc, &mut files, path, bytes)?;
@@ -101,8 +101,8 @@ fn without(alloc: Global, path: &str) -> Result<Vec<MemoryFile>, Fail> {
     Ok(kept)
 }
 
-// Files of the timetable with a byte order mark, swapped columns, a column more, and rows cut before empty
-// last fields.
+// Files of the timetable with a byte order mark, swapped columns, a column more, and rows cut
+// before empty last fields.
 const VARIANTS: [(&str, &str); 5] = [
     ("none", ""),
     ("city/agency.txt", "\u{feff}agency_id,agency_name\nA,City\n"),

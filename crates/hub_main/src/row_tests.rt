@@ -1,4 +1,5 @@
-//! Whole scripts of one feed, each with what it prints, and scripts at their limits, with ample memory.
+//! Whole scripts of one feed, each with what it prints, and scripts at their limits, with ample
+//! memory.
 use crate::tests::replayed;
 use std::alloc::Global;
 use std::test::Fail;
@@ -67,7 +68,8 @@ const ROWS: [Row; 11] = [
     },
 ];
 
-// Whether the messages, offered to the feed a one after another, print that together with the combined feed.
+// Whether the messages, offered to the feed a one after another, print that together with the
+// combined feed.
 fn tells(alloc: Global, messages: &[&[u8]], told: &[u8]) -> Result<bool, Fail> {
     let mut script = b"F a\n".to_vec(alloc)?;
     for message in messages {
@@ -135,7 +137,8 @@ fn many_feeds(alloc: Global, count: u32) -> Result<Vec<u8>, Fail> {
     Ok(script)
 }
 
-// A line has 4096 bytes at most, its LF included; a script has 64 feeds at most; a length has 12 digits.
+// A line has 4096 bytes at most, its LF included; a script has 64 feeds at most; a length has 12
+// digits.
 #[test]
 fn limits_of_scripts(rt: HostRuntime) -> Result<(), Fail> {
     let alloc = rt.alloc();

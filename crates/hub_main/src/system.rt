@@ -9,9 +9,9 @@ use std::env::Args;
 use std::io::{ErrorKind, Read, Write};
 use std::{io, rt};
 
-/// Runs the command of the program's words on files and a clock of the system, an input and an output, and
-/// gives the exit status that [`run_offline`] gives: 6 where memory for the words is wanting. The first word
-/// is the program's name.
+/// Runs the command of the program's words on files and a clock of the system, an input and an
+/// output, and gives the exit status that [`run_offline`] gives: 6 where memory for the words is
+/// wanting. The first word is the program's name.
 pub fn run_on_system<R: rt::Files + rt::Clock, I: Read + Drop, O: Write + Drop>(
     alloc: Global,
     words: io::Result<Args>,
@@ -31,8 +31,8 @@ pub fn run_on_system<R: rt::Files + rt::Clock, I: Read + Drop, O: Write + Drop>(
     )
 }
 
-// The words behind the program's name. Where one is not UTF-8 there are none: no command has such a word,
-// and none has no words.
+// The words behind the program's name. Where one is not UTF-8 there are none: no command has such a
+// word, and none has no words.
 fn words_of(alloc: Global, words: io::Result<Args>) -> Result<Vec<Text>, NoMemory> {
     match words {
         Ok(words) => texts_behind_first(alloc, words),

@@ -44,8 +44,8 @@ impl From<AllocError> for WordsFault {
     }
 }
 
-/// The command of the words, which are those behind the program's name. A word that begins with a hyphen is
-/// of no command. Any other word counts, the empty one too, where a command wants one.
+/// The command of the words, which are those behind the program's name. A word that begins with a
+/// hyphen is of no command. Any other word counts, the empty one too, where a command wants one.
 pub fn read_words<'a>(alloc: Global, words: &'a [Text]) -> Result<Command<'a>, WordsFault>
     ensures { Reads (command_of words.entry.now) result }
 {
@@ -118,7 +118,8 @@ fn named_command<'a>(name: &str, words: &ArgMatches<'a>) -> Option<Command<'a>>
 
 // `check` of the word that it has.
 fn check_of<'a>(words: &ArgMatches<'a>) -> Option<Command<'a>>
-    ensures { option_map seen result ≡ option_map Check (first_of (codes "config") (rows_of (found_of words.now))) }
+    ensures { option_map seen result ≡ option_map Check
+        (first_of (codes "config") (rows_of (found_of words.now))) }
 {
     match words.get_str("config") {
         Some(path) => Some(Command::Check(path)),
