@@ -4,12 +4,10 @@ ghost use Rattle.std.specs.Prelude.{◌≡◌, [], ◌∷◌, IfOk};
 ghost use Rattle.feed_defs.specs.Rows.{unknown_bytes_of, required_value, value, Message as Table};
 ghost use Rattle.pb_wire.specs.Parts.{part_seen, parts_seen};
 ghost use Rattle.answer_defs.specs.Defined.{AsDefined};
-ghost use Rattle.feed_read.specs.Causes.{cause_of};
+ghost use Rattle.field_read.specs.Causes.{cause_of};
 
 use crate::NoMemory;
-use crate::fault::ReadFault;
-use crate::payload::add_parts;
-use crate::reader::Reader;
+use field_read::{ReadFault, Reader, add_parts};
 use pb_wire::Part;
 use rt_types::{Bytes, Kind, What};
 use std::alloc::Global;

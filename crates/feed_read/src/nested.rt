@@ -4,13 +4,11 @@ ghost use Rattle.std.specs.Prelude.{◌≡◌, [], ◌∷◌};
 ghost use Rattle.feed_defs.specs.Rows.{occurrences_of, span_in, fields_of_all, merged_message, value, values, with_entity_number, numbered_values};
 ghost use Rattle.pb_wire.specs.Parts.{parts_seen};
 ghost use Rattle.answer_defs.specs.Defined.{AsDefined};
-ghost use Rattle.feed_read.specs.Causes.{cause_of};
-ghost use Rattle.feed_read.specs.Grows.{Grows};
+ghost use Rattle.field_read.specs.Causes.{cause_of};
+ghost use Rattle.field_read.specs.Grows.{Grows};
 
-use crate::fault::ReadFault;
 use crate::message::{Message, read_one, whole};
-use crate::payload::{add_parts, count, last_span, span_at};
-use crate::reader::Reader;
+use field_read::{ReadFault, Reader, add_parts, count, last_span, span_at};
 use pb_wire::Part;
 use rt_types::{Items, Kind, Shared};
 

@@ -2,8 +2,8 @@
 
 use crate::message::{Message, read_one};
 use crate::nested::all;
-use crate::reader::Reader;
 use crate::{ReadFault, read_message};
+use field_read::Reader;
 use pb_wire::read_parts;
 use rt_types::{
     Alert, Entity, Event, Incrementality, Kind, Position, Selector, Translated, Translation,

@@ -50,6 +50,7 @@ fn push_parts<'a>(bytes: &'a [u8], parts: &mut Vec<Part<'a>>) -> Result<(), Wire
 
 /// The field in front of the bytes, and the bytes behind it.
 #[tactic(auto, unfolding(wire_defs::specs::Reading::field_at, wire_defs::specs::Reading::field_with))]
+#[inline(always)]
 pub fn field_at(bytes: &[u8]) -> Result<(Part<'_>, &[u8]), WireFault>
     ensures { Finds (λ x. (part_seen x.0, x.1.now)) result (field_at bytes.now) }
 {

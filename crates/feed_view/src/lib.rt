@@ -1,0 +1,15 @@
+//! What is kept of one feed: what it says, when it last spoke, and how many messages it sent.
+//!
+//! A contract sees a `FeedView` as `FeedKept` of `board_defs`. `FeedView::next` makes the view after one
+//! message more, and leaves the old one as it was, so that readers may go on with it; the two share what the
+//! message doesn't touch.
+//!
+//! It stands on `entity_table`, whose table holds the entities, and on the definitions of `board_defs`.
+#![tactic(auto)]
+
+#[cfg(test)]
+mod tests;
+mod view;
+
+pub use std::alloc::AllocError as NoMemory;
+pub use view::FeedView;
