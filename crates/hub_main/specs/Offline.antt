@@ -10,9 +10,11 @@ use Rattle.command_defs.specs.Words.Command.{Replay, Check}
 use Rattle.command_defs.specs.Checks.{check_output}
 use Rattle.command_defs.specs.Commands.{file_fault_line, usage_line}
 
--- done, no command, refused configuration or timetable, input or file fault, output fault, no memory, refused script
+-- done, no command, refused configuration or timetable, input or file fault, output fault, no
+-- memory, refused script
 abbrev pub IsExitStatus : ℕ → Type 0
-IsExitStatus status = (status ≡ 0) ⊎ (status ≡ 2) ⊎ (status ≡ 3) ⊎ (status ≡ 4) ⊎ (status ≡ 5) ⊎ (status ≡ 6) ⊎ (status ≡ 7)
+IsExitStatus status = (status ≡ 0) ⊎ (status ≡ 2) ⊎ (status ≡ 3) ⊎ (status ≡ 4) ⊎ (status ≡ 5)
+    ⊎ (status ≡ 6) ⊎ (status ≡ 7)
 
 -- the output grew by those bytes, or by a front of them
 abbrev pub Grew : Stream → Stream → List ℕ → Type 0
@@ -36,19 +38,23 @@ pub record UsageOutcome (output output' : Stream) (status : ℕ) : Type 0 where
   pub no_memory : status ≡ 6 → Grew output output' []
   pub output_count : output.faults ≤ output'.faults
 
--- a front of what a check prints was written; of the line of a file that can't be read, only where the files' count rose
+-- a front of what a check prints was written; of the line of a file that can't be read, only where
+-- the files' count rose
 abbrev pub CheckCut : List ℕ → FileStore → FileStore → Stream → Stream → Type 0
 CheckCut path files files' output output' =
     FilesRose files files' × GrewByFront output output' file_fault_line
-    ⊎ (text : List ℕ) × IfSome files.told (λ fs. (check_output fs path).written ≡ text) × GrewByFront output output' text
+    ⊎ (text : List ℕ) × IfSome files.told (λ fs. (check_output fs path).written ≡ text)
+        × GrewByFront output output' text
 
 -- `check` of the configuration at a path: nothing is printed before all is known
-pub record CheckOutcome (path : List ℕ) (files files' : FileStore) (output output' : Stream) (status : ℕ) : Type 0 where
+pub record CheckOutcome (path : List ℕ) (files files' : FileStore) (output output' : Stream)
+    (status : ℕ) : Type 0 where
   pub is_status : (status ≡ 0) ⊎ (status ≡ 3) ⊎ (status ≡ 4) ⊎ (status ≡ 5) ⊎ (status ≡ 6)
   pub whole : (status ≡ 0) ⊎ (status ≡ 3) → IfSome files.told (λ fs.
       Grew output output' (check_output fs path).written × (status ≡ (check_output fs path).status))
   pub file_fault : status ≡ 4 → FilesRose files files' × Grew output output' file_fault_line
-  pub output_fault : status ≡ 5 → OutputRose output output' × CheckCut path files files' output output'
+  pub output_fault : status ≡ 5 → OutputRose output output'
+      × CheckCut path files files' output output'
   pub no_memory : status ≡ 6 → Grew output output' []
   pub files_count : files.faults ≤ files'.faults
   pub output_count : output.faults ≤ output'.faults

@@ -19,11 +19,11 @@ const USAGE: u8 = 2;
 /// A configuration or a timetable is refused.
 const REFUSED_CONF: u8 = 3;
 
-/// Runs the command of the words, which are those behind the program's name, and gives the exit status:
-/// 0 where it was done, 2 where the words are no command, 3 where a configuration or a timetable is
-/// refused, 4 where the input or a file failed, 5 where the output did, 6 where memory ran out, and 7
-/// where a script is refused. The commands are `replay`, which reads a script on the input and asks for no
-/// file, and `check CONFIG`, which reads files and no input.
+/// Runs the command of the words, which are those behind the program's name, and gives the exit
+/// status: 0 where it was done, 2 where the words are no command, 3 where a configuration or a
+/// timetable is refused, 4 where the input or a file failed, 5 where the output did, 6 where memory
+/// ran out, and 7 where a script is refused. The commands are `replay`, which reads a script on the
+/// input and asks for no file, and `check CONFIG`, which reads files and no input.
 ///
 /// It always returns, and reads no clock.
 pub fn run_offline<F: Files, S: Source, K: Sink, C: Clock>(

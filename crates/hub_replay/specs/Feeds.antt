@@ -20,7 +20,8 @@ with_name hub name = record hub { names = hub.names ++ name ∷ [] }
 abbrev pub running : Hub → Hub
 running hub = record hub { begun = true }
 
--- an offered message is refused for that cause, and only the declarations end; of want of memory nothing is said
+-- an offered message is refused for that cause, and only the declarations end; of want of memory
+-- nothing is said
 abbrev pub RefusesFor : ℕ → List ℕ → Hub → Hub → Option Cause → Type 0
 RefusesFor feed bytes old new None = ⊤
 RefusesFor feed bytes old new (Some cause) =

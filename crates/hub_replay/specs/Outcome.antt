@@ -16,52 +16,66 @@ IsReplayStatus status = (status ≡ 0) ⊎ (status ≡ 4) ⊎ (status ≡ 5) ⊎
 abbrev pub output_of_script : List ℕ → Output
 output_of_script script = output_of (run start (take longest_script script))
 
--- A script that begins with what was read. Where the input tells its bytes it is all that the input had.
+-- A script that begins with what was read. Where the input tells its bytes it is all that the input
+-- had.
 pub record IsScript (left left' : Option (List ℕ)) (script : List ℕ) : Type 0 where
   pub taken : List ℕ
   pub read : Consumes left left' taken
   pub within : length taken ≤ longest_script
   pub all : script ≡ taken ++ unwrap_or left' []
 
--- What was read of a script that goes on: none of its records ended it, and what stands behind them isn't refused.
+-- What was read of a script that goes on: none of its records ended it, and what stands behind them
+-- isn't refused.
 pub record IsUnfinished (left left' : Option (List ℕ)) (taken : List ℕ) : Type 0 where
   pub read : Consumes left left' taken
   pub within : length taken ≤ longest_script
   pub goes_on : is_open start taken ≡ true
 
--- what is printed where the input fails behind those bytes: what their records print, and the fault's line
+-- what is printed where the input fails behind those bytes: what their records print, and the
+-- fault's line
 abbrev pub fault_output : List ℕ → List ℕ
 fault_output taken = (run start taken).out ++ fault_line
 
 -- the output grew by all that is defined for the input, and the status is the defined one
-abbrev pub IsWhole : (List ℕ → Output) → ℕ → Option (List ℕ) → Option (List ℕ) → Option (List ℕ) → Type 0
+abbrev pub IsWhole : (List ℕ → Output) → ℕ → Option (List ℕ) → Option (List ℕ) → Option (List ℕ)
+    → Type 0
 IsWhole defined status left written written' = (status ≡ 0) ⊎ (status ≡ 7)
-    → IfSome left (λ script. Appends written written' (defined script).written × (status ≡ (defined script).status))
+    → IfSome left (λ script. Appends written written' (defined script).written
+        × (status ≡ (defined script).status))
 
 -- the input failed, in the midst of the script
-abbrev pub InputFailed : ℕ → Option (List ℕ) → Option (List ℕ) → Option (List ℕ) → Option (List ℕ) → ℕ → ℕ → Type 0
+abbrev pub InputFailed : ℕ → Option (List ℕ) → Option (List ℕ) → Option (List ℕ) → Option (List ℕ)
+    → ℕ → ℕ → Type 0
 InputFailed status left left' written written' faults faults' = status ≡ 4
     → Rose faults faults'
-    × ((taken : List ℕ) × IsUnfinished left left' taken × Appends written written' (fault_output taken))
+    × ((taken : List ℕ) × IsUnfinished left left' taken
+        × Appends written written' (fault_output taken))
 
 -- a front of all that is defined was written, or, where the input failed, of what is printed there
-abbrev pub IsCut : (List ℕ → Output) → Option (List ℕ) → Option (List ℕ) → Option (List ℕ) → Option (List ℕ) → ℕ → ℕ → Type 0
+abbrev pub IsCut : (List ℕ → Output) → Option (List ℕ) → Option (List ℕ) → Option (List ℕ)
+    → Option (List ℕ) → ℕ → ℕ → Type 0
 IsCut defined left left' written written' faults faults' =
-    ((script : List ℕ) × IsScript left left' script × ((n : ℕ) × Appends written written' (take n (defined script).written)))
-    ⊎ (Rose faults faults' × ((taken : List ℕ) × IsUnfinished left left' taken × ((n : ℕ) × Appends written written' (take n (fault_output taken)))))
+    ((script : List ℕ) × IsScript left left' script
+        × ((n : ℕ) × Appends written written' (take n (defined script).written)))
+    ⊎ (Rose faults faults' × ((taken : List ℕ) × IsUnfinished left left' taken
+        × ((n : ℕ) × Appends written written' (take n (fault_output taken)))))
 
 -- the output failed
-abbrev pub OutputFailed : (List ℕ → Output) → ℕ → Option (List ℕ) → Option (List ℕ) → Option (List ℕ) → Option (List ℕ) → ℕ → ℕ → ℕ → ℕ → Type 0
+abbrev pub OutputFailed : (List ℕ → Output) → ℕ → Option (List ℕ) → Option (List ℕ)
+    → Option (List ℕ) → Option (List ℕ) → ℕ → ℕ → ℕ → ℕ → Type 0
 OutputFailed defined status left left' written written' input input' out out' = status ≡ 5
     → Rose out out' × IsCut defined left left' written written' input input'
 
 -- memory ran out: the output grew by the front of all that is defined
-abbrev pub RanOut : (List ℕ → Output) → ℕ → Option (List ℕ) → Option (List ℕ) → Option (List ℕ) → Option (List ℕ) → Type 0
+abbrev pub RanOut : (List ℕ → Output) → ℕ → Option (List ℕ) → Option (List ℕ) → Option (List ℕ)
+    → Option (List ℕ) → Type 0
 RanOut defined status left left' written written' = status ≡ 6
-    → (script : List ℕ) × IsScript left left' script × ((n : ℕ) × Appends written written' (take n (defined script).written))
+    → (script : List ℕ) × IsScript left left' script
+        × ((n : ℕ) × Appends written written' (take n (defined script).written))
 
 -- all of this, and that no count of faults fell
-pub record Outcome (defined : List ℕ → Output) (status : ℕ) (left left' written written' : Option (List ℕ)) (input input' out out' : ℕ) : Type 0 where
+pub record Outcome (defined : List ℕ → Output) (status : ℕ)
+    (left left' written written' : Option (List ℕ)) (input input' out out' : ℕ) : Type 0 where
   pub is_status : IsReplayStatus status
   pub whole : IsWhole defined status left written written'
   pub input_fault : InputFailed status left left' written written' input input'
@@ -73,7 +87,8 @@ pub record Outcome (defined : List ℕ → Output) (status : ℕ) (left left' wr
 -- what a replay comes to, from its input and output before and after
 abbrev pub ReplayOutcome : Stream → Stream → Stream → Stream → ℕ → Type 0
 ReplayOutcome input input' output output' status =
-    Outcome replayed status input.told input'.told output.told output'.told input.faults input'.faults output.faults output'.faults
+    Outcome replayed status input.told input'.told output.told output'.told input.faults
+        input'.faults output.faults output'.faults
 
 -- the last bytes were written, or the output failed in the midst of them
 abbrev pub Last : ℕ → List ℕ → ℕ → Option (List ℕ) → Option (List ℕ) → ℕ → ℕ → Type 0
@@ -83,9 +98,14 @@ Last status bytes result written written' faults faults' = (faults ≤ faults')
 
 -- the last bytes of an ending
 abbrev pub Finishes : Ending → ℕ → List ℕ → Option (List ℕ) → Option (List ℕ) → ℕ → ℕ → Type 0
-Finishes Ended result said written written' faults faults' = Last 0 (said ++ []) result written written' faults faults'
+Finishes Ended result said written written' faults faults' =
+    Last 0 (said ++ []) result written written' faults faults'
 Finishes (Refused place) result said written written' faults faults' =
-    Last 7 (said ++ refused_line place) result written written' faults faults' ⊎ Last 6 (said ++ []) result written written' faults faults'
-Finishes InputFault result said written written' faults faults' = Last 4 (said ++ fault_line) result written written' faults faults'
-Finishes OutputFault result said written written' faults faults' = (result ≡ 5) × (faults ≤ faults') × Appends written written' []
-Finishes NoMemory result said written written' faults faults' = Last 6 (said ++ []) result written written' faults faults'
+    Last 7 (said ++ refused_line place) result written written' faults faults'
+        ⊎ Last 6 (said ++ []) result written written' faults faults'
+Finishes InputFault result said written written' faults faults' =
+    Last 4 (said ++ fault_line) result written written' faults faults'
+Finishes OutputFault result said written written' faults faults' =
+    (result ≡ 5) × (faults ≤ faults') × Appends written written' []
+Finishes NoMemory result said written written' faults faults' =
+    Last 6 (said ++ []) result written written' faults faults'

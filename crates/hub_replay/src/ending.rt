@@ -12,13 +12,15 @@ use hub_outside::{OutputFault, Sink, Source, write_all};
 use crate::NoMemory;
 use std::alloc::Global;
 
-/// Replays the script on the input: does its records in order, and writes what they print. Gives the exit
-/// status: 0 where the script was read to its end, 4 where the input failed, 5 where the output did, 6 where
-/// memory ran out, and 7 where the script is refused.
+/// Replays the script on the input: does its records in order, and writes what they print. Gives
+/// the exit status: 0 where the script was read to its end, 4 where the input failed, 5 where the
+/// output did, 6 where memory ran out, and 7 where the script is refused.
 pub fn replay<S: Source, K: Sink>(alloc: Global, input: &mut S, out: &mut K) -> u8
     ensures { ReplayOutcome
-        (stream (S.left input.old) (S.faults input.old)) (stream (S.left input.new) (S.faults input.new))
-        (stream (K.written out.old) (K.faults out.old)) (stream (K.written out.new) (K.faults out.new))
+        (stream (S.left input.old) (S.faults input.old))
+        (stream (S.left input.new) (S.faults input.new))
+        (stream (K.written out.old) (K.faults out.old))
+        (stream (K.written out.new) (K.faults out.new))
         result }
 {
     let mut run = Replay::new(alloc);
@@ -28,7 +30,8 @@ pub fn replay<S: Source, K: Sink>(alloc: Global, input: &mut S, out: &mut K) -> 
 
 // Writes what is left to be written at an ending, and gives the status.
 fn finish<K: Sink>(alloc: Global, ending: Ending, said: &[u8], out: &mut K) -> u8
-    ensures { Finishes ending result said.now (K.written out.old) (K.written out.new) (K.faults out.old) (K.faults out.new) }
+    ensures { Finishes ending result said.now (K.written out.old) (K.written out.new)
+        (K.faults out.old) (K.faults out.new) }
 {
     match ending {
         Ending::Ended => write_last(said, b"", DONE, out),
@@ -51,7 +54,8 @@ fn refused_text(alloc: Global, place: u64) -> Result<String, NoMemory>
 
 // Writes what was said and a last line. The status is the given one, unless the output fails.
 fn write_last<K: Sink>(said: &[u8], line: &[u8], status: u8, out: &mut K) -> u8
-    ensures { Last status (said.now ++ line.now) result (K.written out.old) (K.written out.new) (K.faults out.old) (K.faults out.new) }
+    ensures { Last status (said.now ++ line.now) result (K.written out.old) (K.written out.new)
+        (K.faults out.old) (K.faults out.new) }
 {
     match write_all(out, said) {
         Ok(()) => match write_all(out, line) {

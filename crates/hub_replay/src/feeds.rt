@@ -55,8 +55,8 @@ impl ScriptHub {
         }
     }
 
-    /// Declares a feed of that name where the script may: before all other records, under a new name of
-    /// the right form, as one of at most 64. Answers whether it did.
+    /// Declares a feed of that name where the script may: before all other records, under a new
+    /// name of the right form, as one of at most 64. Answers whether it did.
     pub(crate) fn declare(&mut self, alloc: Global, name: &str) -> Result<bool, NoMemory>
         ensures { Declares result self.old self.new name.now }
     {

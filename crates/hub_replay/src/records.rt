@@ -22,8 +22,8 @@ pub(crate) enum Step {
     Ends,
     /// No whole record; there is one perhaps once more bytes follow.
     Short,
-    /// A message of so many bytes, too long to be looked at: it is refused if LF stands at the place `end`,
-    /// behind its last byte.
+    /// A message of so many bytes, too long to be looked at: it is refused if LF stands at the
+    /// place `end`, behind its last byte.
     Long { end: usize, size: u32 },
     /// No record, whatever follows.
     Refused,
@@ -136,7 +136,8 @@ fn do_combined(
     said: &mut Vec<u8>,
 ) -> Step
     requires { behind ≤ length bytes.now }
-    ensures { Acts (Combined schedule.now) behind result hub.old hub.new bytes.now said.old.items said.new.items }
+    ensures { Acts (Combined schedule.now) behind result hub.old hub.new bytes.now said.old.items
+        said.new.items }
 {
     if schedule == "plain" {
         let Ok(feed) = hub.combined(alloc) else {
@@ -175,7 +176,8 @@ fn offer(
 
 // A feed, with its length before it and LF behind it.
 fn say_feed(alloc: Global, feed: &[u8], said: &mut Vec<u8>) -> Result<(), NoMemory>
-    ensures { Says result said.old.items said.new.items (codes "feed " ++ decimal (length feed.now) ++ line_feed ++ feed.now ++ line_feed) }
+    ensures { Says result said.old.items said.new.items (codes "feed " ++ decimal (length feed.now)
+        ++ line_feed ++ feed.now ++ line_feed) }
 {
     let length = feed.len();
     let line = format!(in alloc; "feed {length}\n")?;

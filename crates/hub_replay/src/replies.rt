@@ -44,7 +44,8 @@ pub(crate) fn too_long_line(alloc: Global, len: u64) -> Result<String, NoMemory>
     format!(in alloc; "refused toolong {len}\n")
 }
 
-// The line that refuses a message no newer than its feed's last; both stamps are in seconds since 1970.
+// The line that refuses a message no newer than its feed's last; both stamps are in seconds since
+// 1970.
 fn stale_line(alloc: Global, last: u64, got: u64) -> Result<String, NoMemory>
     ensures { IfOk result (λ line. string_bytes line ≡ reply_line (Err (StaleCause last got))) }
 {
@@ -59,7 +60,8 @@ fn malformed_line(
     kind: Kind,
     field: u32,
 ) -> Result<String, NoMemory>
-    ensures { IfOk result (λ line. string_bytes line ≡ reply_line (Err (FaultCause (record { entity = entity; what = what; kind = kind; field = field })))) }
+    ensures { IfOk result (λ line. string_bytes line ≡ reply_line
+        (Err (FaultCause (record { entity = entity; what = what; kind = kind; field = field })))) }
 {
     fault_line(alloc, entity, what_word(what), kind_name(kind), field)
 }
@@ -72,12 +74,15 @@ fn fault_line(
     kind: &str,
     field: u32,
 ) -> Result<String, NoMemory>
-    ensures { IfOk result (λ line. string_bytes line ≡ codes "refused malformed " ++ (decimal entity ++ codes " " ++ what.now ++ codes " " ++ kind.now ++ codes " " ++ decimal field) ++ line_feed) }
+    ensures { IfOk result (λ line. string_bytes line ≡ codes "refused malformed "
+        ++ (decimal entity ++ codes " " ++ what.now ++ codes " " ++ kind.now ++ codes " "
+        ++ decimal field) ++ line_feed) }
 {
     format!(in alloc; "refused malformed {entity} {what} {kind} {field}\n")
 }
 
-// The line that refuses a message of another version, whose control characters would break the line.
+// The line that refuses a message of another version, whose control characters would break the
+// line.
 fn version_line(alloc: Global, version: &str) -> Result<Vec<u8>, NoMemory>
     ensures { IfOk result (λ line. line.items ≡ reply_line (Err (VersionCause version.now))) }
 {

@@ -60,7 +60,8 @@ impl Replay {
     }
 }
 
-/// Does the record in front, or reads on where it isn't whole. What was said goes out before more is read.
+/// Does the record in front, or reads on where it isn't whole. What was said goes out before more
+/// is read.
 pub(crate) fn advance<S: Source, K: Sink>(
     alloc: Global,
     run: &mut Replay,
@@ -68,8 +69,10 @@ pub(crate) fn advance<S: Source, K: Sink>(
     out: &mut K,
 ) -> Option<Ending>
     requires { place_sum (at run.old) ≤ longest_script }
-    ensures step { Advances result (at run.old) (at run.new) (S.left input.old) (S.left input.new) (K.written out.old) (K.written out.new) }
-    ensures cause { HasCause result (S.faults input.old) (S.faults input.new) (K.faults out.old) (K.faults out.new) }
+    ensures step { Advances result (at run.old) (at run.new) (S.left input.old) (S.left input.new)
+        (K.written out.old) (K.written out.new) }
+    ensures cause { HasCause result (S.faults input.old) (S.faults input.new) (K.faults out.old)
+        (K.faults out.new) }
 {
     let before = run.said.len();
     match do_record(alloc, &mut run.hub, run.window.held(), &mut run.said) {
@@ -94,7 +97,8 @@ pub(crate) fn advance<S: Source, K: Sink>(
 
 // Writes what was said, once much of it waits.
 fn flush_long<K: Sink>(said: &mut Vec<u8>, out: &mut K) -> Result<(), OutputFault>
-    ensures bytes { Flushes result said.old.items said.new.items (K.written out.old) (K.written out.new) }
+    ensures bytes { Flushes result said.old.items said.new.items (K.written out.old)
+        (K.written out.new) }
     ensures cause { HasWritingCause result (K.faults out.old) (K.faults out.new) }
 {
     if said.len() < MOST_WAITING {
@@ -118,8 +122,10 @@ fn flush<K: Sink>(said: &mut Vec<u8>, out: &mut K) -> Result<(), OutputFault>
 fn fetch<S: Source, K: Sink>(run: &mut Replay, input: &mut S, out: &mut K) -> Option<Ending>
     requires record { turn run.old.hub run.old.window.held ≡ None }
     requires waits { waits run.old.hub run.old.window.held ≡ true }
-    ensures step { Advances result (at run.old) (at run.new) (S.left input.old) (S.left input.new) (K.written out.old) (K.written out.new) }
-    ensures cause { HasCause result (S.faults input.old) (S.faults input.new) (K.faults out.old) (K.faults out.new) }
+    ensures step { Advances result (at run.old) (at run.new) (S.left input.old) (S.left input.new)
+        (K.written out.old) (K.written out.new) }
+    ensures cause { HasCause result (S.faults input.old) (S.faults input.new) (K.faults out.old)
+        (K.faults out.new) }
 {
     match flush(&mut run.said, out) {
         Ok(()) => match run.window.read_more(input) {
@@ -141,12 +147,15 @@ fn pass_message<S: Source, K: Sink>(
     input: &mut S,
     out: &mut K,
 ) -> Option<Ending>
-    requires record { (more : List ℕ) → turn run.old.hub (run.old.window.held ++ more) ≡ long_turn end size run.old.hub (run.old.window.held ++ more) }
+    requires record { (more : List ℕ) → turn run.old.hub (run.old.window.held ++ more) ≡ long_turn
+        end size run.old.hub (run.old.window.held ++ more) }
     requires waits { (more : List ℕ) → length (run.old.window.held ++ more) ≤ end
         → waits run.old.hub (run.old.window.held ++ more) ≡ true }
     requires place { place_sum (at run.old) ≤ longest_script }
-    ensures step { Advances result (at run.old) (at run.new) (S.left input.old) (S.left input.new) (K.written out.old) (K.written out.new) }
-    ensures cause { HasCause result (S.faults input.old) (S.faults input.new) (K.faults out.old) (K.faults out.new) }
+    ensures step { Advances result (at run.old) (at run.new) (S.left input.old) (S.left input.new)
+        (K.written out.old) (K.written out.new) }
+    ensures cause { HasCause result (S.faults input.old) (S.faults input.new) (K.faults out.old)
+        (K.faults out.new) }
 {
     match flush(&mut run.said, out) {
         Ok(()) => match skip(&mut run.window, end, input) {
