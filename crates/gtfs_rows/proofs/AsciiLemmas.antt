@@ -7,7 +7,10 @@ use Rattle.std.proofs.lemmas.Bool.Decides.{nat_tests}
 use Rattle.std.proofs.lemmas.List.{take-append-drop}
 use Rattle.std.proofs.lemmas.Str.{IsAscii-append, IsUtf8-from_ascii, is_utf8-from_IsUtf8}
 use Rattle.std.proofs.lemmas.Str.Ascii.{IsAscii-cons, IsAscii-nil}
-use Rattle.gtfs_rows.specs.Values.{clock_of, clock_time, date, date_of_number, digits, digits_after, number, seconds_of, sixtieth, within}
+use Rattle.text_defs.specs.Dates.{date_in, day_or_none}
+use Rattle.text_defs.specs.Numbers.{digits, digits_after, number as digits_number, within}
+use Rattle.text_defs.specs.Times.{clock_of, seconds_of, sixtieth, time_in}
+use Rattle.gtfs_rows.specs.Values.{date, number}
 
 digit-small : (b : ℕ) → is_ascii_digit b ≡ true → b < 128
 digit-small b h = grind (arith, nat_tests)
@@ -38,13 +41,15 @@ then-some f (Some x) y e = (x, refl, e)
 
 -- a number is text
 pub number_text : (low high : ℕ) (bytes : List ℕ) (n : ℕ) → number low high bytes ≡ Some n → is_utf8 bytes ≡ true
-unfolding number
+unfolding number digits_number
 number_text low high bytes n e = let some = then-some (within low high) (digits 1 10 bytes) n e in ascii-text bytes (digits-ascii 1 10 bytes some.0 some.1)
 
 -- a date is text
 pub date_text : (bytes : List ℕ) (n : ℕ) → date bytes ≡ Some n → is_utf8 bytes ≡ true
-unfolding date
-date_text bytes n e = let some = then-some date_of_number (digits 8 8 bytes) n e in ascii-text bytes (digits-ascii 8 8 bytes some.0 some.1)
+unfolding date date_in
+date_text bytes n e =
+    let day = then-some (within 19000101 29991231) (date_in bytes) n e in
+    let some = then-some day_or_none (digits 8 8 bytes) day.0 day.1 in ascii-text bytes (digits-ascii 8 8 bytes some.0 some.1)
 
 sixtieth-ascii : (bytes : List ℕ) (n : ℕ) → sixtieth bytes ≡ Some n → IsAscii bytes
 sixtieth-ascii bytes n e = let some = then-some (within 0 59) (digits 2 2 bytes) n e in digits-ascii 2 2 bytes some.0 some.1
@@ -78,8 +83,8 @@ clock-ascii hours (p ∷ a ∷ b ∷ q ∷ c ∷ d ∷ []) n e = by ((p == 58) &
         )
 
 -- a time is text
-pub time_text : (bytes : List ℕ) (n : ℕ) → clock_time bytes ≡ Some n → is_utf8 bytes ≡ true
-unfolding clock_time
+pub time_text : (bytes : List ℕ) (n : ℕ) → time_in bytes ≡ Some n → is_utf8 bytes ≡ true
+unfolding time_in
 time_text bytes n e =
     let parts = clock-ascii (take (length bytes - 6) bytes) (drop (length bytes - 6) bytes) n e in
     ascii-text bytes (subst IsAscii (take-append-drop (length bytes - 6) bytes) (IsAscii-append (take (length bytes - 6) bytes) (drop (length bytes - 6) bytes) parts.0 parts.1))

@@ -3,9 +3,11 @@ use Rattle.std.proofs.Common.{Bor, if◌then◌else◌, ◌≡◌, ℕ, ◌+◌,
 use mathlib.Core.Path.{fun_ext}
 use Rattle.std.specs.Prelude.{Result, Ok, Err, nat_le}
 use Rattle.std.proofs.lemmas.List.{append-nil, append_assoc}
+use Rattle.answer_defs.specs.Defined.{AsDefined, IsCause}
+use Rattle.answer_defs.specs.Steps.{◌>>=◌}
 use Rattle.gtfs_rows.specs.Names.{all_columns, slot_of}
 use Rattle.gtfs_rows.specs.Tables.{Columns, and_then}
-use Rattle.gtfs_rows.specs.Files.{Answers, cell_of, field_in, first_missing, place_of, rows_from, rows_of, rows_of_records, rows_under, trimmed_text, unless_missing}
+use Rattle.gtfs_rows.specs.Files.{cause_of, cell_of, field_in, first_missing, place_of, rows_from, rows_of, rows_of_records, rows_under, trimmed_text, unless_missing}
 use Rattle.gtfs_rows.specs.Layout.{cell_at, places_in}
 use Rattle.gtfs_rows.specs.Reading.{HeaderIs, records_left}
 use Rattle.csv.specs.Reading.{default_config, records, strip_bom}
@@ -121,14 +123,34 @@ pub rows_present : {R : Type 0} (columns : Columns R) (bytes : List ℕ) (found 
 rows_present columns bytes found header after h some e = header_rows columns bytes found header after h ∙ rw (e, some) (sym (rows-same columns header 2 (records_left after)))
 
 -- an answer to what is the same
-pub answers-same : {A : Type 0} (told same : Result A RowFault) (given : Result A RowFault) → told ≡ same → Answers same given → Answers told given
-answers-same told same given e h = rw e h
+pub answers-same : {A B : Type 0} (view : B → A) (one same : Result A RowFault) (given : Result B RowFault) → one ≡ same → AsDefined view cause_of same given → AsDefined view cause_of one given
+answers-same view one same given e h = rw e h
 
 -- a fault of one is a fault of another
 pub answers-fault : {A B : Type 0} (one : Result A RowFault) (other : Result B RowFault) (e : RowFault) → ((f : RowFault) → one ≡ Err f → other ≡ Err f)
-    → Answers one (Err e) → Answers other (Err e)
+    → IsCause one (cause_of e) → IsCause other (cause_of e)
 answers-fault one other (fault.MissingColumn column) same h = same (fault.MissingColumn column) h
 answers-fault one other (fault.BadValue row column) same h = same (fault.BadValue row column) h
 answers-fault one other (fault.NotText row column) same h = same (fault.NotText row column) h
 answers-fault one other fault.TooMany same h = same fault.TooMany h
 answers-fault one other fault.NoMemory same h = tt
+
+-- the rows of records, of which there is none, of which the first is a row, has a fault, or is one too many
+module _ {R : Type 0} (columns : Columns R) (cells : List (List ℕ) → Column → List ℕ) (row : ℕ) where
+  pub come-none : (recs : List (List (List ℕ))) → recs ≡ [] → rows_from columns cells row recs ≡ Ok []
+  unfolding rows_from
+  come-none recs e = rw e refl
+
+  module _ (recs rest : List (List (List ℕ))) (fields : List (List ℕ)) (first : recs ≡ fields ∷ rest) where
+    pub come-next : (x : R) → nat_le row 4000001 ≡ true → columns.read row (cells fields) ≡ Ok x
+        → rows_from columns cells row recs ≡ (rows_from columns cells (row + 1) rest >>= λ rows. Ok (x ∷ rows))
+    unfolding rows_from
+    come-next x small e = rw (first, small, e) refl
+
+    pub come-fault : (f : RowFault) → nat_le row 4000001 ≡ true → columns.read row (cells fields) ≡ Err f → rows_from columns cells row recs ≡ Err f
+    unfolding rows_from
+    come-fault f small e = rw (first, small, e) refl
+
+    pub come-many : nat_le row 4000001 ≡ false → rows_from columns cells row recs ≡ Err fault.TooMany
+    unfolding rows_from
+    come-many large = rw (first, large) refl

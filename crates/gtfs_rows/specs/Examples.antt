@@ -4,7 +4,10 @@ use Rattle.std.specs.Str.{chars, is_utf8}
 use lib.Utf8.{encode}
 use Rattle.csv.specs.Machine.{next_record}
 use Rattle.csv.specs.Reading.{records_from, strip_bom}
-use Rattle.gtfs_rows.specs.Values.{number, date, clock_time}
+use Rattle.text_defs.specs.Dates.{date_in, is_day}
+use Rattle.text_defs.specs.Numbers.{number as digits_number}
+use Rattle.text_defs.specs.Times.{time_in}
+use Rattle.gtfs_rows.specs.Values.{number, date}
 use Rattle.gtfs_rows.specs.Tables.{cell_value, trips, exceptions, agency}
 use Rattle.gtfs_rows.specs.Files.{cell_of, trimmed_text, rows_from, rows_of}
 use Rattle.gtfs_rows.specs.declared.column.Column.TheVariants as column
@@ -16,62 +19,62 @@ unfolding trimmed_text
 blanks = refl
 
 -- a time past midnight
-past_midnight : clock_time (codes "25:10:00") ≡ Some 90600
-unfolding clock_time
+past_midnight : time_in (codes "25:10:00") ≡ Some 90600
+unfolding time_in
 past_midnight = refl
 
-one_digit : clock_time (codes "8:40:00") ≡ Some 31200
-unfolding clock_time
+one_digit : time_in (codes "8:40:00") ≡ Some 31200
+unfolding time_in
 one_digit = refl
 
-sixty_seconds : clock_time (codes "08:00:60") ≡ None
-unfolding clock_time
+sixty_seconds : time_in (codes "08:00:60") ≡ None
+unfolding time_in
 sixty_seconds = refl
 
-no_hours : clock_time (codes ":00:00") ≡ None
-unfolding clock_time
+no_hours : time_in (codes ":00:00") ≡ None
+unfolding time_in
 no_hours = refl
 
-short_time : clock_time (codes "0:00") ≡ None
-unfolding clock_time
+short_time : time_in (codes "0:00") ≡ None
+unfolding time_in
 short_time = refl
 
 -- the leap day of a leap year, and of another year
 leap_day : date (codes "20240229") ≡ Some 20240229
-unfolding date
+unfolding date date_in is_day
 leap_day = refl
 
 no_leap_day : date (codes "20230229") ≡ None
-unfolding date
+unfolding date date_in is_day
 no_leap_day = refl
 
 no_leap_century : date (codes "21000229") ≡ None
-unfolding date
+unfolding date date_in is_day
 no_leap_century = refl
 
 early : date (codes "18991231") ≡ None
-unfolding date
+unfolding date date_in is_day
 early = refl
 
 no_month : date (codes "20251301") ≡ None
-unfolding date
+unfolding date date_in is_day
 no_month = refl
 
 -- a number may begin with 0, and has ten digits at most
 with_zeros : number 0 1 (codes "0000000001") ≡ Some 1
-unfolding number
+unfolding number digits_number
 with_zeros = refl
 
 eleven_digits : number 0 1 (codes "00000000001") ≡ None
-unfolding number
+unfolding number digits_number
 eleven_digits = refl
 
 too_large : number 0 4294967295 (codes "4294967296") ≡ None
-unfolding number
+unfolding number digits_number
 too_large = refl
 
 signed : number 0 9 (codes "+1") ≡ None
-unfolding number
+unfolding number digits_number
 signed = refl
 
 -- a byte order mark, swapped and extra columns, a quoted name, blanks, and a short row
@@ -81,13 +84,13 @@ extra : rows_of trips (0xEF ∷ 0xBB ∷ 0xBF ∷ codes "service_id,trip_id,note
     ∷ record { trip_id = codes "T2"; route_id = codes "R7"; service_id = codes "WK"; trip_headsign = []; direction_id = None }
     ∷ []
     )
-unfolding rows_of records_from next_record strip_bom rows_from trimmed_text cell_value number is_utf8 chars encode
+unfolding rows_of records_from next_record strip_bom rows_from trimmed_text cell_value number digits_number is_utf8 chars encode
 extra = refl
 
 -- of equal names the first counts
 equal_names : rows_of exceptions (codes "date,service_id,date,exception_type\n20250330,WK,never,2\n")
     ≡ Ok (record { service_id = codes "WK"; date = 20250330; exception_type = 2 } ∷ [])
-unfolding rows_of records_from next_record strip_bom rows_from trimmed_text cell_value date number is_utf8 chars encode
+unfolding rows_of records_from next_record strip_bom rows_from trimmed_text cell_value date date_in is_day number digits_number is_utf8 chars encode
 equal_names = refl
 
 -- a file of no bytes has no columns, which agency.txt may do without
@@ -97,17 +100,17 @@ no_bytes = refl
 
 -- the first missing column in the order of the table
 two_missing : rows_of exceptions (codes "exception_type\nx\n") ≡ Err (fault.MissingColumn column.ServiceId)
-unfolding rows_of records_from next_record strip_bom rows_from trimmed_text cell_value date number is_utf8 chars encode
+unfolding rows_of records_from next_record strip_bom rows_from trimmed_text cell_value date date_in is_day number digits_number is_utf8 chars encode
 two_missing = refl
 
 -- an id that is empty, before a date that is bad
 empty_id : rows_of exceptions (codes "service_id,date,exception_type\nWK,20250330,1\n ,x,2\n") ≡ Err (fault.BadValue 3 column.ServiceId)
-unfolding rows_of records_from next_record strip_bom rows_from trimmed_text cell_value date number is_utf8 chars encode
+unfolding rows_of records_from next_record strip_bom rows_from trimmed_text cell_value date date_in is_day number digits_number is_utf8 chars encode
 empty_id = refl
 
 -- bytes that are no text, in a column of numbers too
 no_text : rows_of exceptions (codes "service_id,date,exception_type\nWK,20250330," ++ 0xFF ∷ []) ≡ Err (fault.NotText 2 column.ExceptionType)
-unfolding rows_of records_from next_record strip_bom rows_from trimmed_text cell_value date number is_utf8 chars encode
+unfolding rows_of records_from next_record strip_bom rows_from trimmed_text cell_value date date_in is_day number digits_number is_utf8 chars encode
 no_text = refl
 
 -- the last row of data that a file may have, and one more

@@ -1,5 +1,5 @@
 -- What the rows of a file are, or its first fault, from the records into which `csv` cuts its bytes.
-use Rattle.std.specs.Prelude.{ℕ, ◌≡◌, Bool, ◌||◌, ◌==◌, nat_le, if◌then◌else◌, bytes_eq, is_none, List, [], ◌∷◌, map, slice_index_or, Option, Some, None, Result, Ok, Err, ⊤, Vec}
+use Rattle.std.specs.Prelude.{ℕ, ◌≡◌, Bool, ◌||◌, ◌==◌, nat_le, if◌then◌else◌, bytes_eq, is_none, List, [], ◌∷◌, map, slice_index_or, Option, Some, None, Result, Ok, Err, Vec}
 use Rattle.std.specs.List.{position_from, enumerate_from}
 use Rattle.csv.specs.Reading.{records, default_config, strip_bom}
 use Rattle.gtfs_rows.specs.Names.{column_name}
@@ -97,16 +97,14 @@ rows_of_records columns (header ∷ recs) = rows_under columns header recs
 unfoldable pub rows_of : {R : Type 0} → Columns R → List ℕ → Result (List R) RowFault
 rows_of columns bytes = rows_of_records columns (records default_config (strip_bom bytes))
 
--- an answer is what is told; only want of memory may come in its place
-abbrev pub Answers : {A : Type 0} → Result A RowFault → Result A RowFault → Type 0
-Answers told (Ok x) = told ≡ Ok x
-Answers told (Err (fault.MissingColumn column)) = told ≡ Err (fault.MissingColumn column)
-Answers told (Err (fault.BadValue row column)) = told ≡ Err (fault.BadValue row column)
-Answers told (Err (fault.NotText row column)) = told ≡ Err (fault.NotText row column)
-Answers told (Err fault.TooMany) = told ≡ Err fault.TooMany
-Answers told (Err fault.NoMemory) = ⊤
+-- the fault that an error tells: want of memory tells none
+abbrev pub cause_of : RowFault → Option RowFault
+cause_of (fault.MissingColumn column) = Some (fault.MissingColumn column)
+cause_of (fault.BadValue row column) = Some (fault.BadValue row column)
+cause_of (fault.NotText row column) = Some (fault.NotText row column)
+cause_of fault.TooMany = Some fault.TooMany
+cause_of fault.NoMemory = None
 
 -- the rows that a reader gave, as a list
-abbrev pub rows_given : {R : Type 0} → Result (Vec R Global) RowFault → Result (List R) RowFault
-rows_given (Ok rows) = Ok rows.items
-rows_given (Err e) = Err e
+abbrev pub items_of : {R : Type 0} → Vec R Global → List R
+items_of rows = rows.items

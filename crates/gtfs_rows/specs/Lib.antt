@@ -5,3 +5,4 @@ pub mod Files
 pub mod Examples
 pub mod Reading
 pub mod Layout
+pub mod StopTimes

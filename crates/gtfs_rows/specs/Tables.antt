@@ -1,7 +1,8 @@
 -- The columns of the seven files, in the order in which they are judged, and what a row of them is.
 use Rattle.std.specs.Prelude.{ℕ, if◌then◌else◌, List, [], ◌∷◌, ◌++◌, Option, ok_or, Result, Ok, Err}
 use Rattle.std.specs.Str.{is_utf8}
-use Rattle.gtfs_rows.specs.Values.{id_text, any_text, number, or_empty, date, clock_time}
+use Rattle.gtfs_rows.specs.Values.{id_text, any_text, number, or_empty, date}
+use Rattle.text_defs.specs.Times.{time_in}
 use Rattle.gtfs_rows.specs.declared.column.Column.{Column}
 use Rattle.gtfs_rows.specs.declared.column.Column.TheVariants as column
 use Rattle.gtfs_rows.specs.declared.column.Heading.{Heading}
@@ -105,8 +106,8 @@ stop_times =
     (required column.TripId id_text
     ⊕ required column.StopId id_text
     ⊕ required column.StopSequence (number 0 4294967295)
-    ⊕ required column.ArrivalTime (or_empty clock_time)
-    ⊕ required column.DepartureTime (or_empty clock_time)
+    ⊕ required column.ArrivalTime (or_empty time_in)
+    ⊕ required column.DepartureTime (or_empty time_in)
     ⊕ optional column.PickupType (or_empty (number 0 3)))
 
 -- whether a service runs on a weekday

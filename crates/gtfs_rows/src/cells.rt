@@ -3,18 +3,20 @@
 ghost use Rattle.std.specs.Prelude.{◌≡◌, MatchResult, true, false};
 ghost use Rattle.std.specs.Str.{is_utf8};
 ghost use Rattle.csv.specs.Records.{fields_of};
-ghost use Rattle.gtfs_rows.specs.Files.{Answers, field_in, place_of, trimmed_text};
+ghost use Rattle.answer_defs.specs.Defined.{AsDefined};
+ghost use Rattle.gtfs_rows.specs.Files.{cause_of, field_in, place_of, trimmed_text};
 ghost use Rattle.gtfs_rows.specs.Layout.{cells_of, places_in};
 ghost use Rattle.gtfs_rows.specs.Tables.{cell_value, refusal};
-ghost use Rattle.gtfs_rows.specs.Values.{any_text, clock_time, date, id_text, number, or_empty};
+ghost use Rattle.gtfs_rows.specs.Values.{any_text, date, id_text, number, or_empty};
+ghost use Rattle.text_defs.specs.Times.{time_in};
 
-use crate::cell_text::CellText;
 use crate::column::{COLUMNS, Column};
 use crate::fault::RowFault;
-use crate::values::{read_date, read_number, read_time, trim};
+use crate::values::{read_recent_date, trim};
 use csv::ByteRecord;
 use std::alloc::Global;
 use std::str;
+use texts::{ShortText as CellText, read_number, read_time};
 
 // The field at a place, without blanks: empty where there is no place or no field.
 #[tactic(auto, using(crate::proofs::CellLemmas::field_none), unfolding(crate::specs::Files::trimmed_text))]
@@ -110,7 +112,7 @@ impl<'a> Cells<'a> {
     /// A text that isn't empty.
     #[tactic(auto, unfolding(crate::specs::Tables::cell_value))]
     pub(crate) fn id(self, alloc: Global, column: Column) -> Result<CellText, RowFault>
-        ensures { Answers (cell_value id_text self.entry.row column (cells_of self.entry column)) result }
+        ensures { AsDefined (λ x. x) cause_of (cell_value id_text self.entry.row column (cells_of self.entry column)) result }
     {
         let text = self.text_in(column)?;
         if text.is_empty() {
@@ -119,52 +121,52 @@ impl<'a> Cells<'a> {
                 column,
             });
         }
-        CellText::new(alloc, text)
+        Ok(CellText::new(alloc, text)?)
     }
 
     /// Any text.
     #[tactic(auto, unfolding(crate::specs::Tables::cell_value))]
     pub(crate) fn text(self, alloc: Global, column: Column) -> Result<CellText, RowFault>
-        ensures { Answers (cell_value any_text self.entry.row column (cells_of self.entry column)) result }
+        ensures { AsDefined (λ x. x) cause_of (cell_value any_text self.entry.row column (cells_of self.entry column)) result }
     {
         let text = self.text_in(column)?;
-        CellText::new(alloc, text)
+        Ok(CellText::new(alloc, text)?)
     }
 
     /// A number from `low` to `high`.
-    #[tactic(auto, using(crate::proofs::AsciiLemmas::number_text), unfolding(crate::specs::Tables::cell_value))]
+    #[tactic(auto, using(crate::proofs::AsciiLemmas::number_text), unfolding(crate::specs::Tables::cell_value, crate::specs::Values::number))]
     pub(crate) fn number(self, column: Column, low: u32, high: u32) -> Result<u32, RowFault>
-        ensures { Answers (cell_value (number low high) self.entry.row column (cells_of self.entry column)) result }
+        ensures { AsDefined (λ x. x) cause_of (cell_value (number low high) self.entry.row column (cells_of self.entry column)) result }
     {
         let bytes = self.bytes(column);
-        let Some(value) = read_number(bytes, low, high) else {
+        let Some(value) = read_number(bytes, 10, u64::from(low), u64::from(high)) else {
             return Err(self.refused(column, bytes));
         };
-        Ok(value)
+        Ok(value as u32)
     }
 
     /// A number from 0 to `high`, or none.
-    #[tactic(auto, using(crate::proofs::AsciiLemmas::number_text, crate::proofs::AsciiLemmas::empty_text), unfolding(crate::specs::Tables::cell_value))]
+    #[tactic(auto, using(crate::proofs::AsciiLemmas::number_text, crate::proofs::AsciiLemmas::empty_text), unfolding(crate::specs::Tables::cell_value, crate::specs::Values::number))]
     pub(crate) fn optional_number(self, column: Column, high: u32) -> Result<Option<u32>, RowFault>
-        ensures { Answers (cell_value (or_empty (number 0 high)) self.entry.row column (cells_of self.entry column)) result }
+        ensures { AsDefined (λ x. x) cause_of (cell_value (or_empty (number 0 high)) self.entry.row column (cells_of self.entry column)) result }
     {
         let bytes = self.bytes(column);
         if bytes.is_empty() {
             return Ok(None);
         }
-        let Some(value) = read_number(bytes, 0, high) else {
+        let Some(value) = read_number(bytes, 10, 0, u64::from(high)) else {
             return Err(self.refused(column, bytes));
         };
-        Ok(Some(value))
+        Ok(Some(value as u32))
     }
 
     /// A date.
     #[tactic(auto, using(crate::proofs::AsciiLemmas::date_text), unfolding(crate::specs::Tables::cell_value))]
     pub(crate) fn date(self, column: Column) -> Result<u32, RowFault>
-        ensures { Answers (cell_value date self.entry.row column (cells_of self.entry column)) result }
+        ensures { AsDefined (λ x. x) cause_of (cell_value date self.entry.row column (cells_of self.entry column)) result }
     {
         let bytes = self.bytes(column);
-        let Some(value) = read_date(bytes) else {
+        let Some(value) = read_recent_date(bytes) else {
             return Err(self.refused(column, bytes));
         };
         Ok(value)
@@ -173,7 +175,7 @@ impl<'a> Cells<'a> {
     /// A time in seconds, or none.
     #[tactic(auto, using(crate::proofs::AsciiLemmas::time_text, crate::proofs::AsciiLemmas::empty_text), unfolding(crate::specs::Tables::cell_value))]
     pub(crate) fn time(self, column: Column) -> Result<Option<u32>, RowFault>
-        ensures { Answers (cell_value (or_empty clock_time) self.entry.row column (cells_of self.entry column)) result }
+        ensures { AsDefined (λ x. x) cause_of (cell_value (or_empty time_in) self.entry.row column (cells_of self.entry column)) result }
     {
         let bytes = self.bytes(column);
         if bytes.is_empty() {

@@ -2,7 +2,8 @@
 
 ghost use Rattle.std.specs.Prelude.{◌≡◌, IfOk, IfErr};
 ghost use Rattle.csv.specs.Records.{fields_of};
-ghost use Rattle.gtfs_rows.specs.Files.{Answers, first_missing as missing_of, rows_from, rows_given, rows_of};
+ghost use Rattle.answer_defs.specs.Defined.{AsDefined};
+ghost use Rattle.gtfs_rows.specs.Files.{cause_of, items_of, first_missing as missing_of, rows_from, rows_of};
 ghost use Rattle.gtfs_rows.specs.Layout.{cell_at};
 ghost use Rattle.gtfs_rows.specs.Reading.{HeaderIs, IsReading, records_left};
 
@@ -15,13 +16,13 @@ use csv::{ByteRecord, Reader};
 use std::alloc::Global;
 
 /// The number of the first row of data: the header is row 1.
-const FIRST_ROW: u32 = 2;
+pub(crate) const FIRST_ROW: u32 = 2;
 
 /// The number behind that of the last row that a file may have, which has 4,000,000 rows of data.
-const END_ROW: u32 = 4_000_002;
+pub(crate) const END_ROW: u32 = 4_000_002;
 
 // The first column that a file may not do without and that its header lacks.
-fn first_missing(headings: &[Heading], header: &ByteRecord) -> Option<Column>
+pub(crate) fn first_missing(headings: &[Heading], header: &ByteRecord) -> Option<Column>
     ensures { result ≡ missing_of (fields_of header.now) headings.now }
 {
     for heading in headings {
@@ -42,7 +43,7 @@ fn read_data<R: Row>(
     places: &Places,
 ) -> Result<Vec<R>, RowFault>
     requires { IsReading reader.old }
-    ensures { Answers (rows_from R.columns (cell_at places.now) 2 (records_left reader.old)) (rows_given result) }
+    ensures { AsDefined items_of cause_of (rows_from R.columns (cell_at places.now) 2 (records_left reader.old)) result }
 {
     let mut rows = Vec::new(alloc);
     for row in FIRST_ROW..END_ROW {
@@ -54,9 +55,7 @@ fn read_data<R: Row>(
             record: &*record,
             places,
         };
-        if rows.push(R::of_cells(alloc, cells)?).is_err() {
-            return Err(RowFault::NoMemory);
-        }
+        rows.push(R::of_cells(alloc, cells)?)?;
     }
     if records::advance(reader, record)? {
         return Err(RowFault::TooMany);
@@ -65,7 +64,7 @@ fn read_data<R: Row>(
 }
 
 // Reads the header of a file and says whether there is one: a file without records has an empty one.
-fn read_header(reader: &mut Reader<&[u8]>, header: &mut ByteRecord) -> Result<bool, RowFault>
+pub(crate) fn read_header(reader: &mut Reader<&[u8]>, header: &mut ByteRecord) -> Result<bool, RowFault>
     requires { IsReading reader.old }
     ensures ok { IfOk result (λ found. HeaderIs (records_left reader.old) found (fields_of header.new) reader.new) }
     ensures err { IfErr result (λ e. e ≡ RowFault.NoMemory) }
@@ -79,7 +78,7 @@ fn read_header(reader: &mut Reader<&[u8]>, header: &mut ByteRecord) -> Result<bo
 
 /// The rows of a file, or its first fault.
 pub(crate) fn read_rows<R: Row>(alloc: Global, bytes: &[u8]) -> Result<Vec<R>, RowFault>
-    ensures { Answers (rows_of R.columns bytes.now) (rows_given result) }
+    ensures { AsDefined items_of cause_of (rows_of R.columns bytes.now) result }
 {
     let mut reader = records::open(alloc, bytes);
     let mut record = ByteRecord::new(alloc);

@@ -10,32 +10,34 @@
 //! The crate stands on `csv`, which cuts the bytes into records, and on nothing of this repository.
 #![tactic(auto)]
 
-ghost use Rattle.gtfs_rows.specs.Files.{Answers, rows_given, rows_of};
+ghost use Rattle.answer_defs.specs.Defined.{AsDefined};
+ghost use Rattle.gtfs_rows.specs.Files.{cause_of, items_of, rows_of};
 ghost use Rattle.gtfs_rows.specs.Tables.{agency, calendar, exceptions, routes, stop_times, stops, trips};
 
-mod cell_text;
 mod cells;
 mod column;
 mod fault;
 mod file;
 mod records;
 mod rows;
+mod stop_times;
 mod tables;
 mod values;
 
-pub use cell_text::CellText;
 pub use column::Column;
 pub use fault::RowFault;
 use file::read_rows;
 pub use rows::{AgencyRow, CalendarRow, ExceptionRow, RouteRow, StopRow, StopTimeRow, TripRow};
 pub use std::alloc::AllocError as NoMemory;
 use std::alloc::Global;
+pub use stop_times::StopTimes;
+pub use texts::ShortText as CellText;
 
 /// The rows of agency.txt in their order, or the first fault of the file.
 ///
 /// `agency_id` may be absent.
 pub fn read_agencies(alloc: Global, bytes: &[u8]) -> Result<Vec<AgencyRow>, RowFault>
-    ensures { Answers (rows_of agency bytes.now) (rows_given result) }
+    ensures { AsDefined items_of cause_of (rows_of agency bytes.now) result }
 {
     read_rows(alloc, bytes)
 }
@@ -44,7 +46,7 @@ pub fn read_agencies(alloc: Global, bytes: &[u8]) -> Result<Vec<AgencyRow>, RowF
 ///
 /// `stop_id` must be there; `stop_name`, `location_type` and `parent_station` may be absent.
 pub fn read_stops(alloc: Global, bytes: &[u8]) -> Result<Vec<StopRow>, RowFault>
-    ensures { Answers (rows_of stops bytes.now) (rows_given result) }
+    ensures { AsDefined items_of cause_of (rows_of stops bytes.now) result }
 {
     read_rows(alloc, bytes)
 }
@@ -54,7 +56,7 @@ pub fn read_stops(alloc: Global, bytes: &[u8]) -> Result<Vec<StopRow>, RowFault>
 /// `route_id` and `route_type` must be there; `agency_id`, `route_short_name` and `route_long_name` may be
 /// absent.
 pub fn read_routes(alloc: Global, bytes: &[u8]) -> Result<Vec<RouteRow>, RowFault>
-    ensures { Answers (rows_of routes bytes.now) (rows_given result) }
+    ensures { AsDefined items_of cause_of (rows_of routes bytes.now) result }
 {
     read_rows(alloc, bytes)
 }
@@ -63,7 +65,7 @@ pub fn read_routes(alloc: Global, bytes: &[u8]) -> Result<Vec<RouteRow>, RowFaul
 ///
 /// `trip_id`, `route_id` and `service_id` must be there; `trip_headsign` and `direction_id` may be absent.
 pub fn read_trips(alloc: Global, bytes: &[u8]) -> Result<Vec<TripRow>, RowFault>
-    ensures { Answers (rows_of trips bytes.now) (rows_given result) }
+    ensures { AsDefined items_of cause_of (rows_of trips bytes.now) result }
 {
     read_rows(alloc, bytes)
 }
@@ -72,7 +74,7 @@ pub fn read_trips(alloc: Global, bytes: &[u8]) -> Result<Vec<TripRow>, RowFault>
 ///
 /// All columns but `pickup_type` must be there. An empty time is `None`.
 pub fn read_stop_times(alloc: Global, bytes: &[u8]) -> Result<Vec<StopTimeRow>, RowFault>
-    ensures { Answers (rows_of stop_times bytes.now) (rows_given result) }
+    ensures { AsDefined items_of cause_of (rows_of stop_times bytes.now) result }
 {
     read_rows(alloc, bytes)
 }
@@ -81,7 +83,7 @@ pub fn read_stop_times(alloc: Global, bytes: &[u8]) -> Result<Vec<StopTimeRow>, 
 ///
 /// All columns must be there.
 pub fn read_calendar(alloc: Global, bytes: &[u8]) -> Result<Vec<CalendarRow>, RowFault>
-    ensures { Answers (rows_of calendar bytes.now) (rows_given result) }
+    ensures { AsDefined items_of cause_of (rows_of calendar bytes.now) result }
 {
     read_rows(alloc, bytes)
 }
@@ -90,7 +92,7 @@ pub fn read_calendar(alloc: Global, bytes: &[u8]) -> Result<Vec<CalendarRow>, Ro
 ///
 /// All columns must be there.
 pub fn read_exceptions(alloc: Global, bytes: &[u8]) -> Result<Vec<ExceptionRow>, RowFault>
-    ensures { Answers (rows_of exceptions bytes.now) (rows_given result) }
+    ensures { AsDefined items_of cause_of (rows_of exceptions bytes.now) result }
 {
     read_rows(alloc, bytes)
 }

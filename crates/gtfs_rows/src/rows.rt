@@ -4,7 +4,7 @@
 //! both ends, and empty where its column is absent or its field empty; an id other than `agency_id` of
 //! agency.txt and routes.txt is never empty. A number is 1 to 10 decimal digits in the file.
 
-use crate::cell_text::CellText;
+use texts::ShortText as CellText;
 
 /// A row of agency.txt.
 #[derive(Debug, Drop)]

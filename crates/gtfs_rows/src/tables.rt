@@ -1,7 +1,8 @@
 //! The columns of each file, in the order in which they are judged, and how a row is made of its cells.
 
 ghost use Rattle.std.specs.Prelude.{◌≡◌};
-ghost use Rattle.gtfs_rows.specs.Files.{Answers};
+ghost use Rattle.answer_defs.specs.Defined.{AsDefined};
+ghost use Rattle.gtfs_rows.specs.Files.{cause_of};
 ghost use Rattle.gtfs_rows.specs.Layout.{cells_of};
 
 use crate::cells::Cells;
@@ -24,7 +25,7 @@ pub(crate) trait Row: Drop {
 
     /// The row that a record's cells make, or the first fault in the order of the columns.
     fn of_cells(alloc: Global, cells: Cells<'_>) -> Result<Self, RowFault>
-        ensures { Answers (columns.read cells.entry.row (cells_of cells.entry)) result };
+        ensures { AsDefined (λ x. x) cause_of (columns.read cells.entry.row (cells_of cells.entry)) result };
 }
 
 impl Row for AgencyRow {

@@ -40,7 +40,7 @@ loop-row-preserved g c =
     let cells = cell_at c.args.places.now in
     let next = rw c.if-not-branch.false at c.in_ok-advance.ensures.ok in
     let small : c.loop-row.row ≤ 4000001 = omega arith in
-    let items = rw c.if-is_err.ensures.negation at c.push.ensures.items in (
+    let items = c.in_ok-push.ensures.items in (
       next.0,
       c.loop-row.invariant.1 ∙ ap (λ recs. behind c.loop-row.rows.items (rows_from g.R.Row.columns cells c.loop-row.row recs)) next.1
           ∙ rows-next g.R.Row.columns cells c.loop-row.row c.loop-row.rows.items (fields_of c.advance.new.into) (records_left c.advance.new.reader) c.in_ok-of_cells.field-0
