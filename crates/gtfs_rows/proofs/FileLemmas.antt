@@ -6,7 +6,7 @@ use Rattle.std.proofs.lemmas.List.{append-nil, append_assoc}
 use Rattle.answer_defs.specs.Defined.{AsDefined, IsCause}
 use Rattle.answer_defs.specs.Steps.{◌>>=◌}
 use Rattle.gtfs_rows.specs.Names.{all_columns, slot_of}
-use Rattle.gtfs_rows.specs.Tables.{Columns, and_then}
+use Rattle.gtfs_rows.specs.Tables.{Columns}
 use Rattle.gtfs_rows.specs.Files.{cause_of, cell_of, field_in, first_missing, place_of, rows_from, rows_of, rows_of_records, rows_under, trimmed_text, unless_missing}
 use Rattle.gtfs_rows.specs.Layout.{cell_at, places_in}
 use Rattle.gtfs_rows.specs.Reading.{HeaderIs, records_left}
@@ -19,7 +19,7 @@ use Rattle.gtfs_rows.specs.declared.fault.RowFault.TheVariants as fault
 
 -- rows behind others; a fault stays
 abbrev pub behind : {R : Type 0} → List R → Result (List R) RowFault → Result (List R) RowFault
-behind done told = and_then told (λ more. Ok (done ++ more))
+behind done told = ◌>>=◌ told (λ more. Ok (done ++ more))
 
 -- where no record is left
 pub rows-none : {R : Type 0} (columns : Columns R) (cells : List (List ℕ) → Column → List ℕ) (row : ℕ) (done : List R)
@@ -29,7 +29,7 @@ rows-none columns cells row done = ap (λ rows. Ok rows) (append-nil done)
 
 -- a record whose row is read
 behind-next : {R : Type 0} (done : List R) (x : R) (told : Result (List R) RowFault)
-    → behind done (and_then told (λ xs. Ok (x ∷ xs))) ≡ behind (done ++ x ∷ []) told
+    → behind done (◌>>=◌ told (λ xs. Ok (x ∷ xs))) ≡ behind (done ++ x ∷ []) told
 behind-next done x (Ok rows) = ap (λ all. Ok all) (sym (append_assoc done (x ∷ []) rows))
 behind-next done x (Err e) = refl
 

@@ -1,9 +1,11 @@
 -- What the rows of a file are, or its first fault, from the records into which `csv` cuts its bytes.
-use Rattle.std.specs.Prelude.{ℕ, ◌≡◌, Bool, ◌||◌, ◌==◌, nat_le, if◌then◌else◌, bytes_eq, is_none, List, [], ◌∷◌, map, slice_index_or, Option, Some, None, Result, Ok, Err, Vec}
+use Rattle.std.specs.Prelude.{ℕ, Bool, ◌||◌, ◌==◌, nat_le, if◌then◌else◌, bytes_eq, is_none, List, [], ◌∷◌, map, slice_index_or, Option, Some, None, Result, Err, Vec}
 use Rattle.std.specs.List.{position_from, enumerate_from}
+use Rattle.answer_defs.specs.Choices.{or_else}
+use Rattle.answer_defs.specs.Steps.{all_ok}
 use Rattle.csv.specs.Reading.{records, default_config, strip_bom}
 use Rattle.gtfs_rows.specs.Names.{column_name}
-use Rattle.gtfs_rows.specs.Tables.{Columns, and_then}
+use Rattle.gtfs_rows.specs.Tables.{Columns}
 use Rattle.gtfs_rows.specs.declared.column.Column.{Column}
 use Rattle.gtfs_rows.specs.declared.column.Heading.{Heading}
 use Rattle.gtfs_rows.specs.declared.column.Heading.TheVariants.{Required, Optional}
@@ -52,11 +54,6 @@ abbrev pub missing_in : List (List ℕ) → Heading → Option Column
 missing_in header (Required column) = if is_none (place_of header column) then Some column else None
 missing_in header (Optional column) = None
 
--- a value, or else another
-abbrev pub or_else : {A : Type 0} → Option A → Option A → Option A
-or_else None other = other
-or_else (Some x) other = Some x
-
 -- the first column that a header lacks
 abbrev pub first_missing : List (List ℕ) → List Heading → Option Column
 first_missing header [] = None
@@ -69,11 +66,6 @@ last_row = 4000001
 -- what a record of data says, of which the number among all records is given, and the cells
 abbrev pub row_of : {R : Type 0} → Columns R → (List (List ℕ) → Column → List ℕ) → ℕ × List (List ℕ) → Result R RowFault
 row_of columns cells (row, fields) = if nat_le row last_row then columns.read row (cells fields) else Err fault.TooMany
-
--- all values in order, or the first fault
-abbrev pub all_ok : {A : Type 0} → List (Result A RowFault) → Result (List A) RowFault
-all_ok [] = Ok []
-all_ok (r ∷ rs) = and_then r (λ x. and_then (all_ok rs) (λ xs. Ok (x ∷ xs)))
 
 -- the rows of records, the first of which has this number among all records; or the first fault
 unfoldable pub rows_from : {R : Type 0} → Columns R → (List (List ℕ) → Column → List ℕ) → ℕ → List (List (List ℕ)) → Result (List R) RowFault

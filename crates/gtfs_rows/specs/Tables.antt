@@ -1,6 +1,7 @@
 -- The columns of the seven files, in the order in which they are judged, and what a row of them is.
 use Rattle.std.specs.Prelude.{ℕ, if◌then◌else◌, List, [], ◌∷◌, ◌++◌, Option, ok_or, Result, Ok, Err}
 use Rattle.std.specs.Str.{is_utf8}
+use Rattle.answer_defs.specs.Steps.{◌>>=◌}
 use Rattle.gtfs_rows.specs.Values.{id_text, any_text, number, or_empty, date}
 use Rattle.text_defs.specs.Times.{time_in}
 use Rattle.gtfs_rows.specs.declared.column.Column.{Column}
@@ -18,11 +19,6 @@ use Rattle.gtfs_rows.specs.declared.rows.CalendarRow.{CalendarRow}
 use Rattle.gtfs_rows.specs.declared.rows.ExceptionRow.{ExceptionRow}
 
 infixr 30 ◌⊕◌
--- what follows from a value; the first fault stays
-abbrev pub and_then : {A B : Type 0} → Result A RowFault → (A → Result B RowFault) → Result B RowFault
-and_then (Ok x) f = f x
-and_then (Err e) f = Err e
-
 -- columns side by side: their headings, and what they say in a row, of which the cell of each column is given
 pub record Columns (V : Type 0) : Type 0 where
   pub headings : List Heading
@@ -52,14 +48,14 @@ optional column form = one_column (Optional column) column form
 abbrev pub ◌⊕◌ : {A B : Type 0} → Columns A → Columns B → Columns (A × B)
 a ⊕ b = record {
   headings = a.headings ++ b.headings;
-  read = λ row cells. and_then (a.read row cells) (λ x. and_then (b.read row cells) (λ y. Ok (x, y)));
+  read = λ row cells. a.read row cells >>= λ x. b.read row cells >>= λ y. Ok (x, y);
 }
 
 -- the columns of a file, with the row that their values make
 abbrev pub table : {A R : Type 0} → (A → R) → Columns A → Columns R
 table make columns = record {
   headings = columns.headings;
-  read = λ row cells. and_then (columns.read row cells) (λ values. Ok (make values));
+  read = λ row cells. columns.read row cells >>= λ values. Ok (make values);
 }
 
 -- the columns of agency.txt

@@ -64,7 +64,10 @@ fn read_data<R: Row>(
 }
 
 // Reads the header of a file and says whether there is one: a file without records has an empty one.
-pub(crate) fn read_header(reader: &mut Reader<&[u8]>, header: &mut ByteRecord) -> Result<bool, RowFault>
+pub(crate) fn read_header(
+    reader: &mut Reader<&[u8]>,
+    header: &mut ByteRecord,
+) -> Result<bool, RowFault>
     requires { IsReading reader.old }
     ensures ok { IfOk result (λ found. HeaderIs (records_left reader.old) found (fields_of header.new) reader.new) }
     ensures err { IfErr result (λ e. e ≡ RowFault.NoMemory) }

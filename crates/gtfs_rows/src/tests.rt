@@ -128,7 +128,8 @@ fn tells_the_row_past_the_limit(rt: HostRuntime) -> Result<(), Fail> {
 
 #[test]
 fn gives_stop_times_one_by_one(rt: HostRuntime) -> Result<(), Fail> {
-    let bytes = b"trip_id,stop_id,stop_sequence,arrival_time,departure_time\nT1,S1,1,8:00:00,\nT1,,2,,\n";
+    let bytes =
+        b"trip_id,stop_id,stop_sequence,arrival_time,departure_time\nT1,S1,1,8:00:00,\nT1,,2,,\n";
     let mut rows = StopTimes::open(rt.alloc(), bytes)?;
     let first = rows.next(rt.alloc())?;
     assert_eq!(rt; first.map_or(0, |row| row.stop_sequence), 1);

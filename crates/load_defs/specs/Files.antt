@@ -8,17 +8,6 @@ use Rattle.load_defs.specs.declared.fault.File.TheVariants as file
 use Rattle.load_defs.specs.declared.fault.LoadFault.{LoadFault}
 use Rattle.load_defs.specs.declared.fault.LoadFault.TheVariants as fault
 
-infixl 10 ◌>>=◌
--- what follows from a value; the first fault stays
-abbrev pub ◌>>=◌ : {A B : Type 0} → Result A LoadFault → (A → Result B LoadFault) → Result B LoadFault
-(Ok x) >>= f = f x
-(Err e) >>= f = Err e
-
--- a value, unless there is a fault
-abbrev pub unless : {A : Type 0} → Option LoadFault → A → Result A LoadFault
-unless None x = Ok x
-unless (Some e) x = Err e
-
 -- the name of a file (GTFS Schedule, "Dataset Files")
 abbrev pub file_name : File → List ℕ
 file_name file.Agency = codes "agency.txt"

@@ -1,6 +1,7 @@
 -- The timetable of a folder of files, or the first fault of these.
 use Rattle.std.specs.Prelude.{ℕ, if◌then◌else◌, List, Option, Some, None, ok_or, Result, Ok}
 use Rattle.std.specs.List.{enumerate_from}
+use Rattle.answer_defs.specs.Steps.{◌>>=◌, unless}
 use Rattle.gtfs_rows.specs.Tables.{agency, stops, routes, trips, stop_times, calendar, exceptions}
 use Rattle.gtfs_rows.specs.declared.rows.TripRow.{TripRow}
 use Rattle.hub_outside.specs.Files.{file_at}
@@ -10,7 +11,7 @@ use Rattle.load_defs.specs.declared.conf.PlanConf.{PlanConf}
 use Rattle.load_defs.specs.declared.fault.File.TheVariants as file
 use Rattle.load_defs.specs.declared.fault.LoadFault.{LoadFault}
 use Rattle.load_defs.specs.declared.fault.LoadFault.TheVariants as fault
-use Rattle.load_defs.specs.Files.{◌>>=◌, unless, path_of, required_rows, optional_rows}
+use Rattle.load_defs.specs.Files.{path_of, required_rows, optional_rows}
 use Rattle.load_defs.specs.References.{first_fault, row_at, consistent_agencies, consistent_stops, consistent_routes, consistent_trips, consistent_stop_times, consistent_calendar, consistent_exceptions}
 use Rattle.load_defs.specs.Times.{are_times}
 use Rattle.load_defs.specs.Numbers.{Dataset, stop_times_of, given_times, timetable_of}

@@ -2,7 +2,8 @@
 -- judged by this once all its rows could be read (GTFS Schedule, "Field Types", Foreign ID and Unique ID).
 use Rattle.std.specs.Prelude.{ℕ, ◌+◌, Bool, ◌&&◌, ◌||◌, ◌==◌, bytes_eq, if◌then◌else◌, List, [], ◌∷◌, take, Option, Some, None, option_map, Result}
 use Rattle.std.specs.List.{list_any, enumerate_from}
-use Rattle.gtfs_rows.specs.Files.{or_else}
+use Rattle.answer_defs.specs.Steps.{◌>>=◌, unless}
+use Rattle.answer_defs.specs.Choices.{or_else}
 use Rattle.gtfs_rows.specs.declared.column.Column.{Column}
 use Rattle.gtfs_rows.specs.declared.column.Column.TheVariants as column
 use Rattle.gtfs_rows.specs.declared.rows.AgencyRow.{AgencyRow}
@@ -16,7 +17,6 @@ use Rattle.load_defs.specs.declared.fault.File.{File}
 use Rattle.load_defs.specs.declared.fault.File.TheVariants as file
 use Rattle.load_defs.specs.declared.fault.LoadFault.{LoadFault}
 use Rattle.load_defs.specs.declared.fault.LoadFault.TheVariants as fault
-use Rattle.load_defs.specs.Files.{◌>>=◌, unless}
 
 -- the first fault that an item of a list has, if any has one
 abbrev pub first_fault : {X : Type 0} → (X → Option LoadFault) → List X → Option LoadFault

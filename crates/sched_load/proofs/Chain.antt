@@ -1,11 +1,11 @@
 -- Steps that may fail, one after another.
 use Rattle.std.proofs.Common.{◌≡◌, ℕ, ◌+◌, ◌≤◌, List, refl, sym, ap, ◌∙◌, subst, arith}
 use Rattle.std.specs.Prelude.{Option, Some, None, IfSome, Result, Ok, Err, IsErrAnd, ⊤}
+use Rattle.answer_defs.specs.Steps.{◌>>=◌}
 use Rattle.gtfs_rows.specs.declared.fault.RowFault.TheVariants as rows
 use Rattle.hub_outside.specs.Count.{Rose}
 use Rattle.load_defs.specs.declared.fault.LoadFault.{LoadFault}
 use Rattle.load_defs.specs.declared.fault.LoadFault.TheVariants as fault
-use Rattle.load_defs.specs.Files.{◌>>=◌}
 use Rattle.load_defs.specs.declared.conf.PlanConf.{PlanConf}
 use Rattle.load_defs.specs.Loading.{dataset_in, timetable, with_times, zone_of}
 use Rattle.load_defs.specs.Numbers.{Dataset, timetable_of}

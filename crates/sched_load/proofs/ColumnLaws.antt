@@ -3,7 +3,8 @@ use Rattle.std.proofs.Common.{◌≡◌, ℕ, ◌≤◌, Bool, true, false, ◌&
 use Rattle.std.specs.Prelude.{Option, Some, None, ok_or, option_and_then, option_map, Result, Ok, Err, if◌then◌else◌}
 use Rattle.std.specs.Str.{is_utf8}
 use Rattle.std.proofs.lemmas.Bool.Decides.{nat_tests}
-use Rattle.gtfs_rows.specs.Tables.{Columns, and_then, ◌⊕◌, table, cell_value, required, optional, weekday, exceptions, calendar, routes, trips, stop_times}
+use Rattle.answer_defs.specs.Steps.{◌>>=◌}
+use Rattle.gtfs_rows.specs.Tables.{Columns, ◌⊕◌, table, cell_value, required, optional, weekday, exceptions, calendar, routes, trips, stop_times}
 use Rattle.gtfs_rows.specs.Values.{id_text, any_text, number, or_empty, within, digits, date, clock_time}
 use Rattle.gtfs_rows.specs.declared.column.Column.{Column}
 use Rattle.gtfs_rows.specs.declared.column.Column.TheVariants as column
@@ -19,7 +20,7 @@ use Rattle.sched_load.proofs.Laws.{AreWithin, and_then_ok}
 
 both_within : {A B : Type 0} (a : Columns A) (b : Columns B) (P : A → Type 0) (Q : B → Type 0) → AreWithin a P → AreWithin b Q → AreWithin (a ⊕ b) (λ v. P v.0 × Q v.1)
 both_within {A = A} {B = B} a b P Q p q row cells (x, y) e =
-    and_then_ok (a.read row cells) (λ u. and_then (b.read row cells) (λ v. Ok (u, v))) (x, y) e
+    and_then_ok (a.read row cells) (λ u. ◌>>=◌ (b.read row cells) (λ v. Ok (u, v))) (x, y) e
     (λ u first rest. and_then_ok (b.read row cells) (λ v. Ok (u, v)) (x, y) rest
     (λ v second last. let pair : (u, v) ≡ (x, y) = cc in (subst P (ap (λ (w : A × B). w.0) pair) (p row cells u first), subst Q (ap (λ (w : A × B). w.1) pair) (q row cells v second))))
 

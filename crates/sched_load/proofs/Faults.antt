@@ -3,12 +3,12 @@ use Rattle.std.proofs.Common.{◌≡◌, ℕ, zero, suc, ◌+◌, ◌<◌, ◌�
 use Rattle.std.specs.Prelude.{slice_get, Option, Some, None, Result, Ok, Err, if◌then◌else◌, option_map}
 use Rattle.std.specs.List.{list_any, enumerate_from}
 use Rattle.std.proofs.lemmas.Option.{none-some as none_some, same_Some}
-use Rattle.gtfs_rows.specs.Files.{or_else}
+use Rattle.answer_defs.specs.Steps.{unless}
+use Rattle.answer_defs.specs.Choices.{or_else}
 use Rattle.gtfs_rows.specs.declared.column.Column.{Column}
 use Rattle.load_defs.specs.declared.fault.File.{File}
 use Rattle.load_defs.specs.declared.fault.LoadFault.{LoadFault}
 use Rattle.load_defs.specs.declared.fault.LoadFault.TheVariants as fault
-use Rattle.load_defs.specs.Files.{unless}
 use Rattle.load_defs.specs.References.{first_fault, row_fault, row_at, consistent}
 
 -- a list from a place on begins with what stands there

@@ -4,9 +4,10 @@ use Rattle.std.specs.Prelude.{Option, Some, None, Result, Ok, Err, slice_get, if
 use Rattle.std.specs.List.{enumerate_from}
 use Rattle.std.proofs.lemmas.Bool.Decides.{nat_tests}
 use Rattle.std.proofs.lemmas.Option.{none-some as none_some, same_Some}
+use Rattle.answer_defs.specs.Steps.{all_ok, ◌>>=◌}
 use Rattle.csv.specs.Reading.{records, default_config, strip_bom}
-use Rattle.gtfs_rows.specs.Files.{rows_of, rows_of_records, rows_under, rows_from, row_of, all_ok, unless_missing, first_missing, cell_of}
-use Rattle.gtfs_rows.specs.Tables.{Columns, and_then, ◌⊕◌, table, cell_value, one_column}
+use Rattle.gtfs_rows.specs.Files.{rows_of, rows_of_records, rows_under, rows_from, row_of, unless_missing, first_missing, cell_of}
+use Rattle.gtfs_rows.specs.Tables.{Columns, ◌⊕◌, table, cell_value, one_column}
 use Rattle.gtfs_rows.specs.declared.column.Column.{Column}
 use Rattle.gtfs_rows.specs.declared.fault.RowFault.{RowFault}
 use Rattle.gtfs_rows.specs.declared.fault.RowFault.TheVariants as fault
@@ -17,7 +18,7 @@ use Rattle.load_defs.specs.Files.{of_file, longest_file}
 use Rattle.sched_load.specs.Listed.{file_rows, most_rows}
 
 -- what a chain gave, its parts gave
-pub and_then_ok : {A B C : Type 0} (r : Result A RowFault) (f : A → Result B RowFault) (y : B) → and_then r f ≡ Ok y → ((x : A) → r ≡ Ok x → f x ≡ Ok y → C) → C
+pub and_then_ok : {A B C : Type 0} (r : Result A RowFault) (f : A → Result B RowFault) (y : B) → ◌>>=◌ r f ≡ Ok y → ((x : A) → r ≡ Ok x → f x ≡ Ok y → C) → C
 and_then_ok (Ok x) f y e k = k x refl e
 and_then_ok (Err e) f y h k = absurd cc
 
@@ -33,7 +34,7 @@ module _ {R : Type 0} (columns : Columns R) (P : R → Type 0) (within : AreWith
   few_from : (row : ℕ) (recs : List (List (List ℕ))) (xs : List R) → all_ok (map (row_of columns cells) (enumerate_from row recs)) ≡ Ok xs → row ≤ 4000002 → length xs + row ≤ 4000002
   few_from row [] xs e h = let none : [] ≡ xs = cc in let long : length xs ≡ 0 = ap length (sym none) in omega (arith, long, h)
   few_from row (fields ∷ recs) xs e h =
-      and_then_ok (row_of columns cells (row, fields)) (λ x. and_then (all_ok (map (row_of columns cells) (enumerate_from (row + 1) recs))) (λ ys. Ok (x ∷ ys))) xs e
+      and_then_ok (row_of columns cells (row, fields)) (λ x. ◌>>=◌ (all_ok (map (row_of columns cells) (enumerate_from (row + 1) recs))) (λ ys. Ok (x ∷ ys))) xs e
       (λ x first rest. and_then_ok (all_ok (map (row_of columns cells) (enumerate_from (row + 1) recs))) (λ ys. Ok (x ∷ ys)) xs rest
       (λ ys more last.
       let small = (row_small row fields x (nat_le row 4000001) refl first).0 in
@@ -44,7 +45,7 @@ module _ {R : Type 0} (columns : Columns R) (P : R → Type 0) (within : AreWith
   each_from : (row : ℕ) (recs : List (List (List ℕ))) (xs : List R) → all_ok (map (row_of columns cells) (enumerate_from row recs)) ≡ Ok xs → (i : ℕ) (x : R) → slice_get xs i ≡ Some x → P x
   each_from row [] xs e i x at = let none : [] ≡ xs = cc in absurd (none_some x (ap (λ ys. slice_get ys i) none ∙ at))
   each_from row (fields ∷ recs) xs e i x at =
-      and_then_ok (row_of columns cells (row, fields)) (λ y. and_then (all_ok (map (row_of columns cells) (enumerate_from (row + 1) recs))) (λ ys. Ok (y ∷ ys))) xs e
+      and_then_ok (row_of columns cells (row, fields)) (λ y. ◌>>=◌ (all_ok (map (row_of columns cells) (enumerate_from (row + 1) recs))) (λ ys. Ok (y ∷ ys))) xs e
       (λ y first rest. and_then_ok (all_ok (map (row_of columns cells) (enumerate_from (row + 1) recs))) (λ ys. Ok (y ∷ ys)) xs rest
       (λ ys more last.
       let is : y ∷ ys ≡ xs = cc in

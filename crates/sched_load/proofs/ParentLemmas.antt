@@ -1,11 +1,11 @@
 -- The stops whose parent_station is a stop, one after another.
 use Rattle.std.proofs.Common.{◌≡◌, ℕ, ◌+◌, ◌≤◌, Bool, true, false, not, ◌&&◌, ◌||◌, List, [], length, refl, sym, ap, ◌∙◌}
 use Rattle.std.specs.Prelude.{slice_get, Option, Some, None, bytes_eq, Result, Err, Ok, if◌then◌else◌}
+use Rattle.answer_defs.specs.Steps.{unless}
 use Rattle.gtfs_rows.specs.declared.column.Column.TheVariants as column
 use Rattle.gtfs_rows.specs.declared.rows.StopRow.{StopRow}
 use Rattle.load_defs.specs.declared.fault.File.TheVariants as file
 use Rattle.load_defs.specs.declared.fault.LoadFault.TheVariants as fault
-use Rattle.load_defs.specs.Files.{unless}
 use Rattle.load_defs.specs.References.{parent_fault, with_parents, has_id, row_at}
 use Rattle.sched_load.proofs.Faults.{faults_from, fault_at, fault_behind, no_fault}
 

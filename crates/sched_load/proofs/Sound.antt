@@ -13,7 +13,6 @@ use Rattle.std.proofs.lemmas.Cmp.{nat_cmp_total}
 use Rattle.std.proofs.lemmas.List.{length-map, length-append}
 use Rattle.std.proofs.lemmas.List.FromFn.{length-map-range_with_len}
 use Rattle.std.proofs.lemmas.Option.{none-some as none_some, same_Some, slice_get-map, slice_get_within}
-use Rattle.gtfs_rows.specs.Files.{or_else}
 use Rattle.gtfs_rows.specs.Tables.{agency, stops, routes, trips, stop_times, calendar, exceptions}
 use Rattle.gtfs_rows.specs.declared.column.Column.{Column}
 use Rattle.gtfs_rows.specs.declared.column.Column.TheVariants as column
@@ -31,7 +30,6 @@ use Rattle.load_defs.specs.declared.fault.File.{File}
 use Rattle.load_defs.specs.declared.fault.File.TheVariants as file
 use Rattle.load_defs.specs.declared.fault.LoadFault.{LoadFault}
 use Rattle.load_defs.specs.declared.fault.LoadFault.TheVariants as fault
-use Rattle.load_defs.specs.Files.{unless}
 use Rattle.load_defs.specs.Loading.{times_fault, with_times}
 use Rattle.load_defs.specs.References.{consistent, first_fault, has_id, row_fault, unless_known, unknown_in_trip, unknown_in_stop_time}
 use Rattle.load_defs.specs.Numbers.{Dataset, agency_ids, agency_of, by_id, given_times, rows_with_keys, known_number, rows_by_key, timetable_of, place_of, places_with, route_of, route_rows, service_ids, stop_of, stop_rows, stop_times_of, trip_of, trip_rows}
@@ -47,6 +45,8 @@ use Rattle.sched_load.proofs.Laws.{file_few, file_within}
 use Rattle.sched_load.proofs.Numbered.{has_by_number, ids_rise}
 use Rattle.sched_load.proofs.ServiceLemmas.{some_of}
 use Rattle.std.proofs.lemmas.Map.Text.{is_eq-slice_cmp}
+use Rattle.answer_defs.specs.Steps.{unless}
+use Rattle.answer_defs.specs.Choices.{or_else}
 use Rattle.sched_load.proofs.Grouping.{text_from, text_itself}
 use Rattle.sched_load.proofs.ServiceLemmas.{any_at}
 use Rattle.sched_load.proofs.Places.{true_false}

@@ -5,13 +5,13 @@ use Rattle.std.specs.Ordering.{nat_cmp}
 use Rattle.std.specs.declared.alloc.Global.{Global}
 use Rattle.std.specs.declared.collections.BTreeMap.{BTreeMap}
 use Rattle.std.proofs.lemmas.Option.{none-some as none_some, same_Some, slice_get-map}
+use Rattle.answer_defs.specs.Steps.{unless}
 use Rattle.gtfs_rows.specs.declared.rows.StopRow.{StopRow}
 use Rattle.gtfs_rows.specs.declared.rows.TripRow.{TripRow}
 use Rattle.gtfs_rows.specs.declared.rows.StopTimeRow.{StopTimeRow}
 use Rattle.sched_types.specs.Timetable.{number_of}
 use Rattle.sched_types.proofs.TimetableLaws.{number_leads}
 use Rattle.load_defs.specs.declared.fault.LoadFault.TheVariants as fault
-use Rattle.load_defs.specs.Files.{unless}
 use Rattle.load_defs.specs.Loading.{times_fault, with_times}
 use Rattle.load_defs.specs.Numbers.{Dataset, by_id, given_times, rows_with_keys, rows_by_key, stop_times_of}
 use Rattle.load_defs.specs.References.{row_at}

@@ -2,7 +2,7 @@
 use Rattle.std.proofs.Common.{◌≡◌, ℕ, zero, suc, ◌+◌, ◌<◌, ◌≤◌, Bool, true, false, not, ◌&&◌, List, [], ◌∷◌, length, map, take, nat_eq, refl, sym, ap, ◌∙◌, subst, arith}
 use Rattle.std.specs.Prelude.{slice_get, Option, Some, None, is_some, unwrap_or, bytes_eq, Result, Err, Ok}
 use Rattle.std.specs.List.{list_any, range_with_len}
-use Rattle.gtfs_rows.specs.Files.{or_else}
+use Rattle.answer_defs.specs.Choices.{or_else}
 use Rattle.gtfs_rows.specs.declared.column.Column.{Column}
 use Rattle.gtfs_rows.specs.declared.column.Column.TheVariants as column
 use Rattle.gtfs_rows.specs.declared.rows.StopRow.{StopRow}

@@ -1,6 +1,7 @@
 -- The seven files of a folder, one after another.
 use Rattle.std.proofs.Common.{◌≡◌, ℕ, List, true, false, refl}
 use Rattle.std.specs.Prelude.{Option, Result, Ok, Err}
+use Rattle.answer_defs.specs.Steps.{◌>>=◌}
 use Rattle.hub_outside.specs.Files.{file_at}
 use Rattle.gtfs_rows.specs.Tables.{agency, stops, routes, trips, stop_times, calendar, exceptions}
 use Rattle.gtfs_rows.specs.declared.rows.AgencyRow.{AgencyRow}
@@ -12,7 +13,7 @@ use Rattle.gtfs_rows.specs.declared.rows.CalendarRow.{CalendarRow}
 use Rattle.gtfs_rows.specs.declared.rows.ExceptionRow.{ExceptionRow}
 use Rattle.load_defs.specs.declared.fault.File.TheVariants as file
 use Rattle.load_defs.specs.declared.fault.LoadFault.{LoadFault}
-use Rattle.load_defs.specs.Files.{◌>>=◌, path_of}
+use Rattle.load_defs.specs.Files.{path_of}
 use Rattle.load_defs.specs.Numbers.{Dataset}
 use Rattle.load_defs.specs.Loading.{dataset_in}
 use Rattle.load_defs.specs.References.{consistent_agencies, consistent_stops, consistent_routes, consistent_trips, consistent_stop_times, consistent_calendar, consistent_exceptions}

@@ -1,5 +1,5 @@
 use Rattle.std.proofs.Common.{◌≡◌, Ok, refl}
-use Rattle.load_defs.specs.Files.{◌>>=◌}
+use Rattle.answer_defs.specs.Steps.{◌>>=◌}
 use Rattle.load_defs.specs.Loading.{dataset_in, timetable, with_times, zone_of}
 use Rattle.load_defs.specs.Numbers.{timetable_of}
 use Rattle.sched_load.specs.Answer.{Reads}

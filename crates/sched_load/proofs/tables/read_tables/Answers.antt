@@ -1,5 +1,6 @@
 use Rattle.std.proofs.Common.{◌≡◌, ◌≤◌, ℕ, ◌∙◌, ◌++◌, [], map, refl, subst, sym}
 use Rattle.std.specs.Prelude.{slice_get, Some, false}
+use Rattle.answer_defs.specs.Steps.{◌>>=◌}
 use Rattle.gtfs_rows.specs.Tables.{exceptions}
 use Rattle.sched_types.specs.Timetable.{RisesById, number_of}
 use Rattle.load_defs.specs.declared.fault.File.TheVariants as file
@@ -7,7 +8,6 @@ use Rattle.sched_load.proofs.ColumnLaws.{exception_types}
 use Rattle.sched_load.proofs.Laws.{file_within}
 use Rattle.sched_load.proofs.Numbered.{ids_rise}
 use Rattle.sched_load.proofs.ServiceLemmas.{known_service}
-use Rattle.load_defs.specs.Files.{◌>>=◌}
 use Rattle.load_defs.specs.Loading.{dataset_in}
 use Rattle.load_defs.specs.References.{consistent_stop_times, consistent_exceptions}
 use Rattle.sched_load.proofs.Chain.{dataset_passed, no_memory, step_alone, step_done, step_fails, step_value, told_same}

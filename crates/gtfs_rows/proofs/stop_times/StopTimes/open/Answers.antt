@@ -1,4 +1,4 @@
-use Rattle.std.proofs.Common.{◌≡◌, ◌∙◌, ap, sym, Some, None, true, false}
+use Rattle.std.proofs.Common.{◌∙◌, ap, sym}
 use Rattle.csv.specs.Records.{fields_of}
 use Rattle.gtfs_rows.specs.Files.{rows_from}
 use Rattle.gtfs_rows.specs.Files.{first_missing as missing_of}
