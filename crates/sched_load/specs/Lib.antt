@@ -1,6 +1,7 @@
 pub mod Answer
 pub mod Listed
 pub mod Groups
+pub mod Visits
 pub mod Services
 pub mod Parents
 pub mod Course
