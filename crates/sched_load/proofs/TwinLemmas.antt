@@ -78,7 +78,7 @@ ends_more ends visits n trips visit h at within low = record {
 pub ends_all : (ends : List ℕ) (visits : List Visit) (n trips : ℕ) → AreEnds ends visits n trips → length visits ≤ n → RisesByTrip visits
 ends_all ends visits n trips h long = record { at = λ i j v w l a b. h.rising i j v w l (let within = slice_get_within visits j w b in omega (arith, within, long)) a b }
 
-any_on : {X : Type 0} (p q : X → Bool) (n : ℕ) (xs : List X) → ((k : ℕ) (x : X) → k < n → slice_get xs k ≡ Some x → p x ≡ q x) → list_any p (take n xs) ≡ list_any q (take n xs)
+pub any_on : {X : Type 0} (p q : X → Bool) (n : ℕ) (xs : List X) → ((k : ℕ) (x : X) → k < n → slice_get xs k ≡ Some x → p x ≡ q x) → list_any p (take n xs) ≡ list_any q (take n xs)
 any_on p q zero xs h = refl
 any_on p q (suc n) [] h = refl
 any_on p q (suc n) (x ∷ xs) h = ap (λ b. b || list_any p (take n xs)) (h 0 x (omega arith) refl) ∙ ap (λ b. q x || b) (any_on p q n xs (λ k y l. h (suc k) y (omega (arith, l))))

@@ -1,8 +1,9 @@
 //! The stop times of all trips, trip by trip.
 
-ghost use Rattle.std.specs.Prelude.{◌≡◌, ◌≤◌, ◌<◌, ◌==◌, ℕ, length, map, filter, slice_get, Some, IfOk, IfSome, OnOk};
+ghost use Rattle.std.specs.Prelude.{◌≡◌, ◌≤◌, ◌<◌, ◌==◌, List, length, filter, IfOk, IfSome, OnOk};
 ghost use Rattle.std.specs.Bool.{OnTrue};
 ghost use Rattle.std.specs.List.Sorted.{IsNonDecreasingBy};
+ghost use Rattle.sched_load.specs.Gathering.{BelowAll};
 ghost use Rattle.sched_load.specs.Listed.{most_rows};
 ghost use Rattle.sched_load.specs.Visits.{AreApart, AreArranged, AreGathered, Arranges, FirstTwin, IsSortedStably, IsSortedUnless, RisesByTrip, key_of};
 ghost use Rattle.sched_load.specs.declared.visits.Visit.{Visit};
@@ -71,7 +72,7 @@ fn first_twin(alloc: Global, visits: &[Visit]) -> Result<Option<usize>, AllocErr
 
 // Whether the visits of each trip stand by rising stop_sequence, as they do in most files.
 fn rises(alloc: Global, visits: &[Visit], trips: usize) -> Result<bool, AllocError>
-    requires { (i : ℕ) (v : Visit) → slice_get visits.now i ≡ Some v → v.trip < trips }
+    requires { BelowAll trips visits.now }
     ensures { IfOk result (λ rises. OnTrue rises (RisesByTrip visits.now)) }
 {
     let mut ends = vec![in alloc; 0u64; trips]?;
@@ -129,7 +130,8 @@ fn sort(visits: &mut Vec<Visit>, is_rising: bool) -> Result<(), AllocError>
     ensures { OnOk result (AreArranged visits.old.items visits.new.items) }
 {
     sort_unless(visits, is_rising)?;
-    by_trip(visits)
+    by_trip(visits)?;
+    Ok(())
 }
 
 /// The visits trip by trip, those of a trip by rising stop_sequence; or the first row that refers to nothing
@@ -139,7 +141,7 @@ pub(crate) fn arrange(
     gathered: Gathered,
     trips: usize,
 ) -> Result<Vec<Visit>, LoadFault>
-    requires below { (i : ℕ) (v : Visit) → slice_get gathered.visits.items i ≡ Some v → v.trip < trips }
+    requires below { BelowAll trips gathered.visits.items }
     requires few { length gathered.visits.items ≤ most_rows }
     requires room { IfSome gathered.unknown (λ _. length gathered.visits.items < most_rows) }
     ensures { (ts : List TripRow) (ss : List StopRow) (rows : List StopTimeRow) → AreGathered ts ss rows gathered.visits.items gathered.unknown → Arranges ts ss rows result }

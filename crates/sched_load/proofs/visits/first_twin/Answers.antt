@@ -1,11 +1,11 @@
-use Rattle.std.proofs.Common.{rules, ◌≡◌, ◌+◌, ◌<◌, get_or, arith, add-one, subst, sym}
+use Rattle.std.proofs.Common.{rules, None, ◌≡◌, ◌+◌, ◌<◌, get_or, arith, add-one, subst, sym}
 use Rattle.std.proofs.lemmas.Option.{slice_get-get_or}
 use Rattle.sched_load.specs.declared.visits.Visit.{Visit}
 use Rattle.sched_load.proofs.TwinLemmas.{AreSeen, key_found, key_put, seen_more, seen_twin, visit_key}
 use Rattle.sched_load.proofs.visits.first_twin.Goals as goal
 
-pub returns-then-is_some : goal.returns-then-is_some
-returns-then-is_some c =
+pub returns-then-is_some-clause-value : goal.returns-then-is_some-clause-value
+returns-then-is_some-clause-value c =
     let none : Visit = record { trip = 0; stop = 0; sequence = 0; stay = None; pickup = 0 } in
     let visits = c.args.visits.now in
     let visit = get_or visits c.loop-place.place none in
