@@ -1,10 +1,10 @@
 -- The rows of stop_times.txt as visits, and the first fault of these.
 use Rattle.std.proofs.Common.{◌≡◌, ℕ, zero, suc, ◌+◌, ◌<◌, ◌≤◌, Bool, true, false, not, ◌&&◌, ◌||◌, ◌==◌, List, [], ◌∷◌, length, map, take, filter, cond, nat_eq, refl, sym, ap, ◌∙◌, subst, arith}
-use Rattle.std.specs.Prelude.{slice_get, Option, Some, None, is_some, unwrap_or, bytes_eq, Result, Err, Ok, option_map}
+use Rattle.std.specs.Prelude.{slice_get, Option, Some, None, is_some, unwrap_or, bytes_eq, Result, Err, Ok, option_map, IfSome}
 use Rattle.std.specs.List.{list_any, range_with_len}
 use Rattle.std.specs.Ordering.{nat_cmp}
 use Rattle.std.proofs.lemmas.Bool.Decides.{nat_tests}
-use Rattle.std.proofs.lemmas.List.{take-map}
+use Rattle.std.proofs.lemmas.List.{length-map, take-map}
 use Rattle.std.proofs.lemmas.Option.{none-some as none_some, same_Some, slice_get-map, slice_get_within}
 use Rattle.answer_defs.specs.Choices.{or_else}
 use Rattle.gtfs_rows.specs.declared.column.Column.{Column}
@@ -214,3 +214,19 @@ module _ (trips : List TripRow) (stops : List StopRow) where
           let t = trip_known r (h 0 r refl) in
           ap (λ b. cond b (r ∷ filter (λ s. (visit_of trips stops s).trip == n) rs) (filter (λ s. (visit_of trips stops s).trip == n) rs)) (ap (λ m. m == n) (numbered r.trip_id t.0 t.1) ∙ same_number r.trip_id id t.0 n t.1 number)
           ∙ ap (λ ss. cond (bytes_eq r.trip_id id) (r ∷ ss) ss) (own_same rs (λ i s. h (suc i) s))
+
+taken_short : {X : Type 0} (n : ℕ) (xs : List X) → length (take n xs) ≤ length xs
+taken_short zero xs = omega arith
+taken_short (suc n) [] = omega arith
+taken_short (suc n) (x ∷ xs) = let h = taken_short n xs in omega (arith, h)
+
+-- no more visits are gathered than there are rows, and fewer where a row refers to nothing
+pub gathered_few : (trips : List TripRow) (stops : List StopRow) (rows : List StopTimeRow) (visits : List Visit) (unknown : Option Column) → AreGathered trips stops rows visits unknown → length visits ≤ length rows
+gathered_few trips stops rows visits unknown g =
+    let long : length visits ≡ length (take (length visits) rows) = ap length g.visits_of ∙ length-map (take (length visits) rows) (visit_of trips stops) in
+    let short = taken_short (length visits) rows in
+    omega (arith, long, short)
+
+pub gathered_room : (trips : List TripRow) (stops : List StopRow) (rows : List StopTimeRow) (visits : List Visit) (unknown : Option Column) (most : ℕ) → AreGathered trips stops rows visits unknown → length rows ≤ most → IfSome unknown (λ _. length visits < most)
+gathered_room trips stops rows visits None most g h = tt
+gathered_room trips stops rows visits (Some c) most g h = let within = slice_get_within rows (length visits) (g.end).0 (g.end).1 in omega (arith, within, h)

@@ -121,7 +121,8 @@ fn arranged_visits<F: Files>(
     ensures same { F.contents files.new ≡ F.contents files.old }
 {
     let gathered = read_visits(alloc, files, folder, trips, stops)?;
-    arrange(alloc, gathered, trips.len())
+    let visits = arrange(alloc, gathered, trips.len())?;
+    Ok(visits)
 }
 
 /// The rows of the seven files of the folder, or the first fault, file by file.

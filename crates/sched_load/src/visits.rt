@@ -160,7 +160,7 @@ pub(crate) fn arrange(
     if let Some(column) = unknown {
         return Err(LoadFault::UnknownRef {
             file: File::StopTimes,
-            row: row_number(visits.len()),
+            row: row_number(visits.as_slice().len()),
             column,
         });
     }

@@ -11,7 +11,7 @@ returns-in-Some c =
 pub returns-in-Some-unknown : goal.returns-in-Some-unknown
 returns-in-Some-unknown c =
     let visits = c.args.gathered.visits.items in
-    λ ts ss rows g. rw (c.row_number-in-Some-unknown.ensures, c.len.ensures) (unknown_told ts ss rows visits c.args.gathered.unknown g c.in-Some-unknown.column c.in-Some-unknown.is (rw (c.as_slice-2.ensures.value, c.in_default.is) at c.in_ok-place.ensures.value))
+    λ ts ss rows g. rw (c.row_number-in-Some-unknown.ensures, c.as_slice-in-Some-unknown.ensures.value) (unknown_told ts ss rows visits c.args.gathered.unknown g c.in-Some-unknown.column c.in-Some-unknown.is (rw (c.as_slice-2.ensures.value, c.in_default.is) at c.in_ok-place.ensures.value))
 
 pub returns : goal.returns
 returns c =
