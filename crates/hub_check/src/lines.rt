@@ -80,7 +80,7 @@ fn plan_of<F: Files>(
     requires { has_window schedule.now ≡ true }
     ensures told { IfSome (F.contents files.old) (λ fs.
         Tells (λ plan. plan) (timetable_or_line schedule.now.name
-            (timetable fs schedule.now.folder (plan_conf schedule.now))) result) }
+        (timetable fs schedule.now.folder (plan_conf schedule.now))) result) }
     ensures cause { HasCheckCause result (F.faults files.old) (F.faults files.new) }
     ensures same { F.contents files.new ≡ F.contents files.old }
 {

@@ -4,8 +4,8 @@ ghost use Rattle.std.specs.Prelude.{◌≡◌, ◌++◌, codes, IfOk, string_byt
 ghost use Rattle.std.specs.Fmt.{decimal};
 ghost use Rattle.hub_config.specs.Lines as lines;
 
-use crate::fault::{ConfFault, ConfWhy, TableName};
 use crate::NoMemory;
+use crate::fault::{ConfFault, ConfWhy, TableName};
 use std::alloc::Global;
 use texts::push_cleaned;
 

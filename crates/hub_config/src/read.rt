@@ -11,13 +11,13 @@ ghost use Rattle.hub_config.specs.Answer.{IsFaultOf, cause_of};
 ghost use Rattle.hub_config.specs.declared.conf.ScheduleConf.{ScheduleConf as Schedule};
 ghost use Rattle.hub_config.specs.declared.fault.ConfFault.{ConfFault as Fault};
 
+use crate::NoMemory;
 use crate::conf::{FeedConf, HubConf, PortKind, ScheduleConf};
 use crate::fault::{ConfFault, TableName};
 use crate::judge::judge;
 use crate::rule::Key;
 use crate::value::{number_at, port_of, tables_at, text_at};
 use rt_types::{Items, Text};
-use crate::NoMemory;
 use std::alloc::Global;
 use toml::de::Error;
 use toml::{Table, Value};

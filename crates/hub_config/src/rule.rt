@@ -72,8 +72,11 @@ pub struct Rule {
 
 impl Rule {
     fn new(name: &'static str, holds: Holds, absent: Absent) -> Self
-        ensures { rule_seen result ≡ record { name = name.now; holds = holds;
-            absent = absent_seen absent } }
+        ensures { rule_seen result ≡ record {
+          name = name.now;
+          holds = holds;
+          absent = absent_seen absent;
+        } }
     {
         Rule {
             name,
