@@ -13,7 +13,7 @@ use rt_types::{Bytes, Kind, What};
 use std::alloc::Global;
 
 /// A message of the reference, as its table says.
-pub trait Message: Drop {
+pub(crate) trait Message: Drop {
     ghost table: { Table Self };
 
     /// Its name.
@@ -34,7 +34,7 @@ pub trait Message: Drop {
         ensures { AsDefined (λ x. x) cause_of (table.of_fields (parts_seen parts.now)) result };
 }
 
-/// The bytes of the parts that the message doesn't know, in order.
+// The bytes of the parts that the message doesn't know, in order.
 fn unknown<M: Message>(alloc: Global, parts: &[Part<'_>]) -> Result<Bytes, NoMemory>
     ensures { IfOk result (λ bytes. bytes
         ≡ unknown_bytes_of M.table.is_known (parts_seen parts.now)) }
@@ -49,7 +49,10 @@ fn unknown<M: Message>(alloc: Global, parts: &[Part<'_>]) -> Result<Bytes, NoMem
 }
 
 /// The message of these parts, or the first fault in them.
-pub fn whole<'a, M: Message>(reader: &mut Reader<'a>, parts: &[Part<'a>]) -> Result<M, ReadFault>
+pub(crate) fn whole<'a, M: Message>(
+    reader: &mut Reader<'a>,
+    parts: &[Part<'a>],
+) -> Result<M, ReadFault>
     ensures { AsDefined (λ x. x) cause_of (M.table.of_fields (parts_seen parts.now)) result }
 {
     let unknown = unknown::<M>(reader.alloc, parts)?;
@@ -57,7 +60,10 @@ pub fn whole<'a, M: Message>(reader: &mut Reader<'a>, parts: &[Part<'a>]) -> Res
 }
 
 /// The message of these bytes, or the first fault in them.
-pub fn read_one<'a, M: Message>(reader: &mut Reader<'a>, bytes: &'a [u8]) -> Result<M, ReadFault>
+pub(crate) fn read_one<'a, M: Message>(
+    reader: &mut Reader<'a>,
+    bytes: &'a [u8],
+) -> Result<M, ReadFault>
     ensures { AsDefined (λ x. x) cause_of (value M.table (bytes.now ∷ [])) result }
 {
     let mut parts = reader.take();
@@ -68,7 +74,7 @@ pub fn read_one<'a, M: Message>(reader: &mut Reader<'a>, bytes: &'a [u8]) -> Res
 }
 
 /// The value of a required field, or that it is missing.
-pub fn needed<A>(kind: Kind, number: u32, value: Option<A>) -> Result<A, ReadFault>
+pub(crate) fn needed<A>(kind: Kind, number: u32, value: Option<A>) -> Result<A, ReadFault>
     ensures { AsDefined (λ x. x) cause_of (required_value kind number value) result }
 {
     match value {

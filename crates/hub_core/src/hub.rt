@@ -29,13 +29,14 @@ pub struct ReplayHub {
 }
 
 impl Model for ReplayHub {
-    ghost use Rattle.hub_core.specs.Hub.{Kept, IsKept};
+    ghost use Rattle.hub_core.specs.Hub.{Kept, KeepsHistory};
 
     ghost Value = { Kept };
 
     ghost view = { λ hub. record { names = hub.names.items; history = hub.history.items } };
 
-    ghost invariant = { λ hub. IsKept hub.names.items hub.history.items hub.stamps.items hub.tables.items };
+    ghost invariant = { λ hub. KeepsHistory
+        hub.names.items hub.history.items hub.stamps.items hub.tables.items };
 }
 
 impl ReplayHub {
