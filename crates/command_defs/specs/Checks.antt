@@ -54,9 +54,9 @@ timetables files (schedule ∷ more) = do
 abbrev pub counts_line : List ℕ → Timetable → List ℕ
 counts_line name t = let counts = counts_of t in
     name ++ codes " agencies " ++ decimal counts.agencies ++ codes " stops " ++ decimal counts.stops
-        ++ codes " routes " ++ decimal counts.routes
+    ++ codes " routes " ++ decimal counts.routes
     ++ codes " trips " ++ decimal counts.trips ++ codes " times " ++ decimal counts.times
-        ++ codes " days " ++ decimal counts.days ++ line_feed
+    ++ codes " days " ++ decimal counts.days ++ line_feed
 
 -- a line for each schedule
 abbrev pub counts_lines : List ScheduleConf → List Timetable → List ℕ

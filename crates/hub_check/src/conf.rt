@@ -10,7 +10,8 @@ ghost use Rattle.command_defs.specs.Checks.{conf_in, conf_or_line};
 ghost use Rattle.hub_check.specs.Told.{HasCheckCause, IsLine, NamesConf, NeedsNoFile, Tells};
 
 use crate::fault::CheckFault;
-use hub_config::{ConfFault, HubConf, fault_line, read_conf};
+use conf_defs::{ConfFault, HubConf};
+use hub_config::{fault_line, read_conf};
 use hub_outside::{Buf, FileAnswer, Files};
 use std::alloc::{AllocError, Global};
 

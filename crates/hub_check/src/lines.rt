@@ -9,7 +9,7 @@ ghost use Rattle.hub_check.specs.Told.{Adds, HasCheckCause, network_text, traffi
 
 use crate::fault::CheckFault;
 use crate::words::load_line;
-use hub_config::ScheduleConf;
+use conf_defs::ScheduleConf;
 use hub_outside::Files;
 use load_defs::{LoadFault, PlanConf};
 use rt_types::Copied;
@@ -80,7 +80,7 @@ fn plan_of<F: Files>(
     requires { has_window schedule.now ≡ true }
     ensures told { IfSome (F.contents files.old) (λ fs.
         Tells (λ plan. plan) (timetable_or_line schedule.now.name
-            (timetable fs schedule.now.folder (plan_conf schedule.now))) result) }
+        (timetable fs schedule.now.folder (plan_conf schedule.now))) result) }
     ensures cause { HasCheckCause result (F.faults files.old) (F.faults files.new) }
     ensures same { F.contents files.new ≡ F.contents files.old }
 {
