@@ -28,7 +28,8 @@ conf_or_line (Err fault) = Err (line_of fault)
 -- the configuration in a file, or the line that tells why there is none
 abbrev pub conf_in : Option (List ℕ) → Result HubConf (List ℕ)
 conf_in None = Err (codes "hub: config absent")
-conf_in (Some bytes) = if nat_lt longest_conf (length bytes) then Err (codes "hub: config long") else conf_or_line (conf_of bytes)
+conf_in (Some bytes) = if nat_lt longest_conf (length bytes) then Err (codes "hub: config long")
+    else conf_or_line (conf_of bytes)
 
 -- how a schedule is loaded
 abbrev pub plan_conf : ScheduleConf → PlanConf
@@ -37,10 +38,12 @@ plan_conf schedule = record { zone = schedule.zone; first = schedule.first; days
 -- a timetable, or the line of its fault
 abbrev pub timetable_or_line : List ℕ → Result Timetable LoadFault → Result Timetable (List ℕ)
 timetable_or_line name (Ok t) = Ok t
-timetable_or_line name (Err fault) = Err (codes "hub: load " ++ name ++ codes " " ++ load_words fault)
+timetable_or_line name (Err fault) =
+    Err (codes "hub: load " ++ name ++ codes " " ++ load_words fault)
 
 -- the timetables of the schedules, in their order, or the line of the first fault
-unfoldable pub timetables : List (List ℕ × List ℕ) → List ScheduleConf → Result (List Timetable) (List ℕ)
+unfoldable pub timetables : List (List ℕ × List ℕ) → List ScheduleConf
+    → Result (List Timetable) (List ℕ)
 timetables files [] = Ok []
 timetables files (schedule ∷ more) = do
   first ← timetable_or_line schedule.name (timetable files schedule.folder (plan_conf schedule))
@@ -50,12 +53,15 @@ timetables files (schedule ∷ more) = do
 -- how many data rows the files of a schedule have, and how many days its window
 abbrev pub counts_line : List ℕ → Timetable → List ℕ
 counts_line name t = let counts = counts_of t in
-    name ++ codes " agencies " ++ decimal counts.agencies ++ codes " stops " ++ decimal counts.stops ++ codes " routes " ++ decimal counts.routes
-    ++ codes " trips " ++ decimal counts.trips ++ codes " times " ++ decimal counts.times ++ codes " days " ++ decimal counts.days ++ line_feed
+    name ++ codes " agencies " ++ decimal counts.agencies ++ codes " stops " ++ decimal counts.stops
+        ++ codes " routes " ++ decimal counts.routes
+    ++ codes " trips " ++ decimal counts.trips ++ codes " times " ++ decimal counts.times
+        ++ codes " days " ++ decimal counts.days ++ line_feed
 
 -- a line for each schedule
 abbrev pub counts_lines : List ScheduleConf → List Timetable → List ℕ
-counts_lines (schedule ∷ schedules) (t ∷ ts) = counts_line schedule.name t ++ counts_lines schedules ts
+counts_lines (schedule ∷ schedules) (t ∷ ts) =
+    counts_line schedule.name t ++ counts_lines schedules ts
 counts_lines [] ts = []
 counts_lines (schedule ∷ schedules) [] = []
 
@@ -70,6 +76,7 @@ abbrev pub output_of_check : Result (List ℕ) (List ℕ) → Output
 output_of_check (Ok lines) = record { written = lines; status = 0 }
 output_of_check (Err line) = record { written = line ++ line_feed; status = 3 }
 
--- what `check` prints, and its status: the configuration counts first, and then its timetables in order
+-- what `check` prints, and its status: the configuration counts first, and then its timetables in
+-- order
 unfoldable pub check_output : List (List ℕ × List ℕ) → List ℕ → Output
 check_output files path = output_of_check (check_lines files path)

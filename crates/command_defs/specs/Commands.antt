@@ -23,8 +23,10 @@ output_by (Some (Check path)) files input = check_output files path
 unfoldable pub offline : List (List ℕ) → List (List ℕ × List ℕ) → List ℕ → Output
 offline words files input = output_by (command_of words) files input
 
--- the same where the files or the input tell nothing: what a command doesn't look at need not be told
-abbrev pub output_where_told : Option Command → Option (List (List ℕ × List ℕ)) → Option (List ℕ) → Option Output
+-- the same where the files or the input tell nothing: what a command doesn't look at need not be
+-- told
+abbrev pub output_where_told : Option Command → Option (List (List ℕ × List ℕ)) → Option (List ℕ)
+    → Option Output
 output_where_told None files input = Some usage
 output_where_told (Some Replay) files input = option_map replayed input
 output_where_told (Some (Check path)) files input = option_map (λ fs. check_output fs path) files

@@ -16,7 +16,8 @@ column_words file column = file_name file ++ codes " " ++ column_name column
 
 -- a file, a row of it and a column
 abbrev pub cell_words : File → ℕ → Column → List ℕ
-cell_words file row column = file_name file ++ codes " " ++ decimal row ++ codes " " ++ column_name column
+cell_words file row column = file_name file ++ codes " " ++ decimal row ++ codes " "
+    ++ column_name column
 
 -- what is wrong with the rows of a file; want of memory is no fault of theirs
 abbrev pub row_words : File → RowFault → List ℕ
@@ -33,7 +34,8 @@ load_words (fault.MissingFile file) = codes "missing " ++ file_name file
 load_words (fault.TooLong file) = codes "long " ++ file_name file
 load_words (fault.Rows file e) = row_words file e
 load_words (fault.UnknownRef file row column) = codes "reference " ++ cell_words file row column
-load_words (fault.Duplicate file row) = codes "duplicate " ++ file_name file ++ codes " " ++ decimal row
+load_words (fault.Duplicate file row) = codes "duplicate " ++ file_name file ++ codes " "
+    ++ decimal row
 load_words (fault.TripTimes row) = codes "times " ++ decimal row
 load_words fault.FileFault = []
 load_words fault.NoMemory = []

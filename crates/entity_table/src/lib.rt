@@ -1,7 +1,7 @@
 //! What a feed holds under each id, message by message.
 //!
 //! A contract sees a `Table` as the list of its ids in byte order, each with its entity and the stamp of the
-//! message that brought it: the list that `feed_defs` calls `held`. `apply` makes the table after one message
+//! message that brought it: the list that `feed_defs` calls `entities_of`. `apply` makes the table after one message
 //! more and leaves the given one; the two share every entity that the message does not touch, and what they
 //! take up together grows with the message and hardly with the table.
 //!

@@ -19,12 +19,21 @@ entity_under_feed feed entity = record entity { id = feed ++ codes ":" ++ entity
 
 -- what one feed holds, under its name
 abbrev pub entities_of_feed : List Entry → ℕ × List ℕ → List Entity
-entities_of_feed history (feed, name) = map (λ change. entity_under_feed name change.1.entity) (entities_of (messages_of feed history))
+entities_of_feed history (
+  feed,
+  name,
+) = map (λ change. entity_under_feed name change.1.entity)
+    (entities_of (messages_of feed history))
 
 -- the whole data set of these feeds, by feed and then by id
 abbrev pub combined_message : List (List ℕ) → List Entry → FeedMessage
 combined_message names history = record {
-  header = record { version = codes "2.0"; incrementality = Some FullDataset; timestamp = Some (newest_stamp (length names) history); unknown = [] };
+  header = record {
+    version = codes "2.0";
+    incrementality = Some FullDataset;
+    timestamp = Some (newest_stamp (length names) history);
+    unknown = [];
+  };
   entity = flat_map (entities_of_feed history) (enumerate_from 0 names);
   unknown = [];
 }

@@ -58,7 +58,8 @@ pub negative_written :
 unfolding message_bytes field_bytes payload_bytes varint groups
 negative_written = refl
 
--- two occurrences of an arrival are one: of each number the last counts, and unknown fields keep their order
+-- two occurrences of an arrival are one: of each number the last counts, and unknown fields keep
+-- their order
 pub merged_arrival :
     value stop_time_update ((0x12 ∷ 0x04 ∷ 0x08 ∷ 0x01 ∷ 0x38 ∷ 0x01 ∷ 0x12 ∷ 0x06 ∷ 0x08 ∷ 0x02
     ∷ 0x10 ∷ 0x03 ∷ 0x40 ∷ 0x07 ∷ []) ∷ []) ≡ Ok (record {

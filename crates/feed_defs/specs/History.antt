@@ -34,9 +34,9 @@ has_moment m = nat_le 1 (stamp_of m) && nat_le (stamp_of m) last_moment
 abbrev pub is_sound : FeedMessage → Bool
 is_sound m = has_version m && has_moment m
 
--- Why an offered message is refused, in the order of judging: it has too many bytes (how many), its bytes have a
--- fault, its version isn't one that the hub takes, its stamp isn't a moment, or its stamp isn't above its feed's last
--- (the last, and its own).
+-- Why an offered message is refused, in the order of judging: it has too many bytes (how many), its
+-- bytes have a fault, its version isn't one that the hub takes, its stamp isn't a moment, or its
+-- stamp isn't above its feed's last (the last, and its own).
 pub data Refusal : Type 0 where
   TooLong : ℕ → Refusal
   Malformed : Fault → Refusal
@@ -57,7 +57,8 @@ if_read (Err fault) = Err (Malformed fault)
 
 -- the message of well-formed bytes
 unfoldable pub well_formed : List ℕ → Result FeedMessage Refusal
-well_formed bytes = if nat_lt longest_message (length bytes) then Err (TooLong (length bytes)) else if_read (read bytes)
+well_formed bytes = if nat_lt longest_message (length bytes) then Err (TooLong (length bytes))
+    else if_read (read bytes)
 
 -- the message, if it is newer than the stamp
 abbrev pub newer : ℕ → FeedMessage → Result FeedMessage Refusal
@@ -90,7 +91,8 @@ is_rising (x ∷ y ∷ zs) = nat_lt x y && is_rising (y ∷ zs)
 abbrev pub is_legal_entry : ℕ → Entry → Bool
 is_legal_entry feeds entry = nat_lt entry.feed feeds && is_sound entry.message
 
--- a history of so many feeds: sound messages of these feeds, and the stamps of each feed strictly rise
+-- a history of so many feeds: sound messages of these feeds, and the stamps of each feed strictly
+-- rise
 pub record IsLegal (feeds : ℕ) (history : List Entry) : Type 0 where
   pub entries : list_all (is_legal_entry feeds) history ≡ true
   pub rising : (feed : ℕ) → is_rising (stamps_of feed history) ≡ true
@@ -101,14 +103,19 @@ pub record OfferOutcome : Type 0 where
   pub history : List Entry
 
 abbrev pub outcome_of_judgement : ℕ → List Entry → Result FeedMessage Refusal → OfferOutcome
-outcome_of_judgement feed history (Ok m) = record { reply = Ok (length history + 1); history = history ++ record { feed = feed; message = m } ∷ [] }
+outcome_of_judgement feed history (Ok m) = record {
+  reply = Ok (length history + 1);
+  history = history ++ record { feed = feed; message = m } ∷ [];
+}
 outcome_of_judgement feed history (Err refusal) = record { reply = Err refusal; history = history }
 
 -- an offered message is refused, or it is added at the end of the history
 abbrev pub offer_outcome : ℕ → List ℕ → List Entry → OfferOutcome
-offer_outcome feed bytes history = outcome_of_judgement feed history (judgement_of (last_stamp feed history) bytes)
+offer_outcome feed bytes history = outcome_of_judgement feed history
+    (judgement_of (last_stamp feed history) bytes)
 
--- whether a message is the whole data set of its feed (FeedHeader, `incrementality`, by default FULL_DATASET)
+-- whether a message is the whole data set of its feed (FeedHeader, `incrementality`, by default
+-- FULL_DATASET)
 abbrev pub is_differential : Option Incrementality → Bool
 is_differential None = false
 is_differential (Some FullDataset) = false
@@ -136,9 +143,11 @@ changes_of ms = flat_map changes_in (since_full ms)
 abbrev pub is_kept : Change → Bool
 is_kept change = not (unwrap_or change.1.entity.is_deleted false)
 
--- What a feed holds under an id: the last entity with that id, whole, unless it says that it is deleted.
+-- What a feed holds under an id: the last entity with that id, whole, unless it says that it is
+-- deleted.
 abbrev pub last_said : List ℕ → List Change → Option Change
-last_said id changes = last_or None (filter_map (λ change. if bytes_eq id change.0 then Some change else None) changes)
+last_said id changes = last_or None (filter_map (λ change. if bytes_eq id change.0 then Some change
+    else None) changes)
 
 abbrev pub kept_of : Option Change → Option Stored
 kept_of None = None
@@ -160,11 +169,14 @@ entities_of ms = filter is_kept (changes_by_id (reverse (changes_of ms)))
 abbrev pub changes_without : List ℕ → List Change → List Change
 changes_without id entities = filter (λ change. not (bytes_eq id change.0)) entities
 
--- what is held under the ids, changed by one entity: it takes the place of what its id had, or takes that away
+-- what is held under the ids, changed by one entity: it takes the place of what its id had, or
+-- takes that away
 abbrev pub changes_with : List Change → Change → List Change
 changes_with entities change =
-    if is_kept change then put (slice_cmp nat_cmp) change.0 change.1 entities else changes_without change.0 entities
+    if is_kept change then put (slice_cmp nat_cmp) change.0 change.1 entities
+    else changes_without change.0 entities
 
--- What is held, changed by a message: a whole data set starts from nothing, and then its entities count in their order.
+-- What is held, changed by a message: a whole data set starts from nothing, and then its entities
+-- count in their order.
 unfoldable pub entities_after : FeedMessage → List Change → List Change
 entities_after m entities = fold changes_with (if is_full m then [] else entities) (changes_in m)

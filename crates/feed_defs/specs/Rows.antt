@@ -1,5 +1,6 @@
--- How a message is made of fields: reading with its first fault, and writing, said once for all messages.
--- A row of a message's table is a word, as `required 1 text`, and `⊕` puts rows under one another.
+-- How a message is made of fields: reading with its first fault, and writing, said once for all
+-- messages. A row of a message's table is a word, as `required 1 text`, and `⊕` puts rows under one
+-- another.
 use Rattle.std.specs.Prelude.{ℕ, ℤ, ◌+◌, ◌%◌, ◌^◌, List, [], ◌∷◌, ◌++◌, Option, Some, None, Result, Ok, Err, Bool, not, is_some, min, filter, ◌==◌, ◌||◌, if◌then◌else◌}
 use Rattle.std.specs.Int.{w32, w64, cast_signed, cast_unsigned}
 use Rattle.std.specs.List.{filter_map, flat_map, last_or}
@@ -16,7 +17,8 @@ use Rattle.wire_defs.specs.Field.Fault.{Cut, Overlong, BadTag, BadGroup}
 use Rattle.wire_defs.specs.Reading.{fields_of}
 use Rattle.wire_defs.specs.Writing.{Written, field_bytes}
 
--- what is wrong first: in which entity (0: in the header or outside of all), what, in which message and field
+-- what is wrong first: in which entity (0: in the header or outside of all), what, in which message
+-- and field
 pub record Fault : Type 0 where
   pub entity : ℕ
   pub what : What
@@ -36,7 +38,11 @@ wire_what BadGroup = what.Group
 
 -- the fields of a message's bytes, or its wire fault, which belongs to no field
 abbrev pub fields_in : Kind → List ℕ → Result (List Field) Fault
-fields_in kind bytes = elim (fields_of bytes) [ Ok fields ↦ Ok fields | Err w ↦ Err (fault (wire_what w) kind 0) ]
+fields_in kind bytes = elim (fields_of bytes) [
+  | Ok fields ↦ Ok fields
+  | Err w ↦ Err
+      (fault (wire_what w) kind 0)
+]
 
 -- what kinds of payload say
 abbrev pub varint_in : Payload → Option ℕ
@@ -74,9 +80,11 @@ last_of says n fields = last_or None (filter_map (value_under says n) fields)
 
 -- the fields that aren't known, as their bytes in order
 unfoldable pub unknown_bytes_of : (Field → Bool) → List Field → List ℕ
-unknown_bytes_of is_known fields = flat_map (λ field. field.raw) (filter (λ field. not (is_known field)) fields)
+unknown_bytes_of is_known fields = flat_map (λ field. field.raw)
+    (filter (λ field. not (is_known field)) fields)
 
--- a message: which fields it knows, its value from its fields, and its known fields as they are written
+-- a message: which fields it knows, its value from its fields, and its known fields as they are
+-- written
 pub record Message (M : Type 0) : Type 0 where
   pub kind : Kind
   pub is_known : Field → Bool
@@ -92,7 +100,8 @@ fields_of_all kind (bytes ∷ more) = do
   rest ← fields_of_all kind more
   Ok (first ++ rest)
 
--- the message of these payloads: its fields are theirs (Protocol Buffers, "Encoding", "Last One Wins")
+-- the message of these payloads: its fields are theirs (Protocol Buffers, "Encoding", "Last One
+-- Wins")
 unfoldable pub value : {M : Type 0} → Message M → List (List ℕ) → Result M Fault
 value m payloads = fields_of_all m.kind payloads >>= m.of_fields
 
@@ -100,7 +109,8 @@ value m payloads = fields_of_all m.kind payloads >>= m.of_fields
 unfoldable pub message_bytes : {M : Type 0} → Message M → M → List ℕ
 message_bytes m x = flat_map field_bytes (m.fields x) ++ m.unknown x
 
--- a kind of field with a value in A: whether it takes a field, its value among the fields, how it is written
+-- a kind of field with a value in A: whether it takes a field, its value among the fields, how it
+-- is written
 pub record FieldKind (A : Type 0) : Type 0 where
   pub takes : ℕ → Field → Bool
   pub read : Kind → ℕ → List Field → Result (Option A) Fault
@@ -163,12 +173,14 @@ degrees = scalar degrees_in degrees_payload
 
 -- an enum, by the low 32 bits of its number; a number that names no value is an unknown field
 abbrev pub choice : {A : Type 0} → (ℕ → Option A) → (A → ℕ) → FieldKind A
-choice named number = scalar (λ payload. option_and_then (λ n. named (n % 2 ^ 32)) (varint_in payload)) (λ x. Varint (number x))
+choice named number = scalar (λ payload. option_and_then (λ n. named (n % 2 ^ 32))
+    (varint_in payload)) (λ x. Varint (number x))
 
 -- a text must be UTF-8
 abbrev pub as_text : Kind → ℕ → Option (List ℕ) → Result (Option (List ℕ)) Fault
 as_text kind n None = Ok None
-as_text kind n (Some bytes) = if is_utf8 bytes then Ok (Some bytes) else Err (fault what.NotText kind n)
+as_text kind n (Some bytes) = if is_utf8 bytes then Ok (Some bytes)
+    else Err (fault what.NotText kind n)
 
 abbrev pub text : FieldKind (List ℕ)
 text = record {
@@ -199,20 +211,23 @@ values m (bytes ∷ more) = do
   xs ← values m more
   Ok (x ∷ xs)
 
--- the same, where a fault tells the number of its message, counted from `before + 1` up to 4294967295
+-- the same, where a fault tells the number of its message, counted from `before + 1` up to
+-- 4294967295
 abbrev pub with_entity_number : {M : Type 0} → ℕ → Result M Fault → Result M Fault
 with_entity_number k (Ok x) = Ok x
 with_entity_number k (Err f) = Err (record f { entity = k })
 
-unfoldable pub numbered_values : {M : Type 0} → Message M → ℕ → List (List ℕ) → Result (List M) Fault
+unfoldable pub numbered_values : {M : Type 0} → Message M → ℕ → List (List ℕ)
+    → Result (List M) Fault
 numbered_values m before [] = Ok []
 numbered_values m before (bytes ∷ more) = do
   x ← with_entity_number (min (before + 1) 4294967295) (value m (bytes ∷ []))
   xs ← numbered_values m (before + 1) more
   Ok (x ∷ xs)
 
--- rows of a message's table with values in V. The outer fault of `read` is the first in what is there,
--- by rising number; the inner one is the first among what is missing, which is judged after that.
+-- rows of a message's table with values in V. The outer fault of `read` is the first in what is
+-- there, by rising number; the inner one is the first among what is missing, which is judged after
+-- that.
 pub record Rows (V : Type 0) : Type 0 where
   pub is_known : Field → Bool
   pub read : Kind → List Field → Result (Result V Fault) Fault
@@ -243,7 +258,8 @@ required n kind = record {
 
 abbrev pub write_all : {M : Type 0} → ℕ → Message M → List M → List Written
 write_all n m [] = []
-write_all n m (x ∷ xs) = record { number = n; payload = Span (message_bytes m x) } ∷ write_all n m xs
+write_all n m (x ∷ xs) = record { number = n; payload = Span (message_bytes m x) }
+    ∷ write_all n m xs
 
 abbrev pub repeated : {M : Type 0} → ℕ → Message M → Rows (List M)
 repeated n m = record {
@@ -285,7 +301,8 @@ abbrev pub message : {M V : Type 0} → Shape M V → Message M
 message shape = record {
   kind = shape.kind;
   is_known = shape.rows.is_known;
-  of_fields = λ fields. shape.rows.read shape.kind fields >>= λ found. found >>= λ v. Ok (shape.make v (unknown_bytes_of shape.rows.is_known fields));
+  of_fields = λ fields. shape.rows.read shape.kind fields >>= λ found. found
+      >>= λ v. Ok (shape.make v (unknown_bytes_of shape.rows.is_known fields));
   fields = λ m. shape.rows.write (shape.values m);
   unknown = shape.unknown;
 }

@@ -7,7 +7,7 @@ use Rattle.feed_defs.specs.Rows.{Fault, value_under, occurrences_of, span_in, fi
 use Rattle.rt_types.specs.declared.fault.Kind.{Kind}
 use Rattle.pb_wire.specs.declared.part.Part.{Part}
 use Rattle.pb_wire.specs.Parts.{part_seen, parts_seen}
-use Rattle.feed_read.specs.Grows.{with_more}
+use Rattle.field_read.specs.Grows.{with_more}
 use Rattle.feed_read.proofs.Walks.{occurring_passed, occurring_met, occurring_end}
 
 -- a fault behind some fields is a fault without them

@@ -9,10 +9,10 @@ use Rattle.feed_defs.specs.Rows.{Fault, Message, occurrences_of, last_of, span_i
 use Rattle.rt_types.specs.declared.fault.Kind.{Kind}
 use Rattle.pb_wire.specs.declared.part.Part.{Part}
 use Rattle.pb_wire.specs.Parts.{parts_seen}
-use Rattle.feed_read.specs.declared.fault.ReadFault.{ReadFault}
+use Rattle.field_read.specs.declared.fault.ReadFault.{ReadFault}
 use Rattle.answer_defs.specs.Defined.{AsDefined}
-use Rattle.feed_read.specs.Causes.{cause_of}
-use Rattle.feed_read.specs.Grows.{with_more}
+use Rattle.field_read.specs.Causes.{cause_of}
+use Rattle.field_read.specs.Grows.{with_more}
 use Rattle.feed_read.proofs.Joins.{with_more_none}
 
 value_single : {M : Type 0} (m : Message M) (bytes : List ℕ) (fields : List Field) → fields_in m.kind bytes ≡ Ok fields → value m (bytes ∷ []) ≡ m.of_fields fields

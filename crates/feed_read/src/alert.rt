@@ -2,12 +2,9 @@
 
 ghost use Rattle.feed_defs.specs.Table.{alert, time_range, entity_selector, translated_string, translation};
 
-use crate::fault::ReadFault;
 use crate::message::{Message, needed};
 use crate::nested::{all, embedded};
-use crate::payload::{is_span, text};
-use crate::reader::Reader;
-use crate::scalar::{is_scalar, last};
+use field_read::{ReadFault, Reader, is_scalar, is_span, last, text};
 use pb_wire::Part;
 use rt_types::{Alert, Bytes, Cause, Effect, Kind, Period, Selector, Translated, Translation};
 

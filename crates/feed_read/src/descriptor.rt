@@ -2,11 +2,8 @@
 
 ghost use Rattle.feed_defs.specs.Table.{trip_descriptor};
 
-use crate::fault::ReadFault;
 use crate::message::Message;
-use crate::payload::{is_span, text};
-use crate::reader::Reader;
-use crate::scalar::{is_scalar, last};
+use field_read::{ReadFault, Reader, is_scalar, is_span, last, text};
 use pb_wire::Part;
 use rt_types::{Bytes, Kind, TripRef, TripRelation};
 

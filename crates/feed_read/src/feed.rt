@@ -2,12 +2,9 @@
 
 ghost use Rattle.feed_defs.specs.Table.{header, entity, feed};
 
-use crate::fault::ReadFault;
 use crate::message::{Message, needed};
 use crate::nested::{embedded, numbered, shared};
-use crate::payload::{is_span, text};
-use crate::reader::Reader;
-use crate::scalar::{is_scalar, last};
+use field_read::{ReadFault, Reader, is_scalar, is_span, last, text};
 use pb_wire::Part;
 use rt_types::{Bytes, Entity, FeedMessage, Header, Incrementality, Kind};
 

@@ -4,18 +4,16 @@ ghost use Rattle.std.specs.Prelude.{◌≡◌, [], ◌∷◌, IfOk};
 ghost use Rattle.feed_defs.specs.Rows.{unknown_bytes_of, required_value, value, Message as Table};
 ghost use Rattle.pb_wire.specs.Parts.{part_seen, parts_seen};
 ghost use Rattle.answer_defs.specs.Defined.{AsDefined};
-ghost use Rattle.feed_read.specs.Causes.{cause_of};
+ghost use Rattle.field_read.specs.Causes.{cause_of};
 
 use crate::NoMemory;
-use crate::fault::ReadFault;
-use crate::payload::add_parts;
-use crate::reader::Reader;
+use field_read::{ReadFault, Reader, add_parts};
 use pb_wire::Part;
 use rt_types::{Bytes, Kind, What};
 use std::alloc::Global;
 
 /// A message of the reference, as its table says.
-pub trait Message: Drop {
+pub(crate) trait Message: Drop {
     ghost table: { Table Self };
 
     /// Its name.
@@ -36,7 +34,7 @@ pub trait Message: Drop {
         ensures { AsDefined (λ x. x) cause_of (table.of_fields (parts_seen parts.now)) result };
 }
 
-/// The bytes of the parts that the message doesn't know, in order.
+// The bytes of the parts that the message doesn't know, in order.
 fn unknown<M: Message>(alloc: Global, parts: &[Part<'_>]) -> Result<Bytes, NoMemory>
     ensures { IfOk result (λ bytes. bytes
         ≡ unknown_bytes_of M.table.is_known (parts_seen parts.now)) }
@@ -51,7 +49,10 @@ fn unknown<M: Message>(alloc: Global, parts: &[Part<'_>]) -> Result<Bytes, NoMem
 }
 
 /// The message of these parts, or the first fault in them.
-pub fn whole<'a, M: Message>(reader: &mut Reader<'a>, parts: &[Part<'a>]) -> Result<M, ReadFault>
+pub(crate) fn whole<'a, M: Message>(
+    reader: &mut Reader<'a>,
+    parts: &[Part<'a>],
+) -> Result<M, ReadFault>
     ensures { AsDefined (λ x. x) cause_of (M.table.of_fields (parts_seen parts.now)) result }
 {
     let unknown = unknown::<M>(reader.alloc, parts)?;
@@ -59,7 +60,10 @@ pub fn whole<'a, M: Message>(reader: &mut Reader<'a>, parts: &[Part<'a>]) -> Res
 }
 
 /// The message of these bytes, or the first fault in them.
-pub fn read_one<'a, M: Message>(reader: &mut Reader<'a>, bytes: &'a [u8]) -> Result<M, ReadFault>
+pub(crate) fn read_one<'a, M: Message>(
+    reader: &mut Reader<'a>,
+    bytes: &'a [u8],
+) -> Result<M, ReadFault>
     ensures { AsDefined (λ x. x) cause_of (value M.table (bytes.now ∷ [])) result }
 {
     let mut parts = reader.take();
@@ -70,7 +74,7 @@ pub fn read_one<'a, M: Message>(reader: &mut Reader<'a>, bytes: &'a [u8]) -> Res
 }
 
 /// The value of a required field, or that it is missing.
-pub fn needed<A>(kind: Kind, number: u32, value: Option<A>) -> Result<A, ReadFault>
+pub(crate) fn needed<A>(kind: Kind, number: u32, value: Option<A>) -> Result<A, ReadFault>
     ensures { AsDefined (λ x. x) cause_of (required_value kind number value) result }
 {
     match value {

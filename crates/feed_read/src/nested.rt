@@ -4,20 +4,18 @@ ghost use Rattle.std.specs.Prelude.{◌≡◌, [], ◌∷◌};
 ghost use Rattle.feed_defs.specs.Rows.{occurrences_of, span_in, fields_of_all, merged_message, value, values, with_entity_number, numbered_values};
 ghost use Rattle.pb_wire.specs.Parts.{parts_seen};
 ghost use Rattle.answer_defs.specs.Defined.{AsDefined};
-ghost use Rattle.feed_read.specs.Causes.{cause_of};
-ghost use Rattle.feed_read.specs.Grows.{Grows};
+ghost use Rattle.field_read.specs.Causes.{cause_of};
+ghost use Rattle.field_read.specs.Grows.{Grows};
 
-use crate::fault::ReadFault;
 use crate::message::{Message, read_one, whole};
-use crate::payload::{add_parts, count, last_span, span_at};
-use crate::reader::Reader;
+use field_read::{ReadFault, Reader, add_parts, count, last_span, span_at};
 use pb_wire::Part;
 use rt_types::{Items, Kind, Shared};
 
 // The most values that room is made for before the first is read: what bytes promise may be more than memory holds.
 const MOST_ROOM: usize = 64;
 
-/// Puts the fields of all payloads under this number behind the parts, in order.
+// Puts the fields of all payloads under this number behind the parts, in order.
 fn join_parts<'a>(
     kind: Kind,
     number: u32,
@@ -36,7 +34,7 @@ fn join_parts<'a>(
 }
 
 /// The singular message under this number, made of all its occurrences together.
-pub fn embedded<'a, M: Message>(
+pub(crate) fn embedded<'a, M: Message>(
     reader: &mut Reader<'a>,
     number: u32,
     parts: &[Part<'a>],
@@ -55,7 +53,7 @@ pub fn embedded<'a, M: Message>(
 }
 
 /// The same, to be shared.
-pub fn shared<'a, M: Message>(
+pub(crate) fn shared<'a, M: Message>(
     reader: &mut Reader<'a>,
     number: u32,
     parts: &[Part<'a>],
@@ -70,7 +68,7 @@ pub fn shared<'a, M: Message>(
 }
 
 /// The messages of the repeated field with this number, each of its own payload.
-pub fn all<'a, M: Message>(
+pub(crate) fn all<'a, M: Message>(
     reader: &mut Reader<'a>,
     number: u32,
     parts: &[Part<'a>],
@@ -87,7 +85,7 @@ pub fn all<'a, M: Message>(
     Ok(Items::new(items))
 }
 
-/// The message of these bytes, whose fault tells this entity.
+// The message of these bytes, whose fault tells this entity.
 fn read_placed<'a, M: Message>(
     reader: &mut Reader<'a>,
     entity: u32,
@@ -115,7 +113,7 @@ fn read_placed<'a, M: Message>(
 }
 
 /// The messages of the repeated field with this number, whose faults tell which of them they are in.
-pub fn numbered<'a, M: Message>(
+pub(crate) fn numbered<'a, M: Message>(
     reader: &mut Reader<'a>,
     number: u32,
     parts: &[Part<'a>],

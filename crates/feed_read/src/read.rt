@@ -2,11 +2,10 @@
 
 ghost use Rattle.feed_defs.specs.Table.{read};
 ghost use Rattle.answer_defs.specs.Defined.{AsDefined};
-ghost use Rattle.feed_read.specs.Causes.{cause_of};
+ghost use Rattle.field_read.specs.Causes.{cause_of};
 
-use crate::fault::ReadFault;
 use crate::message::read_one;
-use crate::reader::Reader;
+use field_read::{ReadFault, Reader};
 use rt_types::FeedMessage;
 use std::alloc::Global;
 

@@ -2,12 +2,9 @@
 
 ghost use Rattle.feed_defs.specs.Table.{trip_update, stop_time_update, stop_time_event, stop_time_properties};
 
-use crate::fault::ReadFault;
 use crate::message::{Message, needed};
 use crate::nested::{all, embedded};
-use crate::payload::{is_span, text};
-use crate::reader::Reader;
-use crate::scalar::{is_scalar, last};
+use field_read::{ReadFault, Reader, is_scalar, is_span, last, text};
 use pb_wire::Part;
 use rt_types::{Bytes, Event, Kind, StopProps, StopRelation, StopUpdate, TripUpdate};
 

@@ -2,12 +2,9 @@
 
 ghost use Rattle.feed_defs.specs.Table.{vehicle_position, position, vehicle_descriptor};
 
-use crate::fault::ReadFault;
 use crate::message::{Message, needed};
 use crate::nested::embedded;
-use crate::payload::{is_span, text};
-use crate::reader::Reader;
-use crate::scalar::{is_scalar, last};
+use field_read::{ReadFault, Reader, is_scalar, is_span, last, text};
 use pb_wire::Part;
 use rt_types::{Bytes, Degrees, Kind, Position, StopStatus, Vehicle, VehicleRef};
 

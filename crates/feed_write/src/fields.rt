@@ -14,7 +14,7 @@ use pb_wire::{write_field, write_four, write_length, write_scalar, write_varint}
 use rt_types::{Bytes, Degrees, Items, Shared, Text};
 
 /// Appends a number, where there is one.
-pub fn put_scalar<S: Scalar>(
+pub(crate) fn put_scalar<S: Scalar>(
     number: u32,
     value: Option<S>,
     out: &mut Vec<u8>,
@@ -32,7 +32,7 @@ pub fn put_scalar<S: Scalar>(
 }
 
 /// Appends a text.
-pub fn put_text(number: u32, text: &Text, out: &mut Vec<u8>) -> Result<(), NoMemory>
+pub(crate) fn put_text(number: u32, text: &Text, out: &mut Vec<u8>) -> Result<(), NoMemory>
     requires first { 1 ≤ number }
     requires last { number ≤ 536870911 }
     ensures written { OnOk result (out.new.items
@@ -43,7 +43,11 @@ pub fn put_text(number: u32, text: &Text, out: &mut Vec<u8>) -> Result<(), NoMem
 }
 
 /// Appends a text, where there is one.
-pub fn put_text_if(number: u32, text: &Option<Text>, out: &mut Vec<u8>) -> Result<(), NoMemory>
+pub(crate) fn put_text_if(
+    number: u32,
+    text: &Option<Text>,
+    out: &mut Vec<u8>,
+) -> Result<(), NoMemory>
     requires first { 1 ≤ number }
     requires last { number ≤ 536870911 }
     ensures written { OnOk result (out.new.items
@@ -57,7 +61,7 @@ pub fn put_text_if(number: u32, text: &Option<Text>, out: &mut Vec<u8>) -> Resul
 }
 
 /// Appends degrees, as the four bytes of their float.
-pub fn put_degrees(number: u32, value: Degrees, out: &mut Vec<u8>) -> Result<(), NoMemory>
+pub(crate) fn put_degrees(number: u32, value: Degrees, out: &mut Vec<u8>) -> Result<(), NoMemory>
     requires first { 1 ≤ number }
     requires last { number ≤ 536870911 }
     ensures written { OnOk result (out.new.items
@@ -69,13 +73,20 @@ pub fn put_degrees(number: u32, value: Degrees, out: &mut Vec<u8>) -> Result<(),
 }
 
 /// Appends a message, as its length and its bytes.
-pub fn put_message<M: Message>(number: u32, message: &M, out: &mut Vec<u8>) -> Result<(), NoMemory>
+pub(crate) fn put_message<M: Message>(
+    number: u32,
+    message: &M,
+    out: &mut Vec<u8>,
+) -> Result<(), NoMemory>
     requires first { 1 ≤ number }
     requires last { number ≤ 536870911 }
     ensures written { OnOk result (out.new.items
         ≡ out.old.items
-        ++ field_bytes (record { number = number; payload = Span
-        (message_bytes M.table message.now) })) }
+        ++ field_bytes (record {
+          number = number;
+          payload = Span
+              (message_bytes M.table message.now);
+        })) }
     ensures begins { StartsWith out.old.items out.new.items }
 {
     write_varint(u64::from(number) * 8 + 2, out)?;
@@ -87,7 +98,7 @@ pub fn put_message<M: Message>(number: u32, message: &M, out: &mut Vec<u8>) -> R
 }
 
 /// Appends a message, where there is one.
-pub fn put_embedded<M: Message>(
+pub(crate) fn put_embedded<M: Message>(
     number: u32,
     message: &Option<M>,
     out: &mut Vec<u8>,
@@ -107,7 +118,7 @@ pub fn put_embedded<M: Message>(
 }
 
 /// Appends a message that stands in a box, where there is one.
-pub fn put_shared<M: Message>(
+pub(crate) fn put_shared<M: Message>(
     number: u32,
     message: &Option<Shared<M>>,
     out: &mut Vec<u8>,
@@ -141,7 +152,7 @@ fn put_all<M: Message>(number: u32, messages: &[M], out: &mut Vec<u8>) -> Result
 }
 
 /// Appends the messages of a repeated field, each as a field of that number.
-pub fn put_items<M: Message>(
+pub(crate) fn put_items<M: Message>(
     number: u32,
     messages: &Items<M>,
     out: &mut Vec<u8>,
@@ -156,7 +167,7 @@ pub fn put_items<M: Message>(
 }
 
 /// Appends the fields that a message doesn't know, as they came.
-pub fn put_unknown(bytes: &Bytes, out: &mut Vec<u8>) -> Result<(), NoMemory>
+pub(crate) fn put_unknown(bytes: &Bytes, out: &mut Vec<u8>) -> Result<(), NoMemory>
     ensures written { OnOk result (out.new.items ≡ out.old.items ++ bytes.now) }
     ensures begins { StartsWith out.old.items out.new.items }
 {

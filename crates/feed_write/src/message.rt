@@ -7,7 +7,7 @@ ghost use Rattle.feed_write.specs.Puts.{StartsWith};
 use crate::NoMemory;
 
 /// A message of the reference, as its table says.
-pub trait Message {
+pub(crate) trait Message {
     ghost table: { Table Self };
 
     /// Appends the bytes of the message: its fields by rising number, and then those that it doesn't know.

@@ -6,7 +6,7 @@ ghost use Rattle.wire_defs.specs.Field.Payload.{Varint};
 ghost use Rattle.feed_defs.specs.Rows.{bool_payload, signed_payload};
 
 /// A value that is written as a varint.
-pub trait Scalar: Copy {
+pub(crate) trait Scalar: Copy {
     ghost payload: { Self → Payload };
 
     /// The number of the varint.

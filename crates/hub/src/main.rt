@@ -4,38 +4,16 @@
 //! Here the outside is the system's own.
 #![tactic(auto)]
 
-use hub_main::run_offline;
-use hub_outside::{StdFiles, StdSink, StdSource, SystemClock};
-use rt_types::Text;
+use hub_main::run_on_system;
 use std::process::ExitCode;
 use std::{env, io};
 
-/// The exit status where the words of the command line can't be had.
-const NO_MEMORY: u8 = 6;
-
 fn main(rt: HostRuntime) -> ExitCode {
-    let Ok(words) = words(&rt) else {
-        return ExitCode::from(NO_MEMORY);
-    };
-    let mut files = StdFiles::new(&rt);
-    let mut input = StdSource::new(rt.stdin());
-    let mut out = StdSink::new(io::writer(&rt));
-    let mut clock = SystemClock::new(&rt);
-    ExitCode::from(run_offline(
+    ExitCode::from(run_on_system(
         rt.alloc(),
-        &words,
-        &mut files,
-        &mut input,
-        &mut out,
-        &mut clock,
+        env::args(&rt),
+        &rt,
+        rt.stdin(),
+        io::writer(&rt),
     ))
-}
-
-// The words behind the program's name.
-fn words(rt: &HostRuntime) -> io::Result<Vec<Text>> {
-    let mut words = Vec::new(rt.alloc());
-    for word in env::args(rt)?.skip(1) {
-        words.push(Text::new(rt.alloc(), word.as_str())?)?;
-    }
-    Ok(words)
 }

@@ -32,7 +32,8 @@ abbrev pub told_line : {A : Type 0} → Result A (List ℕ) → Option (List ℕ
 told_line (Ok x) = None
 told_line (Err line) = Some (line ++ line_feed)
 
--- a refusal is the line of what is told; a file that could not be read and want of memory say nothing
+-- a refusal is the line of what is told; a file that could not be read and want of memory say
+-- nothing
 abbrev pub IsFaultOf : {A : Type 0} → Result A (List ℕ) → CheckFault → Type 0
 IsFaultOf told (Refused line) = told_line told ≡ Some line.items
 IsFaultOf told FileFault = Unit {0}
@@ -69,7 +70,9 @@ Names name fault NoMemory = Unit {0}
 
 -- the line of one schedule, or why there is none
 abbrev pub line_for : Stored → ScheduleConf → Result (List ℕ) (List ℕ)
-line_for files schedule = timetable_or_line schedule.name (timetable files schedule.folder (plan_conf schedule)) >>= λ t. Ok (counts_line schedule.name t)
+line_for files schedule =
+    timetable_or_line schedule.name (timetable files schedule.folder (plan_conf schedule)) >>= λ t.
+    Ok (counts_line schedule.name t)
 
 -- behind lines that are there already
 abbrev pub with_front : List ℕ → Result (List ℕ) (List ℕ) → Result (List ℕ) (List ℕ)
@@ -78,7 +81,8 @@ with_front lines told = told >>= λ more. Ok (lines ++ more)
 -- the lines of schedules, one after another
 unfoldable pub lines_for : Stored → List ScheduleConf → Result (List ℕ) (List ℕ)
 lines_for files [] = Ok []
-lines_for files (schedule ∷ more) = line_for files schedule >>= λ line. with_front line (lines_for files more)
+lines_for files (schedule ∷ more) = line_for files schedule >>= λ line.
+    with_front line (lines_for files more)
 
 -- no file was asked for
 abbrev pub NeedsNoFile : {B : Type 0} → Result B CheckFault → Type 0
@@ -95,11 +99,13 @@ IsLine line NoMemory = Unit {0}
 
 -- the answer of a configuration's fault
 abbrev pub NamesConf : ConfFault → CheckFault → Type 0
-NamesConf fault (Refused line) = (line.items ≡ line_of fault ++ line_feed) × (fault ≡ conf.NoMemory → ⊥)
+NamesConf fault (Refused line) = (line.items ≡ line_of fault ++ line_feed)
+    × (fault ≡ conf.NoMemory → ⊥)
 NamesConf fault FileFault = ⊥
 NamesConf fault NoMemory = Unit {0}
 
--- the answer is the output that is told: all lines with status 0, or the line of the first fault with status 3
+-- the answer is the output that is told: all lines with status 0, or the line of the first fault
+-- with status 3
 abbrev pub Checks : Output → Result (Vec ℕ Global) CheckFault → Type 0
 Checks told (Ok lines) = told ≡ record { written = lines.items; status = 0 }
 Checks told (Err (Refused line)) = told ≡ record { written = line.items; status = 3 }
@@ -107,13 +113,16 @@ Checks told (Err FileFault) = Unit {0}
 Checks told (Err NoMemory) = Unit {0}
 
 -- the line that is told stands behind those that were there
-abbrev pub Adds : {B : Type 0} → Result (List ℕ) (List ℕ) → List ℕ → List ℕ → Result B CheckFault → Type 0
+abbrev pub Adds : {B : Type 0} → Result (List ℕ) (List ℕ) → List ℕ → List ℕ → Result B CheckFault
+    → Type 0
 Adds told old new (Ok x) = with_front old told ≡ Ok new
 Adds told old new (Err fault) = IsFaultOf told fault
 
 -- the line of a timetable by its numbers, in two parts
 abbrev pub network_text : List ℕ → Counts → List ℕ
-network_text name counts = name ++ codes " agencies " ++ decimal counts.agencies ++ codes " stops " ++ decimal counts.stops ++ codes " routes " ++ decimal counts.routes
+network_text name counts = name ++ codes " agencies " ++ decimal counts.agencies ++ codes " stops "
+    ++ decimal counts.stops ++ codes " routes " ++ decimal counts.routes
 
 abbrev pub traffic_text : List ℕ → Counts → List ℕ
-traffic_text network counts = network ++ codes " trips " ++ decimal counts.trips ++ codes " times " ++ decimal counts.times ++ codes " days " ++ decimal counts.days ++ line_feed
+traffic_text network counts = network ++ codes " trips " ++ decimal counts.trips ++ codes " times "
+    ++ decimal counts.times ++ codes " days " ++ decimal counts.days ++ line_feed

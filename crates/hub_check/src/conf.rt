@@ -1,4 +1,4 @@
-// The configuration in a file.
+//! The configuration in a file.
 ghost use Rattle.std.specs.Prelude.{◌≡◌, ◌++◌, IfOk, IfSome, true};
 ghost use Rattle.std.specs.List.{list_all};
 ghost use Rattle.hub_outside.specs.Files.{file_at};
@@ -17,14 +17,15 @@ use std::alloc::{AllocError, Global};
 /// The most bytes of a configuration.
 const LONGEST_CONF: u64 = 1_048_576;
 
-/// The configuration in the file at the path, or the line that tells why there is none. Each schedule has a
-/// window of days for which a timetable can be loaded.
+/// The configuration in the file at the path, or the line that tells why there is none. Each
+/// schedule has a window of days for which a timetable can be loaded.
 pub(crate) fn conf_at<F: Files>(
     alloc: Global,
     files: &mut F,
     path: &str,
 ) -> Result<HubConf, CheckFault>
-    ensures told { IfSome (F.contents files.old) (λ fs. Tells (λ conf. conf) (conf_in (file_at fs path.now)) result) }
+    ensures told { IfSome (F.contents files.old)
+        (λ fs. Tells (λ conf. conf) (conf_in (file_at fs path.now)) result) }
     ensures windows { IfOk result (λ conf. list_all has_window conf.schedules ≡ true) }
     ensures cause { HasCheckCause result (F.faults files.old) (F.faults files.new) }
     ensures same { F.contents files.new ≡ F.contents files.old }

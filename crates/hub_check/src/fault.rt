@@ -1,4 +1,4 @@
-// Why nothing is told of the timetables.
+//! Why nothing is told of the timetables.
 ghost use Rattle.std.specs.Prelude.{◌≡◌};
 
 use std::alloc::{AllocError, AllocFailed};

@@ -1,11 +1,12 @@
 //! Checks a configuration and its timetables.
 //!
-//! [`check`] reads the configuration at a path, loads each of its timetables in their order, and gives the
-//! lines that say how much each one has, or the line of the first fault. What the lines are is defined in
-//! `command_defs` (`Checks.checked`).
+//! [`check`] reads the configuration at a path, loads each of its timetables in their order, and
+//! gives the lines that say how much each one has, or the line of the first fault. What the lines
+//! are is defined in `command_defs` (`Checks.checked`).
 //!
-//! Of each timetable only its numbers are kept, so that one at a time is in memory. The crate stands on
-//! `hub_config` for the configuration, on `sched_load` for the timetables and on `hub_outside` for the files.
+//! Of each timetable only its numbers are kept, so that one at a time is in memory. The crate
+//! stands on `hub_config` for the configuration, on `sched_load` for the timetables and on
+//! `hub_outside` for the files.
 #![tactic(auto)]
 
 mod checking;
@@ -16,3 +17,4 @@ mod words;
 
 pub use checking::check;
 pub use fault::CheckFault;
+pub use std::alloc::AllocError as NoMemory;

@@ -1,4 +1,4 @@
-// The lines of the timetables.
+//! The lines of the timetables.
 ghost use Rattle.std.specs.Prelude.{◌≡◌, ◌≤◌, IfOk, IfSome, true};
 ghost use Rattle.std.specs.List.{list_all};
 ghost use Rattle.std.specs.String.{string_bytes};
@@ -17,15 +17,16 @@ use sched_load::load;
 use sched_types::{Counts, Plan};
 use std::alloc::{AllocError, Global};
 
-/// The lines of the schedules, in their order, or the line of the first fault. One timetable at a time is
-/// in memory.
+/// The lines of the schedules, in their order, or the line of the first fault. One timetable at a
+/// time is in memory.
 pub(crate) fn lines_of<F: Files>(
     alloc: Global,
     files: &mut F,
     schedules: &[ScheduleConf],
 ) -> Result<Vec<u8>, CheckFault>
     requires { list_all has_window schedules.now ≡ true }
-    ensures told { IfSome (F.contents files.old) (λ fs. Tells (λ lines. lines.items) (lines_for fs schedules.now) result) }
+    ensures told { IfSome (F.contents files.old)
+        (λ fs. Tells (λ lines. lines.items) (lines_for fs schedules.now) result) }
     ensures cause { HasCheckCause result (F.faults files.old) (F.faults files.new) }
     ensures same { F.contents files.new ≡ F.contents files.old }
 {
@@ -44,7 +45,8 @@ fn add_line<F: Files>(
     lines: &mut Vec<u8>,
 ) -> Result<(), CheckFault>
     requires { has_window schedule.now ≡ true }
-    ensures told { IfSome (F.contents files.old) (λ fs. Adds (line_for fs schedule.now) lines.old.items lines.new.items result) }
+    ensures told { IfSome (F.contents files.old)
+        (λ fs. Adds (line_for fs schedule.now) lines.old.items lines.new.items result) }
     ensures cause { HasCheckCause result (F.faults files.old) (F.faults files.new) }
     ensures same { F.contents files.new ≡ F.contents files.old }
 {
@@ -60,7 +62,8 @@ fn line_of<F: Files>(
     schedule: &ScheduleConf,
 ) -> Result<Vec<u8>, CheckFault>
     requires { has_window schedule.now ≡ true }
-    ensures told { IfSome (F.contents files.old) (λ fs. Tells (λ line. line.items) (line_for fs schedule.now) result) }
+    ensures told { IfSome (F.contents files.old)
+        (λ fs. Tells (λ line. line.items) (line_for fs schedule.now) result) }
     ensures cause { HasCheckCause result (F.faults files.old) (F.faults files.new) }
     ensures same { F.contents files.new ≡ F.contents files.old }
 {
@@ -76,7 +79,8 @@ fn plan_of<F: Files>(
 ) -> Result<Plan, CheckFault>
     requires { has_window schedule.now ≡ true }
     ensures told { IfSome (F.contents files.old) (λ fs.
-        Tells (λ plan. plan) (timetable_or_line schedule.now.name (timetable fs schedule.now.folder (plan_conf schedule.now))) result) }
+        Tells (λ plan. plan) (timetable_or_line schedule.now.name
+            (timetable fs schedule.now.folder (plan_conf schedule.now))) result) }
     ensures cause { HasCheckCause result (F.faults files.old) (F.faults files.new) }
     ensures same { F.contents files.new ≡ F.contents files.old }
 {

@@ -1,4 +1,4 @@
-// The line of a timetable that is refused.
+//! The line of a timetable that is refused.
 ghost use Rattle.std.specs.Prelude.{◌≡◌, ◌++◌, IfOk, codes};
 ghost use Rattle.std.specs.String.{string_bytes};
 ghost use Rattle.std.specs.Fmt.{decimal};
@@ -19,7 +19,8 @@ pub(crate) fn load_line(alloc: Global, name: &str, fault: LoadFault) -> Result<V
     Ok(line.into_bytes())
 }
 
-// What is wrong with a timetable. Of want of memory and of a file that can't be read nothing is said.
+// What is wrong with a timetable. Of want of memory and of a file that can't be read nothing is
+// said.
 fn load_words(alloc: Global, fault: LoadFault) -> Result<String, AllocError>
     ensures { IfOk result (λ words. string_bytes words ≡ told.load_words fault) }
 {
@@ -73,13 +74,15 @@ fn file_words(alloc: Global, what: &str, file: File) -> Result<String, AllocErro
 }
 
 fn column_words(alloc: Global, file: File, column: Column) -> Result<String, AllocError>
-    ensures { IfOk result (λ words. string_bytes words ≡ codes "column " ++ told.column_words file column) }
+    ensures { IfOk result (λ words. string_bytes words ≡ codes "column "
+        ++ told.column_words file column) }
 {
     format!(in alloc; "column {} {}", file.name(), column.name())
 }
 
 fn duplicate_words(alloc: Global, file: File, row: u32) -> Result<String, AllocError>
-    ensures { IfOk result (λ words. string_bytes words ≡ codes "duplicate " ++ file_name file ++ codes " " ++ decimal row) }
+    ensures { IfOk result (λ words. string_bytes words ≡ codes "duplicate " ++ file_name file
+        ++ codes " " ++ decimal row) }
 {
     format!(in alloc; "duplicate {} {row}", file.name())
 }
@@ -91,7 +94,8 @@ fn cell_words(
     row: u32,
     column: &str,
 ) -> Result<String, AllocError>
-    ensures { IfOk result (λ words. string_bytes words ≡ what.now ++ codes " " ++ (file.now ++ codes " " ++ decimal row ++ codes " " ++ column.now)) }
+    ensures { IfOk result (λ words. string_bytes words ≡ what.now ++ codes " "
+        ++ (file.now ++ codes " " ++ decimal row ++ codes " " ++ column.now)) }
 {
     format!(in alloc; "{what} {file} {row} {column}")
 }

@@ -9,10 +9,14 @@ use Rattle.toml.specs.Parse.{parse_document}
 use Rattle.hub_config.specs.declared.conf.ScheduleConf.{ScheduleConf}
 use Rattle.hub_config.specs.declared.conf.FeedConf.{FeedConf}
 use Rattle.hub_config.specs.declared.fault.ConfFault.{ConfFault}
-use Rattle.hub_config.specs.declared.fault.ConfFault.TheVariants.{Toml}
+use Rattle.hub_config.specs.declared.fault.ConfFault.TheVariants.{Toml, Bad, NoMemory}
 use Rattle.hub_config.specs.declared.fault.TableName.TheVariants.{Top}
 use Rattle.hub_config.specs.Conf.{conf_in, conf_of, feeds_in, hub_of, schedules_in, unless}
 use Rattle.hub_config.specs.Faults.{fault_in}
+use Rattle.answer_defs.specs.Defined.{IsCause}
+use Rattle.toml.specs.Errors.{IsMemory}
+use Rattle.toml.specs.declared.de.Error.{Error}
+use Rattle.hub_config.specs.Answer.{IsFaultOf, cause_of}
 use Rattle.hub_config.proofs.Rows.{goes_on, stops, passes}
 
 pub top_stops : (ms : Members) (e : ConfFault) → unless (fault_in Top 0 ms [] []) ms ≡ Err e → conf_in ms ≡ Err e
@@ -43,3 +47,10 @@ no_document bytes refused =
       | inl utf8 ↦ rw (utf8, refused (IsUtf8-from_is_utf8 bytes utf8))
       | inr other ↦ rw other
     ]
+
+-- what the reader of TOML refuses has no configuration, unless memory ran out
+pub refuses_document : (bytes : List ℕ) (e : Error) (fault : ConfFault) → (¬ IsMemory e → IsUtf8 bytes → parse_document bytes ≡ None) → IsFaultOf e fault
+    → IsCause (conf_of bytes) (cause_of fault)
+refuses_document bytes e Toml refused other = no_document bytes (refused other)
+refuses_document bytes e (Bad table row key why) refused h = absurd h
+refuses_document bytes e NoMemory refused h = tt

@@ -9,21 +9,22 @@ use Rattle.toml.proofs.Views.{items_view-drop}
 use Rattle.hub_config.specs.declared.fault.ConfFault.{ConfFault}
 use Rattle.hub_config.specs.declared.fault.ConfFault.TheVariants.{Toml, Bad, NoMemory}
 use Rattle.hub_config.specs.Conf.{added, and_then, rows_from, unless}
-use Rattle.hub_config.specs.Tells.{Refused, IsFault, Tells}
+use Rattle.answer_defs.specs.Defined.{AsDefined, IsCause}
+use Rattle.hub_config.specs.Answer.{IsFault, cause_of}
 
 -- the fault that a `?` passes on
-pub tells_passed : {A : Type 0} (defined : Result A ConfFault) (r : Result A ConfFault) (e : ConfFault) → IsErrAnd r (λ x. x ≡ e) → Refused defined e → Tells defined r
+pub tells_passed : {A : Type 0} (defined : Result A ConfFault) (r : Result A ConfFault) (e : ConfFault) → IsErrAnd r (λ x. x ≡ e) → IsCause defined (cause_of e) → AsDefined (λ x. x) cause_of defined r
 tells_passed defined (Ok x) e passed h = absurd passed
 tells_passed defined (Err y) e passed h = rw passed h
 
 -- a fault of a part is one of the whole, where each is
-pub refused_whole : {A B : Type 0} (part : Result A ConfFault) (whole : Result B ConfFault) (e : ConfFault) → ((f : ConfFault) → part ≡ Err f → whole ≡ Err f) → Refused part e → Refused whole e
+pub refused_whole : {A B : Type 0} (part : Result A ConfFault) (whole : Result B ConfFault) (e : ConfFault) → ((f : ConfFault) → part ≡ Err f → whole ≡ Err f) → IsCause part (cause_of e) → IsCause whole (cause_of e)
 refused_whole part whole Toml leads h = leads _ h
 refused_whole part whole (Bad table row key why) leads h = leads _ h
 refused_whole part whole NoMemory leads h = tt
 
 -- what a judge refuses has the judge's fault
-pub refuses : {A : Type 0} (o : Option ConfFault) (x : A) (e : ConfFault) → IsFault o e → Refused (unless o x) e
+pub refuses : {A : Type 0} (o : Option ConfFault) (x : A) (e : ConfFault) → IsFault o (cause_of e) → IsCause (unless o x) (cause_of e)
 refuses o x Toml h = rw h
 refuses o x (Bad table row key why) h = rw h
 refuses o x NoMemory h = tt

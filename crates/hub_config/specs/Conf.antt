@@ -17,7 +17,8 @@ use Rattle.hub_config.specs.Values.{number_at, text_at, tables_at, port_of}
 use Rattle.hub_config.specs.Faults.{fault_in}
 
 -- then what follows, where there was no fault
-abbrev pub and_then : {A B : Type 0} → Result A ConfFault → (A → Result B ConfFault) → Result B ConfFault
+abbrev pub and_then : {A B : Type 0} → Result A ConfFault → (A → Result B ConfFault)
+    → Result B ConfFault
 and_then (Ok x) more = more x
 and_then (Err e) more = Err e
 
@@ -55,18 +56,24 @@ unfoldable pub schedule_row : ℕ → List ScheduleConf → Members → Result S
 schedule_row row before ms = unless (fault_in Schedule row ms before []) (schedule_of ms)
 
 -- a row of `feed`, behind those before it
-unfoldable pub feed_row : List ScheduleConf → ℕ → List FeedConf → Members → Result FeedConf ConfFault
-feed_row schedules row before ms = unless (fault_in Feed row ms schedules before) (feed_of schedules ms)
+unfoldable pub feed_row : List ScheduleConf → ℕ → List FeedConf → Members
+    → Result FeedConf ConfFault
+feed_row schedules row before ms =
+    unless (fault_in Feed row ms schedules before) (feed_of schedules ms)
 
 -- one more row behind those before it, where there is a table
-unfoldable pub added : {A : Type 0} → (List A → Members → Result A ConfFault) → List A → Option Members → Result (List A) ConfFault
+unfoldable pub added : {A : Type 0} → (List A → Members → Result A ConfFault) → List A
+    → Option Members → Result (List A) ConfFault
 added row_of before None = Ok before
 added row_of before (Some ms) = and_then (row_of before ms) (λ value. Ok (before ++ value ∷ []))
 
--- the rows of an array of tables from a row on, behind those before it, or the first fault among them
-unfoldable pub rows_from : {A : Type 0} → (ℕ → List A → Members → Result A ConfFault) → ℕ → List A → Items → Result (List A) ConfFault
+-- the rows of an array of tables from a row on, behind those before it, or the first fault among
+-- them
+unfoldable pub rows_from : {A : Type 0} → (ℕ → List A → Members → Result A ConfFault) → ℕ → List A
+    → Items → Result (List A) ConfFault
 rows_from row_of row before no_items = Ok before
-rows_from row_of row before (item d ds) = and_then (added (row_of row) before (as_table d)) (λ more. rows_from row_of (row + 1) more ds)
+rows_from row_of row before (item d ds) =
+    and_then (added (row_of row) before (as_table d)) (λ more. rows_from row_of (row + 1) more ds)
 
 -- the configuration that a document says
 unfoldable pub hub_of : Members → List ScheduleConf → List FeedConf → HubConf
@@ -85,7 +92,8 @@ schedules_in ms = rows_from schedule_row 1 [] (tables_at key.Schedules ms)
 abbrev pub feeds_in : Members → List ScheduleConf → Result (List FeedConf) ConfFault
 feeds_in ms schedules = rows_from (feed_row schedules) 1 [] (tables_at key.Feeds ms)
 
--- the configuration of a document, or its first fault: of its own keys, then of the schedules, then of the feeds
+-- the configuration of a document, or its first fault: of its own keys, then of the schedules, then
+-- of the feeds
 unfoldable pub conf_in : Members → Result HubConf ConfFault
 conf_in ms =
     and_then (unless (fault_in Top 0 ms [] []) ms) (λ _.

@@ -3,6 +3,6 @@ pub mod Seen
 pub mod Values
 pub mod Faults
 pub mod Conf
-pub mod Tells
+pub mod Answer
 pub mod Lines
 pub mod Right

@@ -1,6 +1,7 @@
 -- The line that a command prints for a fault, without the LF at its end.
-use Rattle.std.specs.Prelude.{ℕ, List, [], ◌++◌, ◌==◌, ◌||◌, nat_lt, if◌then◌else◌, map, codes}
+use Rattle.std.specs.Prelude.{ℕ, List, [], ◌++◌, codes}
 use Rattle.std.specs.Fmt.{decimal}
+use Rattle.text_defs.specs.Cleaned.{cleaned_text}
 use Rattle.hub_config.specs.declared.fault.TableName.{TableName}
 use Rattle.hub_config.specs.declared.fault.TableName.TheVariants.{Top, Schedule, Feed}
 use Rattle.hub_config.specs.declared.fault.ConfWhy.{ConfWhy}
@@ -22,15 +23,10 @@ why_word why.Bad = codes "bad"
 why_word why.Twice = codes "twice"
 why_word why.NoName = codes "noname"
 
--- a text without control characters of ASCII: a space stands for each
-abbrev pub clean_byte : ℕ → ℕ
-clean_byte b = if nat_lt b 32 || (b == 127) then 32 else b
-
-abbrev pub cleaned : List ℕ → List ℕ
-cleaned key = map clean_byte key
-
 -- the line: where the fault is, and what is wrong there
 unfoldable pub line_of : ConfFault → List ℕ
 line_of Toml = codes "hub: config toml"
-line_of (Bad table row key why) = codes "hub: config " ++ (table_word table ++ (codes " " ++ (decimal row ++ codes " "))) ++ cleaned key ++ codes " " ++ why_word why
+line_of (Bad table row key why) = codes "hub: config "
+    ++ (table_word table ++ (codes " " ++ (decimal row ++ codes " "))) ++ cleaned_text key
+    ++ codes " " ++ why_word why
 line_of NoMemory = []

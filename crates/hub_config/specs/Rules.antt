@@ -23,8 +23,10 @@ pub record Rule : Type 0 where
 -- the keys, a line each
 unfoldable pub rule_of : Key → Rule
 rule_of Readers = record { name = codes "readers"; holds = Number 1 64; absent = number 2 }
-rule_of Listen = record { name = codes "listen"; holds = AnyText; absent = text (codes "127.0.0.1:8080") }
-rule_of Connections = record { name = codes "connections"; holds = Number 0 1000000000; absent = number 0 }
+rule_of Listen = record { name = codes "listen"; holds = AnyText;
+    absent = text (codes "127.0.0.1:8080") }
+rule_of Connections = record { name = codes "connections"; holds = Number 0 1000000000;
+    absent = number 0 }
 rule_of Schedules = record { name = codes "schedule"; holds = Tables 1 8; absent = required }
 rule_of Feeds = record { name = codes "feed"; holds = Tables 0 64; absent = no_tables }
 rule_of ScheduleName = record { name = codes "name"; holds = NewSchedule; absent = required }

@@ -6,6 +6,7 @@ use Rattle.std.specs.Str.{bytes_eq}
 use Rattle.std.specs.Char.{is_ascii_digit}
 use Rattle.std.specs.Prelude.{codes}
 use Rattle.std.specs.Str.Parse.{digits_value}
+use Rattle.text_defs.specs.Names.{is_name}
 use Rattle.text_defs.specs.Dates.{is_day}
 use Rattle.toml.specs.Data.{Data, Items, no_items, item, Members, get_member, as_integer, as_str, as_array, as_table}
 use Rattle.hub_config.specs.declared.rule.Key.{Key}
@@ -34,15 +35,8 @@ is_window_date date = nat_le 19700201 date && nat_le date 29991231 && is_day dat
 
 -- the number of such digits
 unfoldable pub date_of : List ℕ → Option ℕ
-date_of t = option_and_then (λ date. if is_window_date date then Some date else None) (eight_digits t)
-
--- a to z, 0 to 9 or _
-abbrev pub is_name_byte : ℕ → Bool
-is_name_byte b = (nat_le 97 b && nat_le b 122) || (nat_le 48 b && nat_le b 57) || (b == 95)
-
--- a name is 1 to 32 of these
-unfoldable pub is_name : List ℕ → Bool
-is_name t = nat_le 1 (length t) && nat_le (length t) 32 && list_all is_name_byte t
+date_of t =
+    option_and_then (λ date. if is_window_date date then Some date else None) (eight_digits t)
 
 -- the way that a word names in which messages come to a feed
 unfoldable pub port_of : List ℕ → Option PortKind
@@ -87,12 +81,14 @@ are_tables (item d ds) = is_table d && are_tables ds
 
 -- whether a key may hold the array
 unfoldable pub is_array_for : Holds → Items → Bool
-is_array_for (Tables least most) ds = nat_le least (count ds) && nat_le (count ds) most && are_tables ds
+is_array_for (Tables least most) ds = nat_le least (count ds) && nat_le (count ds) most
+    && are_tables ds
 is_array_for _ ds = false
 
 -- the tables that a value says
 unfoldable pub tables_of : Holds → Data → Option Items
-tables_of holds d = option_and_then (λ ds. if is_array_for holds ds then Some ds else None) (as_array d)
+tables_of holds d =
+    option_and_then (λ ds. if is_array_for holds ds then Some ds else None) (as_array d)
 
 -- what stands for an absent number and an absent text
 abbrev pub default_number : Default → ℕ
@@ -105,13 +101,19 @@ default_text _ = []
 
 -- what a table says at a key, or what stands for it there
 unfoldable pub number_at : Key → Members → ℕ
-number_at key ms = unwrap_or (option_and_then (number_of (rule_of key).holds) (get_member (rule_of key).name ms)) (default_number (rule_of key).absent)
+number_at key ms =
+    unwrap_or (option_and_then (number_of (rule_of key).holds) (get_member (rule_of key).name ms))
+    (default_number (rule_of key).absent)
 
 unfoldable pub text_at : Key → Members → List ℕ
-text_at key ms = unwrap_or (option_and_then (text_of (rule_of key).holds) (get_member (rule_of key).name ms)) (default_text (rule_of key).absent)
+text_at key ms =
+    unwrap_or (option_and_then (text_of (rule_of key).holds) (get_member (rule_of key).name ms))
+    (default_text (rule_of key).absent)
 
 unfoldable pub tables_at : Key → Members → Items
-tables_at key ms = unwrap_or (option_and_then (tables_of (rule_of key).holds) (get_member (rule_of key).name ms)) no_items
+tables_at key ms =
+    unwrap_or (option_and_then (tables_of (rule_of key).holds) (get_member (rule_of key).name ms))
+    no_items
 
 -- at most so many tables stand at a key
 abbrev pub most_tables : Holds → ℕ

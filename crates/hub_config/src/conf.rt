@@ -1,4 +1,4 @@
-// The configuration of a hub.
+//! The configuration of a hub.
 
 use rt_types::{Items, Text};
 
@@ -22,7 +22,8 @@ pub struct ScheduleConf {
     pub folder: Text,
     /// The rule of its time zone, in the form of the POSIX variable TZ.
     pub zone: Text,
-    /// The first day of its window, as the number of the eight digits YYYYMMDD, 19700201 to 29991231.
+    /// The first day of its window, as the number of the eight digits YYYYMMDD, 19700201 to
+    /// 29991231.
     pub first: u32,
     /// How many days the window has, 1 to 400.
     pub days: u32,

@@ -1,4 +1,4 @@
-// Why there is no configuration.
+//! Why there is no configuration.
 
 ghost use Rattle.std.specs.Prelude.{◌≡◌};
 
@@ -38,8 +38,8 @@ pub enum ConfFault {
     /// The bytes are no TOML document.
     #[error("no TOML document")]
     Toml,
-    /// The first fault of the tables: the row, from 1 among the tables of its kind and 0 for the document
-    /// itself, and the key as it is written.
+    /// The first fault of the tables: the row, from 1 among the tables of its kind and 0 for the
+    /// document itself, and the key as it is written.
     #[error("the key {} of row {row} is wrong", key.as_str())]
     Bad {
         table: TableName,

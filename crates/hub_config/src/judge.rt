@@ -1,4 +1,4 @@
-// The first fault of a table.
+//! The first fault of a table.
 
 ghost use Rattle.std.specs.Prelude.{◌≡◌, not, option_map, string_bytes};
 ghost use Rattle.std.specs.BTreeMap as tree;
@@ -8,7 +8,7 @@ ghost use Rattle.toml.specs.View.{view, table_view};
 ghost use Rattle.hub_config.specs.Faults as faults;
 ghost use Rattle.hub_config.specs.Rules.{rule_of};
 ghost use Rattle.hub_config.specs.Seen.{absent_seen};
-ghost use Rattle.hub_config.specs.Tells.{Judges};
+ghost use Rattle.hub_config.specs.Answer.{Judges};
 
 use crate::conf::{FeedConf, ScheduleConf};
 use crate::fault::{ConfFault, ConfWhy, TableName};
@@ -122,13 +122,15 @@ fn is_known(keys: &[Key], name: &str) -> bool
 
 /// The first name of a table, in byte order, that none of the keys has.
 fn first_unknown<'a>(keys: &[Key], table: &'a Table) -> Option<&'a String>
-    ensures { option_copied result ≡ find (λ name. not (faults.is_known keys.now (string_bytes name))) (tree.keys table.entry.now) }
+    ensures { option_copied result ≡ find (λ name.
+        not (faults.is_known keys.now (string_bytes name))) (tree.keys table.entry.now) }
 {
     table.keys().find(|name| !is_known(keys, name.as_str()))
 }
 
 fn unknown_in<'a>(keys: &[Key], table: &'a Table) -> Option<&'a str>
-    ensures { option_map (λ name. name.now) result ≡ faults.unknown_in keys.now (table_view table.entry.now) }
+    ensures { option_map (λ name. name.now) result ≡ faults.unknown_in keys.now
+        (table_view table.entry.now) }
 {
     match first_unknown(keys, table) {
         Some(name) => Some(name.as_str()),
@@ -143,7 +145,8 @@ fn wrong_in(
     schedules: &[ScheduleConf],
     feeds: &[FeedConf],
 ) -> Option<(Key, ConfWhy)>
-    ensures { option_map (λ wrong. ((rule_of wrong.0).name, wrong.1)) result ≡ faults.wrong_in keys.now (table_view table.now) schedules.now feeds.now }
+    ensures { option_map (λ wrong. ((rule_of wrong.0).name, wrong.1)) result ≡ faults.wrong_in
+        keys.now (table_view table.now) schedules.now feeds.now }
 {
     for key in keys {
         if let Some(why) = key_fault(*key, table, schedules, feeds) {
@@ -153,7 +156,8 @@ fn wrong_in(
     None
 }
 
-/// The first fault of a table: a name that no key has, else the first of the keys with which something is wrong.
+/// The first fault of a table: a name that no key has, else the first of the keys with which
+/// something is wrong.
 #[tactic(auto, unfolding(crate::specs::Faults::first_wrong))]
 fn first_wrong<'a>(
     name: TableName,
@@ -161,7 +165,8 @@ fn first_wrong<'a>(
     schedules: &[ScheduleConf],
     feeds: &[FeedConf],
 ) -> Option<(&'a str, ConfWhy)>
-    ensures { option_map (λ wrong. (wrong.0.now, wrong.1)) result ≡ faults.first_wrong name (table_view table.entry.now) schedules.now feeds.now }
+    ensures { option_map (λ wrong. (wrong.0.now, wrong.1)) result ≡ faults.first_wrong name
+        (table_view table.entry.now) schedules.now feeds.now }
 {
     let keys = name.keys();
     match unknown_in(keys, table) {
@@ -182,7 +187,8 @@ pub fn judge(
     schedules: &[ScheduleConf],
     feeds: &[FeedConf],
 ) -> Result<(), ConfFault>
-    ensures { Judges (faults.fault_in name row (table_view table.now) schedules.now feeds.now) result }
+    ensures { Judges (faults.fault_in name row (table_view table.now) schedules.now feeds.now)
+        result }
 {
     match first_wrong(name, table, schedules, feeds) {
         Some((key, why)) => Err(ConfFault::Bad {

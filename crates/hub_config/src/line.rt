@@ -1,11 +1,13 @@
-// The line that a command prints for a fault.
+//! The line that a command prints for a fault.
 
 ghost use Rattle.std.specs.Prelude.{◌≡◌, ◌++◌, codes, IfOk, string_bytes};
 ghost use Rattle.std.specs.Fmt.{decimal};
 ghost use Rattle.hub_config.specs.Lines as lines;
 
 use crate::fault::{ConfFault, ConfWhy, TableName};
-use std::alloc::{AllocError, Global};
+use crate::NoMemory;
+use std::alloc::Global;
+use texts::push_cleaned;
 
 impl TableName {
     /// The table's word in a printed fault.
@@ -35,30 +37,20 @@ impl ConfWhy {
     }
 }
 
-fn clean_byte(byte: u8) -> u8
-    ensures { result ≡ lines.clean_byte byte }
-{
-    if byte < 32 || byte == 127 { b' ' } else { byte }
-}
-
-/// A text with a space for each control character of ASCII, so that it stays on its line.
-fn cleaned(alloc: Global, text: &[u8]) -> Result<Vec<u8>, AllocError>
-    ensures { IfOk result (λ clean. clean.items ≡ lines.cleaned text.now) }
-{
-    text.iter().map(|byte| clean_byte(*byte)).collect(alloc)
-}
-
-fn place(alloc: Global, table: TableName, row: u32) -> Result<String, AllocError>
-    ensures { IfOk result (λ text. string_bytes text ≡ codes "hub: config " ++ (lines.table_word table ++ (codes " " ++ (decimal row ++ codes " ")))) }
+// The front of a line: where the fault is.
+fn place(alloc: Global, table: TableName, row: u32) -> Result<String, NoMemory>
+    ensures { IfOk result (λ text. string_bytes text ≡ codes "hub: config "
+        ++ (lines.table_word table ++ (codes " " ++ (decimal row ++ codes " ")))) }
 {
     format!(in alloc; "hub: config {} {} ", table.word(), row)
 }
 
 /// The line that a command prints for a fault, without the LF at its end: `hub: config toml`, or
-/// `hub: config <table> <row> <key> <why>` with a space for each control character of ASCII in the key. The
-/// line for want of memory is empty: it is no fault of the configuration, and nothing is printed for it.
+/// `hub: config <table> <row> <key> <why>` with a space for each control character of ASCII in the
+/// key. The line for want of memory is empty: it is no fault of the configuration, and nothing is
+/// printed for it.
 #[tactic(auto, unfolding(crate::specs::Lines::line_of))]
-pub fn fault_line(alloc: Global, fault: &ConfFault) -> Result<Vec<u8>, AllocError>
+pub fn fault_line(alloc: Global, fault: &ConfFault) -> Result<Vec<u8>, NoMemory>
     ensures { IfOk result (λ line. line.items ≡ lines.line_of fault.now) }
 {
     match fault {
@@ -70,9 +62,8 @@ pub fn fault_line(alloc: Global, fault: &ConfFault) -> Result<Vec<u8>, AllocErro
             why,
         } => {
             let place = place(alloc, *table, *row)?;
-            let key = cleaned(alloc, key.as_str().as_bytes())?;
             let mut line = Vec::from_slice(alloc, place.as_bytes())?;
-            line.extend_from_slice(key.as_slice())?;
+            push_cleaned(key.as_str().as_bytes(), &mut line)?;
             line.extend_from_slice(b" ")?;
             line.extend_from_slice(why.word().as_bytes())?;
             Ok(line)

@@ -1,4 +1,4 @@
-// The configuration of a document.
+//! The configuration of a document.
 
 ghost use Rattle.std.specs.Prelude.{◌≡◌, ℕ, ◌+◌, ◌<◌, ◌≤◌, ◌^◌, List, [], length, Result, IfOk, IfSome};
 ghost use Rattle.std.specs.List.{position};
@@ -6,7 +6,8 @@ ghost use Rattle.std.specs.Str.{bytes_eq};
 ghost use Rattle.toml.specs.Data.{Members};
 ghost use Rattle.toml.specs.View.{items_view, table_view};
 ghost use Rattle.hub_config.specs.Conf as conf;
-ghost use Rattle.hub_config.specs.Tells.{Tells};
+ghost use Rattle.answer_defs.specs.Defined.{AsDefined};
+ghost use Rattle.hub_config.specs.Answer.{IsFaultOf, cause_of};
 ghost use Rattle.hub_config.specs.declared.conf.ScheduleConf.{ScheduleConf as Schedule};
 ghost use Rattle.hub_config.specs.declared.fault.ConfFault.{ConfFault as Fault};
 
@@ -16,7 +17,9 @@ use crate::judge::judge;
 use crate::rule::Key;
 use crate::value::{number_at, port_of, tables_at, text_at};
 use rt_types::{Items, Text};
-use std::alloc::{AllocError, Global};
+use crate::NoMemory;
+use std::alloc::Global;
+use toml::de::Error;
 use toml::{Table, Value};
 
 /// What a table of an array of tables says.
@@ -32,11 +35,12 @@ trait Row: Drop {
         before: &[Self],
     ) -> Result<Self, ConfFault>
         requires { length schedules.now < 2 ^ 32 }
-        ensures { Tells (row_of schedules.now row before.now (table_view table.now)) result };
+        ensures { AsDefined (λ x. x) cause_of
+            (row_of schedules.now row before.now (table_view table.now)) result };
 }
 
 #[tactic(auto, unfolding(crate::specs::Conf::schedule_of))]
-fn schedule_of(alloc: Global, table: &Table) -> Result<ScheduleConf, AllocError>
+fn schedule_of(alloc: Global, table: &Table) -> Result<ScheduleConf, NoMemory>
     ensures { IfOk result (λ schedule. schedule ≡ conf.schedule_of (table_view table.now)) }
 {
     Ok(ScheduleConf {
@@ -88,7 +92,7 @@ fn index_of(name: &str, schedules: &[ScheduleConf]) -> u32
 }
 
 #[tactic(auto, unfolding(crate::specs::Conf::feed_of))]
-fn feed_of(alloc: Global, table: &Table, schedules: &[ScheduleConf]) -> Result<FeedConf, AllocError>
+fn feed_of(alloc: Global, table: &Table, schedules: &[ScheduleConf]) -> Result<FeedConf, NoMemory>
     requires { length schedules.now < 2 ^ 32 }
     ensures { IfOk result (λ feed. feed ≡ conf.feed_of schedules.now (table_view table.now)) }
 {
@@ -125,7 +129,8 @@ fn read_rows<R: Row>(
 ) -> Result<Items<R>, ConfFault>
     requires few { length values.now ≤ 64 }
     requires few_schedules { length schedules.now < 2 ^ 32 }
-    ensures rows { Tells (conf.rows_from (R.row_of schedules.now) 1 [] (items_view values.now)) result }
+    ensures rows { AsDefined (λ x. x) cause_of
+        (conf.rows_from (R.row_of schedules.now) 1 [] (items_view values.now)) result }
     ensures few { IfOk result (λ rows. length rows ≤ length values.now) }
 {
     let mut rows = Vec::new(alloc);
@@ -146,7 +151,7 @@ fn hub_of(
     table: &Table,
     schedules: Items<ScheduleConf>,
     feeds: Items<FeedConf>,
-) -> Result<HubConf, AllocError>
+) -> Result<HubConf, NoMemory>
     ensures { IfOk result (λ hub. hub ≡ conf.hub_of (table_view table.now) schedules feeds) }
 {
     Ok(HubConf {
@@ -161,7 +166,7 @@ fn hub_of(
 /// The configuration of a document, or its first fault.
 #[tactic(auto, unfolding(crate::specs::Rules::rule_of))]
 fn conf_in(alloc: Global, table: &Table) -> Result<HubConf, ConfFault>
-    ensures { Tells (conf.conf_in (table_view table.now)) result }
+    ensures { AsDefined (λ x. x) cause_of (conf.conf_in (table_view table.now)) result }
 {
     judge(alloc, TableName::Top, 0, table, &[], &[])?;
     let schedules = read_rows::<ScheduleConf>(alloc, tables_at(table, Key::Schedules), &[])?;
@@ -169,15 +174,26 @@ fn conf_in(alloc: Global, table: &Table) -> Result<HubConf, ConfFault>
     Ok(hub_of(alloc, table, schedules, feeds)?)
 }
 
-/// Reads a configuration, a document of TOML 1.1 in UTF-8: the configuration, or the first fault. The document's
-/// own keys are judged first, then the schedules by row, and then the feeds. Of a table the unknown names come
-/// first, in byte order, and then its keys in the order of their table, each for all that may be wrong with it.
+/// Reads a configuration, a document of TOML 1.1 in UTF-8: the configuration, or the first fault.
+/// The document's own keys are judged first, then the schedules by row, and then the feeds. Of a
+/// table the unknown names come first, in byte order, and then its keys in the order of their
+/// table, each for all that may be wrong with it.
 pub fn read_conf(alloc: Global, bytes: &[u8]) -> Result<HubConf, ConfFault>
-    ensures { Tells (conf.conf_of bytes.now) result }
+    ensures { AsDefined (λ x. x) cause_of (conf.conf_of bytes.now) result }
 {
     match toml::table_from_slice(alloc, bytes) {
         Ok(table) => conf_in(alloc, &table),
-        Err(error) if error.is_memory() => Err(ConfFault::NoMemory),
-        Err(_) => Err(ConfFault::Toml),
+        Err(error) => Err(fault_of(&error)),
+    }
+}
+
+// Why bytes are no document: they aren't TOML, or memory ran out.
+fn fault_of(error: &Error) -> ConfFault
+    ensures { IsFaultOf error.now result }
+{
+    if error.is_memory() {
+        ConfFault::NoMemory
+    } else {
+        ConfFault::Toml
     }
 }

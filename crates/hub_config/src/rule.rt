@@ -1,4 +1,4 @@
-// The keys of the tables of a configuration, and what each may hold.
+//! The keys of the tables of a configuration, and what each may hold.
 
 ghost use Rattle.std.specs.Prelude.{◌≡◌};
 ghost use Rattle.hub_config.specs.Rules as rules;
@@ -72,7 +72,8 @@ pub struct Rule {
 
 impl Rule {
     fn new(name: &'static str, holds: Holds, absent: Absent) -> Self
-        ensures { rule_seen result ≡ record { name = name.now; holds = holds; absent = absent_seen absent } }
+        ensures { rule_seen result ≡ record { name = name.now; holds = holds;
+            absent = absent_seen absent } }
     {
         Rule {
             name,

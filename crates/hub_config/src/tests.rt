@@ -1,4 +1,4 @@
-// Configurations and faults from outside, written by hand after the table of keys.
+//! Configurations and faults from outside, written by hand after the table of keys.
 
 use crate::{ConfFault, NoMemory, PortKind, fault_line, read_conf};
 use std::alloc::Global;

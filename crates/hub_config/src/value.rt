@@ -1,4 +1,4 @@
-// What the value at a key says.
+//! What the value at a key says.
 
 ghost use Rattle.std.specs.Prelude.{◌≡◌, ◌≤◌, ◌&&◌, nat_le, true, length, option_map, IfSome};
 ghost use Rattle.std.specs.Char.{is_ascii_digit};
@@ -11,7 +11,7 @@ ghost use Rattle.hub_config.specs.Values as values;
 
 use crate::conf::PortKind;
 use crate::rule::{Absent, Holds, Key};
-use texts::is_valid_date;
+use texts::{is_name, is_valid_date};
 use toml::{Table, Value};
 
 /// The value at a key.
@@ -54,8 +54,8 @@ fn eight_digits(text: &str) -> Option<u32>
     }
 }
 
-/// The number of eight digits YYYYMMDD of a day of the Gregorian calendar from 1 February 1970 to 31 December
-/// 2999 (GTFS Schedule, "Field Types", Date).
+/// The number of eight digits YYYYMMDD of a day of the Gregorian calendar from 1 February 1970 to
+/// 31 December 2999 (GTFS Schedule, "Field Types", Date).
 #[tactic(auto, unfolding(crate::specs::Values::date_of))]
 fn date_of(text: &str) -> Option<u32>
     ensures { result ≡ values.date_of text.now }
@@ -70,27 +70,6 @@ fn is_window_date(date: u32) -> bool
     ensures { result ≡ values.is_window_date date }
 {
     19_700_201 <= date && date <= 29_991_231 && is_valid_date(date)
-}
-
-fn is_name_byte(byte: u8) -> bool
-    ensures { result ≡ values.is_name_byte byte }
-{
-    matches!(byte, b'a'..=b'z' | b'0'..=b'9' | b'_')
-}
-
-fn has_name_bytes(text: &str) -> bool
-    ensures { result ≡ list_all values.is_name_byte text.now }
-{
-    text.as_bytes().iter().all(|byte| is_name_byte(*byte))
-}
-
-/// Whether a text is a name: 1 to 32 of a to z, 0 to 9 and `_`.
-#[tactic(auto, unfolding(crate::specs::Values::is_name))]
-fn is_name(text: &str) -> bool
-    ensures { result ≡ values.is_name text.now }
-{
-    let has_length = 1 <= text.len() && text.len() <= 32;
-    has_length && has_name_bytes(text)
 }
 
 /// The way that a word names in which messages come to a feed.
@@ -134,7 +113,7 @@ fn is_text_for(holds: Holds, text: &str) -> bool
     match holds {
         Holds::AnyText | Holds::KnownSchedule => true,
         Holds::ShortText(most) => text.len() <= most as usize,
-        Holds::NewSchedule | Holds::NewFeed => is_name(text),
+        Holds::NewSchedule | Holds::NewFeed => is_name(text.as_bytes()),
         Holds::Port => port_of(text).is_some(),
         Holds::Number(_, _) | Holds::Date | Holds::Tables(_, _) => false,
     }
@@ -183,7 +162,8 @@ fn is_array_for(holds: Holds, rows: &[Value]) -> bool
 /// The tables that a value says, where its key may hold them.
 #[tactic(auto, unfolding(crate::specs::Values::tables_of))]
 pub fn tables_of(holds: Holds, value: &Value) -> Option<&[Value]>
-    ensures value { option_map (λ rows. items_view rows.now) result ≡ values.tables_of holds (view value.now) }
+    ensures value { option_map (λ rows. items_view rows.now) result ≡ values.tables_of holds
+        (view value.now) }
     ensures few { IfSome result (λ rows. length rows.now ≤ values.most_tables holds) }
 {
     match value.as_array() {

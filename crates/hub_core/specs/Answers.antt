@@ -10,14 +10,21 @@ use Rattle.hub_core.specs.Hub.{Kept}
 -- the cause that a refusal tells, with its values; want of memory tells none
 abbrev pub cause_of : Refusal → Option Cause
 cause_of (TooLong len) = Some (LongCause len)
-cause_of (Malformed entity what kind field) = Some (FaultCause (record { entity = entity; what = what; kind = kind; field = field }))
+cause_of (Malformed entity what kind field) = Some (FaultCause (record {
+  entity = entity;
+  what = what;
+  kind = kind;
+  field = field;
+}))
 cause_of (Version version) = Some (VersionCause version)
 cause_of (BadStamp got) = Some (StampCause got)
 cause_of (Stale last got) = Some (StaleCause last got)
 cause_of NoMemory = None
 
--- An offered message stands at the end of the history, whose new length is the answer, or it is refused
--- with its cause and the hub is as it was.
+-- An offered message stands at the end of the history, whose new length is the answer, or it is
+-- refused with its cause and the hub is as it was.
 abbrev pub Offers : ℕ → List ℕ → Kept → Kept → Result ℕ Refusal → Type 0
-Offers feed bytes old new (Ok count) = (offer_outcome feed bytes old.history ≡ record { reply = Ok count; history = new.history }) × (new.names ≡ old.names)
-Offers feed bytes old new (Err refusal) = IsCause (offer_outcome feed bytes old.history).reply (cause_of refusal) × (new ≡ old)
+Offers feed bytes old new (Ok count) = (offer_outcome feed bytes old.history
+    ≡ record { reply = Ok count; history = new.history }) × (new.names ≡ old.names)
+Offers feed bytes old new (Err refusal) = IsCause (offer_outcome feed bytes old.history).reply
+    (cause_of refusal) × (new ≡ old)

@@ -14,29 +14,39 @@ pub record Kept : Type 0 where
   pub history : List Entry
 
 -- the tables are what each feed holds
-pub record AreHeld (history : List Entry) (tables : List (List Change)) : Type 0 where
+pub record AreTablesOf (history : List Entry) (tables : List (List Change)) : Type 0 where
   pub stand : (feed : ℕ) → slice_index_or tables feed [] ≡ entities_of (messages_of feed history)
 
--- the history is legal, the list of stamps has the last stamp of each feed, and the tables are what each holds
-pub record IsKept (names : List (List ℕ)) (history : List Entry) (stamps : List ℕ) (tables : List (List Change)) : Type 0 where
+-- the history is legal, the list of stamps has the last stamp of each feed, and the tables are what
+-- each holds
+pub record KeepsHistory (names : List (List ℕ)) (history : List Entry) (stamps : List ℕ)
+    (tables : List (List Change)) : Type 0 where
   pub legal : IsLegal (length names) history
   pub counted : length stamps ≡ length names
   pub tabled : length tables ≡ length names
   pub newest : (feed : ℕ) → slice_index stamps feed ≡ last_stamp feed history
-  pub held : AreHeld history tables
+  pub held : AreTablesOf history tables
 
 -- the greatest number of a list, 0 if it is empty
 abbrev pub greatest : List ℕ → ℕ
 greatest numbers = fold max 0 numbers
 
 -- what the feed of a number has in the tables, under its name
-abbrev pub tabled_entities : List (List Change) → ℕ × List ℕ → List Entity
-tabled_entities tables (feed, name) = map (λ change. entity_under_feed name change.1.entity) (slice_index_or tables feed [])
+abbrev pub entities_in_tables : List (List Change) → ℕ × List ℕ → List Entity
+entities_in_tables tables (
+  feed,
+  name,
+) = map (λ change. entity_under_feed name change.1.entity) (slice_index_or tables feed [])
 
 -- the whole data set of these names, last stamps and tables
 abbrev pub message_of : List (List ℕ) → List ℕ → List (List Change) → FeedMessage
 message_of names stamps tables = record {
-  header = record { version = codes "2.0"; incrementality = Some FullDataset; timestamp = Some (greatest stamps); unknown = [] };
-  entity = flat_map (tabled_entities tables) (enumerate_from 0 names);
+  header = record {
+    version = codes "2.0";
+    incrementality = Some FullDataset;
+    timestamp = Some (greatest stamps);
+    unknown = [];
+  };
+  entity = flat_map (entities_in_tables tables) (enumerate_from 0 names);
   unknown = [];
 }

@@ -3,7 +3,7 @@
 ghost use Rattle.std.specs.Prelude.{◌≡◌, ◌++◌, map, length, IfOk, OnOk};
 ghost use Rattle.std.specs.List.{flat_map, enumerate_from};
 ghost use Rattle.feed_defs.specs.Combined.{entity_under_feed};
-ghost use Rattle.hub_core.specs.Hub.{greatest, tabled_entities, message_of};
+ghost use Rattle.hub_core.specs.Hub.{greatest, entities_in_tables, message_of};
 
 use crate::NoMemory;
 use entity_table::Table;
@@ -48,7 +48,7 @@ fn greatest(numbers: &[u64]) -> u64
 fn named_entities(alloc: Global, names: &[Text], tables: &[Table]) -> Result<Vec<Entity>, NoMemory>
     requires { length tables.now ≡ length names.now }
     ensures { IfOk result (λ entities. entities.items
-        ≡ flat_map (tabled_entities tables.now) (enumerate_from 0 names.now)) }
+        ≡ flat_map (entities_in_tables tables.now) (enumerate_from 0 names.now)) }
 {
     let mut entities = Vec::new(alloc);
     for (feed, name) in names.iter().enumerate() {

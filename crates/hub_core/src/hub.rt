@@ -29,13 +29,14 @@ pub struct ReplayHub {
 }
 
 impl Model for ReplayHub {
-    ghost use Rattle.hub_core.specs.Hub.{Kept, IsKept};
+    ghost use Rattle.hub_core.specs.Hub.{Kept, KeepsHistory};
 
     ghost Value = { Kept };
 
     ghost view = { λ hub. record { names = hub.names.items; history = hub.history.items } };
 
-    ghost invariant = { λ hub. IsKept hub.names.items hub.history.items hub.stamps.items hub.tables.items };
+    ghost invariant = { λ hub. KeepsHistory
+        hub.names.items hub.history.items hub.stamps.items hub.tables.items };
 }
 
 impl ReplayHub {
@@ -51,6 +52,13 @@ impl ReplayHub {
             stamps,
             tables,
         })
+    }
+
+    /// The names of its feeds, by number.
+    pub fn names(&self) -> &[Text]
+        ensures { result.now ≡ self.now.names }
+    {
+        self.names.as_slice()
     }
 
     /// Takes the message of the bytes for the feed of that number, and answers how many messages the hub

@@ -1,72 +1,124 @@
--- From what a command's own function tells to what running it comes to, by the command that the words are.
-use Rattle.std.proofs.Common.{◌≡◌, ◌∙◌, ℕ, ◌≤◌, List, [], Option, Some, None, IfSome, refl, sym, subst, arith, inl, inr}
+-- What each command's outcome says of what is told.
+use Rattle.std.proofs.Common.{◌≡◌, ℕ, ◌≤◌, List, [], Option, Some, None, IfSome, refl, arith, inl, inr}
 use Rattle.std.specs.Prelude.{◌⊎◌, unwrap_or}
 use Rattle.std.specs.Option.{option_map}
 use Rattle.std.specs.Io.KnownBytes.{Appends}
 use Rattle.std.proofs.KnownBytes.{Appends-nil, Consumes-nil}
+use Rattle.hub_outside.specs.Outside.{Outside, Stream}
+use Rattle.hub_replay.specs.Outcome.{IsReplayStatus, Last}
 use Rattle.script_defs.specs.Output.{Output, replayed}
 use Rattle.command_defs.specs.Words.{Command}
 use Rattle.command_defs.specs.Words.Command.{Replay, Check}
+use Rattle.command_defs.specs.Checks.{check_output}
 use Rattle.command_defs.specs.Commands.{output_where_told, usage_line}
-use Rattle.hub_main.specs.Outcome.{IsStatus, Last, Outcome, output_of_script}
-use Rattle.hub_main.specs.Offline.{IsDone, NoMemoryOf, OutputFaultOf, Stored, Wholly}
-use Rattle.hub_main.proofs.Outcomes.{outcome_given}
+use Rattle.hub_main.specs.Offline.{IsDone, IsExitStatus, OutcomeOf, UsageOutcome, WritesWhole}
 
--- ---- a replay
-
-module _ (command : Option Command) (is : command ≡ Some Replay) (result : ℕ) (files : Option Stored) (left left' written written' : Option (List ℕ)) (faults faults' input input' out out' : ℕ)
-    (told : Outcome output_of_script result left left' written written' input input' out out') where
-  replayed_is : (script : List ℕ) → output_of_script script ≡ replayed script
-  unfolding replayed
-  replayed_is script = refl
-
-  outcome : Outcome replayed result left left' written written' input input' out out'
-  outcome = outcome_given output_of_script replayed replayed_is result left left' written written' input input' out out' told
-
-  never_three : IsStatus result → result ≡ 3 → ⊥
-  never_three (inl e) f = omega arith
-  never_three (inr (inl e)) f = omega arith
-  never_three (inr (inr (inl e))) f = omega arith
-  never_three (inr (inr (inr (inl e)))) f = omega arith
-  never_three (inr (inr (inr (inr (inl e))))) f = omega arith
-  never_three (inr (inr (inr (inr (inr e))))) f = omega arith
-
-  by_files : (o : Option (List ℕ)) → IfSome o (λ script. Appends written written' (replayed script).written × (result ≡ (replayed script).status))
-      → IfSome (option_map replayed o) (λ (output : Output). Appends written written' output.written × (result ≡ output.status))
-  by_files None h = tt
-  by_files (Some script) h = h
-
-  whole : IsDone result → IfSome left (λ script. Appends written written' (replayed script).written × (result ≡ (replayed script).status))
-  whole (inl e) = outcome.whole (inl e)
-  whole (inr (inl e)) = outcome.whole (inr (inl e))
-  whole (inr (inr (inl e))) = absurd (never_three told.is_status e)
-  whole (inr (inr (inr e))) = outcome.whole (inr (inr e))
-
-  pub replay_whole : Wholly (output_where_told command files left) result written written'
-  replay_whole = subst (λ (cmd : Option Command). Wholly (output_where_told cmd files left) result written written') (sym is) (λ which. by_files left (whole which))
-
-  pub replay_output : OutputFaultOf command result files left left' written written' faults faults' out out'
-  replay_output = subst (λ (cmd : Option Command). OutputFaultOf cmd result files left left' written written' faults faults' out out') (sym is) outcome.output_fault
-
-  pub replay_memory : NoMemoryOf command result left left' written written'
-  replay_memory = subst (λ (cmd : Option Command). NoMemoryOf cmd result left left' written written') (sym is) outcome.no_memory
-
--- ---- no command
-
-pub usage_whole : (command : Option Command) (result : ℕ) (files : Option Stored) (left written written' : Option (List ℕ)) (out out' : ℕ) → command ≡ None
-    → Last 2 usage_line result written written' out out' → Wholly (output_where_told command files left) result written written'
-usage_whole command result files left written written' out out' is last =
-    subst (λ (cmd : Option Command). Wholly (output_where_told cmd files left) result written written') (sym is) (λ which. done last which)
-  where
-    done : Last 2 usage_line result written written' out out' → IsDone result → Appends written written' usage_line × (result ≡ 2)
-    done (count, inl (e, wrote)) which = (wrote, e)
-    done (count, inr (e, rose, cut)) (inl f) = absurd (omega arith)
-    done (count, inr (e, rose, cut)) (inr (inl f)) = absurd (omega arith)
-    done (count, inr (e, rose, cut)) (inr (inr (inl f))) = absurd (omega arith)
-    done (count, inr (e, rose, cut)) (inr (inr (inr f))) = absurd (omega arith)
+-- the line for words that are no command
+pub usage_outcome : (status : ℕ) (output output' : Stream) → Last 2 usage_line status output.told output'.told output.faults output'.faults
+    → UsageOutcome output output' status
+usage_outcome status output output' (count, inl (e, wrote)) = record {
+  is_status = inl e;
+  whole = λ _. wrote;
+  output_fault = λ f. absurd (omega arith);
+  no_memory = λ f. absurd (omega arith);
+  output_count = count;
+}
+usage_outcome status output output' (count, inr (e, rose, cut)) = record {
+  is_status = inr (inl e);
+  whole = λ f. absurd (omega arith);
+  output_fault = λ _. (rose, cut);
+  no_memory = λ f. absurd (omega arith);
+  output_count = count;
+}
 
 -- memory ran out before the words were read, whatever they are
-pub short : (command : Option Command) (left written : Option (List ℕ)) → NoMemoryOf command 6 left left written written
-short None left written = λ _. Appends-nil written
-short (Some Replay) left written = λ _. (unwrap_or left [], record { taken = []; read = Consumes-nil left; within = omega arith; all = refl }, 0, Appends-nil written)
-short (Some (Check path)) left written = λ _. Appends-nil written
+pub short_outcome : (command : Option Command) (before : Outside) → OutcomeOf command before before 6
+short_outcome None before = record {
+  is_status = inr (inr refl);
+  whole = λ f. absurd (omega arith);
+  output_fault = λ f. absurd (omega arith);
+  no_memory = λ _. Appends-nil before.output.told;
+  output_count = omega arith;
+}
+short_outcome (Some Replay) before = record {
+  is_status = inr (inr (inr (inl refl)));
+  whole = elim [ inl f ↦ absurd (omega arith) | inr f ↦ absurd (omega arith) ];
+  input_fault = λ f. absurd (omega arith);
+  output_fault = λ f. absurd (omega arith);
+  no_memory = λ _. (
+    unwrap_or before.input.told [],
+    record { taken = []; read = Consumes-nil before.input.told; within = omega arith; all = refl },
+    (0, Appends-nil before.output.told),
+  );
+  input_count = omega arith;
+  output_count = omega arith;
+}
+short_outcome (Some (Check path)) before = record {
+  is_status = inr (inr (inr (inr refl)));
+  whole = elim [ inl f ↦ absurd (omega arith) | inr f ↦ absurd (omega arith) ];
+  file_fault = λ f. absurd (omega arith);
+  output_fault = λ f. absurd (omega arith);
+  no_memory = λ _. Appends-nil before.output.told;
+  files_count = omega arith;
+  output_count = omega arith;
+}
+
+-- no replay has the status 2 or 3
+replay_status : {A : Type 0} (status : ℕ) → IsReplayStatus status → (status ≡ 2) ⊎ (status ≡ 3) → A
+replay_status status (inl e) (inl f) = absurd (omega arith)
+replay_status status (inl e) (inr f) = absurd (omega arith)
+replay_status status (inr (inl e)) (inl f) = absurd (omega arith)
+replay_status status (inr (inl e)) (inr f) = absurd (omega arith)
+replay_status status (inr (inr (inl e))) (inl f) = absurd (omega arith)
+replay_status status (inr (inr (inl e))) (inr f) = absurd (omega arith)
+replay_status status (inr (inr (inr (inl e)))) (inl f) = absurd (omega arith)
+replay_status status (inr (inr (inr (inl e)))) (inr f) = absurd (omega arith)
+replay_status status (inr (inr (inr (inr e)))) (inl f) = absurd (omega arith)
+replay_status status (inr (inr (inr (inr e)))) (inr f) = absurd (omega arith)
+
+-- words that are no command have no other status than 2 once all is written
+usage_status : {A : Type 0} (status : ℕ) → (status ≡ 2) ⊎ (status ≡ 5) ⊎ (status ≡ 6) → (status ≡ 0) ⊎ (status ≡ 3) ⊎ (status ≡ 7) → A
+usage_status status (inl e) (inl f) = absurd (omega arith)
+usage_status status (inl e) (inr (inl f)) = absurd (omega arith)
+usage_status status (inl e) (inr (inr f)) = absurd (omega arith)
+usage_status status (inr (inl e)) (inl f) = absurd (omega arith)
+usage_status status (inr (inl e)) (inr (inl f)) = absurd (omega arith)
+usage_status status (inr (inl e)) (inr (inr f)) = absurd (omega arith)
+usage_status status (inr (inr e)) (inl f) = absurd (omega arith)
+usage_status status (inr (inr e)) (inr (inl f)) = absurd (omega arith)
+usage_status status (inr (inr e)) (inr (inr f)) = absurd (omega arith)
+
+-- no check has the status 2 or 7
+check_status : {A : Type 0} (status : ℕ) → (status ≡ 0) ⊎ (status ≡ 3) ⊎ (status ≡ 4) ⊎ (status ≡ 5) ⊎ (status ≡ 6) → (status ≡ 2) ⊎ (status ≡ 7) → A
+check_status status (inl e) (inl f) = absurd (omega arith)
+check_status status (inl e) (inr f) = absurd (omega arith)
+check_status status (inr (inl e)) (inl f) = absurd (omega arith)
+check_status status (inr (inl e)) (inr f) = absurd (omega arith)
+check_status status (inr (inr (inl e))) (inl f) = absurd (omega arith)
+check_status status (inr (inr (inl e))) (inr f) = absurd (omega arith)
+check_status status (inr (inr (inr (inl e)))) (inl f) = absurd (omega arith)
+check_status status (inr (inr (inr (inl e)))) (inr f) = absurd (omega arith)
+check_status status (inr (inr (inr (inr e)))) (inl f) = absurd (omega arith)
+check_status status (inr (inr (inr (inr e)))) (inr f) = absurd (omega arith)
+
+-- what is told of one part of the outside
+of_part : {A : Type 0} (f : A → Output) (part : Option A) (before after : Option (List ℕ)) (status : ℕ) → IfSome part (λ x. Appends before after (f x).written × (status ≡ (f x).status))
+    → IfSome (option_map f part) (λ output. Appends before after output.written × (status ≡ output.status))
+of_part f None before after status h = tt
+of_part f (Some x) before after status h = h
+
+-- where all was written, it is what the definition of the command's output tells, with its status
+pub told_whole : (command : Option Command) (before after : Outside) (status : ℕ) → OutcomeOf command before after status
+    → WritesWhole (output_where_told command before.files.told before.input.told) status before.output.told after.output.told
+told_whole None before after status o (inl e) = usage_status status o.is_status (inl e)
+told_whole None before after status o (inr (inl e)) = (o.whole e, e)
+told_whole None before after status o (inr (inr (inl e))) = usage_status status o.is_status (inr (inl e))
+told_whole None before after status o (inr (inr (inr e))) = usage_status status o.is_status (inr (inr e))
+told_whole (Some Replay) before after status o (inl e) = of_part replayed before.input.told before.output.told after.output.told status (o.whole (inl e))
+told_whole (Some Replay) before after status o (inr (inl e)) = replay_status status o.is_status (inl e)
+told_whole (Some Replay) before after status o (inr (inr (inl e))) = replay_status status o.is_status (inr e)
+told_whole (Some Replay) before after status o (inr (inr (inr e))) = of_part replayed before.input.told before.output.told after.output.told status (o.whole (inr e))
+told_whole (Some (Check path)) before after status o (inl e) = of_part (λ fs. check_output fs path) before.files.told before.output.told after.output.told status (o.whole (inl e))
+told_whole (Some (Check path)) before after status o (inr (inl e)) = check_status status o.is_status (inl e)
+told_whole (Some (Check path)) before after status o (inr (inr (inl e))) = of_part (λ fs. check_output fs path) before.files.told before.output.told after.output.told status (o.whole (inr e))
+told_whole (Some (Check path)) before after status o (inr (inr (inr e))) = check_status status o.is_status (inr e)

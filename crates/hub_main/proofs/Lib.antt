@@ -1,12 +1,1 @@
-pub mod Digits
-pub mod Texts
-pub mod Places
-pub mod Windows
-pub mod Parts
-pub mod Names
-pub mod Doing
-pub mod Offering
-pub mod Skipping
-pub mod Going
-pub mod Outcomes
 pub mod Commands

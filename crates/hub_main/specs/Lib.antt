@@ -1,8 +1,1 @@
-pub mod Lines
-pub mod Window
-pub mod Writing
-pub mod Feeds
-pub mod Records
-pub mod Steps
-pub mod Outcome
 pub mod Offline

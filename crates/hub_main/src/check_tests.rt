@@ -1,4 +1,4 @@
-// Checks of the sample timetable and of changed copies of it, with ample memory.
+//! Checks of the sample timetable and of changed copies of it, with ample memory.
 use crate::run_offline;
 use hub_outside::{FixedClock, MemoryFile, MemoryFiles, MemorySink, MemorySource};
 use rt_types::Text;
@@ -34,8 +34,8 @@ fn put(alloc: Global, files: &mut Vec<MemoryFile>, path: &str, bytes: &[u8]) -> 
     Ok(())
 }
 
-// The configuration and the files of the timetable, with another file in front of them: the first of a path
-// counts.
+// The configuration and the files of the timetable, with another file in front of them: the first
+// of a path counts.
 fn city_with(alloc: Global, path: &str, bytes: &[u8]) -> Result<Vec<MemoryFile>, Fail> {
     let mut files = Vec::new(alloc);
     put(alloc, &mut files, path, bytes)?;
@@ -101,8 +101,8 @@ fn without(alloc: Global, path: &str) -> Result<Vec<MemoryFile>, Fail> {
     Ok(kept)
 }
 
-// Files of the timetable with a byte order mark, swapped columns, a column more, and rows cut before empty
-// last fields.
+// Files of the timetable with a byte order mark, swapped columns, a column more, and rows cut
+// before empty last fields.
 const VARIANTS: [(&str, &str); 5] = [
     ("none", ""),
     ("city/agency.txt", "\u{feff}agency_id,agency_name\nA,City\n"),
@@ -249,5 +249,24 @@ fn a_name_that_is_no_text(rt: HostRuntime) -> Result<(), Fail> {
         b"stop_id,stop_name,location_type,parent_station\nST,Market,1,\nS1,Market A,0,ST\nS2,Market \xff,0,ST\n";
     let told = "hub: load city text stops.txt 4 stop_name\n";
     assert!(rt; changed(rt.alloc(), "city/stops.txt", stops, 3, told)?);
+    Ok(())
+}
+
+// The configuration with a comment that makes it so long.
+fn long_conf(alloc: Global, length: usize) -> Result<Vec<u8>, Fail> {
+    let mut conf = CITY_CONF.as_bytes().to_vec(alloc)?;
+    conf.push(b'#')?;
+    let rest = length.saturating_sub(conf.len());
+    conf.extend_from_slice(&vec![in alloc; b' '; rest]?)?;
+    Ok(conf)
+}
+
+#[test]
+fn longest_configuration(rt: HostRuntime) -> Result<(), Fail> {
+    let alloc = rt.alloc();
+    let most = long_conf(alloc, 1_048_576)?;
+    assert!(rt; changed(alloc, "city.toml", &most, 0, CITY_LINE)?);
+    let more = long_conf(alloc, 1_048_577)?;
+    assert!(rt; changed(alloc, "city.toml", &more, 3, "hub: config long\n")?);
     Ok(())
 }

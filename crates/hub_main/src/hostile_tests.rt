@@ -1,4 +1,5 @@
-// Messages that are at fault, each offered through a replay to a hub that holds nothing, with the line that
+//! Messages that are at fault, each offered through a replay to a hub that holds nothing, with the
+//! line that
 // answers it.
 use crate::tests::replayed;
 use std::alloc::Global;
@@ -23,8 +24,9 @@ const ALONE: [(&[u8], &str); 6] = [
     (b"\x0a\x05\x0a\x032.0", "refused stamp 0\n"),
 ];
 
-// Bytes behind that header. Where the outer level of a message is at fault, that comes first, though the fault of an
-// entity stands before it; and a field of another wire type is an unknown one.
+// Bytes behind that header. Where the outer level of a message is at fault, that comes first,
+// though the fault of an entity stands before it; and a field of another wire type is an unknown
+// one.
 const BEHIND: [(&[u8], &str); 15] = [
     (b"\x0c", "refused malformed 0 group FeedMessage 0\n"),
     (b"\x4b\x54", "refused malformed 0 group FeedMessage 0\n"),

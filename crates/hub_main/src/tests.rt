@@ -1,4 +1,4 @@
-// Whole replays over forms in memory, with ample memory.
+//! Whole replays over forms in memory, with ample memory.
 use crate::run_offline;
 use hub_outside::{FixedClock, MemoryFiles, MemorySink, MemorySource};
 use rt_types::Text;

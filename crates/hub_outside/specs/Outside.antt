@@ -1,25 +1,28 @@
 -- What a command sees of the outside.
 use Rattle.std.specs.Prelude.{ℕ, List, Option}
 
--- what files, input and output tell, and their counts of faults
-pub record Outside : Type 0 where
-  pub files : Option (List (List ℕ × List ℕ))
-  pub input : Option (List ℕ)
-  pub output : Option (List ℕ)
-  pub file_faults : ℕ
-  pub input_faults : ℕ
-  pub output_faults : ℕ
+-- the bytes that an input or an output tells, those that are left or those that were written, and
+-- its count of faults
+pub record Stream : Type 0 where
+  pub told : Option (List ℕ)
+  pub faults : ℕ
 
--- files with their faults, input with its, and output with its
-abbrev pub outside : Option (List (List ℕ × List ℕ)) → ℕ → Option (List ℕ) → ℕ → Option (List ℕ) → ℕ
-    → Outside
-outside files file_faults input input_faults output output_faults =
-    record {
-      files = files;
-      input = input;
-      output = output;
-      file_faults = file_faults;
-      input_faults = input_faults;
-      output_faults =
-          output_faults;
-    }
+abbrev pub stream : Option (List ℕ) → ℕ → Stream
+stream told faults = record { told = told; faults = faults }
+
+-- the files that are told, each the pair of its path and its bytes, and their count of faults
+pub record FileStore : Type 0 where
+  pub told : Option (List (List ℕ × List ℕ))
+  pub faults : ℕ
+
+abbrev pub file_store : Option (List (List ℕ × List ℕ)) → ℕ → FileStore
+file_store told faults = record { told = told; faults = faults }
+
+-- all of it
+pub record Outside : Type 0 where
+  pub files : FileStore
+  pub input : Stream
+  pub output : Stream
+
+abbrev pub outside : FileStore → Stream → Stream → Outside
+outside files input output = record { files = files; input = input; output = output }

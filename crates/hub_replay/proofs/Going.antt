@@ -8,10 +8,11 @@ use Rattle.std.proofs.lemmas.Option.{slice_get_past}
 use Rattle.std.proofs.lemmas.List.{drop-append-le}
 use Rattle.std.proofs.Math.Seq.{drop-append-add, take-append_seam}
 use Rattle.feed_defs.specs.History.Refusal.{TooLong}
-use Rattle.script_defs.specs.Record.{Hub, turn, reply_line}
+use Rattle.script_defs.specs.Record.{Hub, turn, waits, reply_line}
 use Rattle.answer_defs.specs.Choices.{only_if}
-use Rattle.script_defs.specs.Output.{Run, run, behind}
+use Rattle.script_defs.specs.Output.{Run, run, is_open, behind}
 use Rattle.script_defs.proofs.Turns.{turn_rest}
+use Rattle.script_defs.proofs.Opens.{open_none, open_step}
 use Rattle.script_defs.proofs.Runs.{run_none, run_step, run_end, behind_behind}
 use Rattle.hub_replay.specs.declared.steps.Ending.{Ending as HowEnded}
 use Rattle.hub_replay.specs.declared.steps.Ending.TheVariants.{Ended, Refused, InputFault, OutputFault, NoMemory}
@@ -42,9 +43,12 @@ refused_here old more left' h =
     let none : old.place - old.place ≡ 0 = omega arith in
     (omega arith, run_none old.hub (old.held ++ (more ++ remaining left' (old.allowed - length more))) h ∙ ap (λ (n : ℕ). let r : Run = record { out = []; taken = n; ended = false } in r) (sym none))
 
--- no whole record stands in what was read
-pub nothing_told : (old : At) (more : List ℕ) (left' : Option (List ℕ)) → turn old.hub (old.held ++ more) ≡ None → EndsAs InputFault old more [] left'
-nothing_told old more left' h = ap (λ (r : Run). r.out) (run_none old.hub (old.held ++ more) h)
+-- no whole record stands in what was read, and what does waits for more
+pub nothing_told : (old : At) (more : List ℕ) (left' : Option (List ℕ)) → turn old.hub (old.held ++ more) ≡ None → waits old.hub (old.held ++ more) ≡ true → EndsAs InputFault old more [] left'
+nothing_told old more left' h waiting = (
+  ap (λ (r : Run). r.out) (run_none old.hub (old.held ++ more) h),
+  open_none old.hub (old.held ++ more) h ∙ waiting,
+)
 
 -- a record that was done, of so many bytes
 abbrev IsDone : At → Hub → List ℕ → List ℕ → ℕ → Type 0
@@ -91,6 +95,7 @@ whole_goes old new hub said sent size left written written' did hub_is held allo
       rises = omega arith;
       size = omega arith;
       runs = λ rest. rw (gone, hub_is, held) (done_runs old hub did.reply size did.within did.is rest);
+      opens = λ rest. rw (hub_is, held) (open_step old.hub (old.held ++ rest) _ (did.is rest) refl);
     } in
     (goes, omega arith)
 
@@ -133,6 +138,7 @@ fetch_goes old new more left left' written written' some held allowed read hub s
       rises = omega arith;
       size = omega arith;
       runs = λ rest. ap (run old.hub) (sym (append_assoc old.held more rest)) ∙ rw (held, hub) (behind_none (new.place - old.place) (run old.hub (old.held ++ more ++ rest)) same);
+      opens = λ rest. ap (is_open old.hub) (sym (append_assoc old.held more rest)) ∙ rw (held, hub) refl;
     } in
     (goes, omega arith)
 
@@ -219,6 +225,7 @@ long_goes w w' hub said new place end count left left' written written' long p w
       rises = omega arith;
       size = omega arith;
       runs = λ rest. run_step hub (w.held ++ (p.more ++ rest)) _ (is rest) refl ∙ rw (taken rest, size, hub_is, held) refl;
+      opens = λ rest. open_step hub (w.held ++ (p.more ++ rest)) _ (is rest) refl ∙ rw (hub_is, held) refl;
     } in
     (goes, omega arith)
 
@@ -294,6 +301,7 @@ goes_none old left written =
       rises = omega arith;
       size = omega arith;
       runs = λ rest. behind_none (old.place - old.place) (run old.hub (old.held ++ rest)) same;
+      opens = λ rest. refl;
     }
 
 -- what is said over two steps
@@ -325,6 +333,7 @@ goes_on a b d left left' left'' written written' written'' p q =
       runs = λ rest.
           ap (λ xs. run a.hub (a.held ++ xs)) (append_assoc p.more q.more rest) ∙ p.runs (q.more ++ rest) ∙ ap (behind p.told (b.place - a.place)) (q.runs rest)
           ∙ behind_behind p.told q.told (b.place - a.place) (d.place - b.place) (run d.hub (d.held ++ rest)) ∙ ap (λ (n : ℕ). behind (p.told ++ q.told) n (run d.hub (d.held ++ rest))) places;
+      opens = λ rest. ap (λ xs. is_open a.hub (a.held ++ xs)) (append_assoc p.more q.more rest) ∙ p.opens (q.more ++ rest) ∙ q.opens rest;
     }
 
 -- how a run that ends later ends
@@ -345,8 +354,10 @@ ends_later (Refused place) a b left left' written written' left'' more told p fe
       rw left_is (ap (λ xs. run a.hub (a.held ++ xs)) (append_assoc p.more more (remaining left'' (b.allowed - length more))) ∙ p.runs (more ++ remaining left'' (b.allowed - length more))
           ∙ ap (behind p.told (b.place - a.place)) h.1 ∙ ap (λ (n : ℕ). let r : Run = record { out = p.told ++ told; taken = n; ended = false } in r) places),
     )
-ends_later InputFault a b left left' written written' left'' more told p few h =
-    ap (λ (r : Run). r.out) (p.runs more) ∙ ap (λ xs. p.told ++ xs) h
+ends_later InputFault a b left left' written written' left'' more told p few h = (
+  ap (λ (r : Run). r.out) (p.runs more) ∙ ap (λ xs. p.told ++ xs) h.0,
+  p.opens more ∙ h.1,
+)
 ends_later OutputFault a b left left' written written' left'' more told p few h = tt
 ends_later NoMemory a b left left' written written' left'' more told p few h = tt
 

@@ -1,17 +1,25 @@
 -- A message for a feed, by its payload.
-use Rattle.std.proofs.Common.{◌≡◌, ◌≢◌, ℕ, zero, suc, ◌+◌, ◌≤◌, ◌<◌, List, [], ◌∷◌, ◌++◌, length, take, drop, Option, Some, None, Bool, true, false, refl, sym, ap, ◌∙◌, arith, append-nil, length-drop}
+use Rattle.std.proofs.Common.{◌≡◌, ◌≢◌, ℕ, zero, suc, ◌+◌, ◌≤◌, ◌<◌, List, [], ◌∷◌, ◌++◌, length, take, drop, Option, Some, None, Bool, true, false, refl, sym, ap, ◌∙◌, arith, append-nil, length-drop, length-append, Result, Ok}
 use Rattle.std.specs.Prelude.{slice_get, ◌==◌, Err}
 use Rattle.std.proofs.lemmas.Bool.Decides.{nat_tests}
 use Rattle.std.proofs.lemmas.List.{take-append-le, drop-append-le, drop-drop, length-take-le}
 use Rattle.std.proofs.lemmas.Option.{slice_get_past, slice_get_within}
 use Rattle.feed_defs.specs.declared.history.Entry.{Entry}
-use Rattle.feed_defs.specs.History.{offer_outcome, longest_message}
+use Rattle.feed_defs.specs.History.{Refusal, OfferOutcome, offer_outcome, outcome_of_judgement, judgement_of, last_stamp, longest_message}
 use Rattle.feed_defs.specs.History.Refusal.{TooLong}
 use Rattle.feed_defs.proofs.WellFormed.{too_long}
-use Rattle.script_defs.specs.Record.{Hub, payload_at, reply_line}
+use Rattle.script_defs.specs.Record.{Hub, payload_at, payload_waits, reply_line}
 use Rattle.answer_defs.specs.Choices.{only_if}
 use Rattle.script_defs.proofs.Payloads.{payload_is, get_more, no_payload, fed_within, is_fed as is_line_end}
-use Rattle.hub_replay.specs.Records.{Did, numbered_turn, long_turn, is_fed}
+use Rattle.std.specs.List.{position_from}
+use Rattle.std.specs.Str.{bytes_eq}
+use Rattle.script_defs.proofs.Opens.{payload_short}
+use Rattle.script_defs.specs.Record.Head.{Message}
+use Rattle.rt_types.specs.declared.message.FeedMessage.{FeedMessage}
+use Rattle.hub_core.specs.Answers.{cause_of}
+use Rattle.hub_core.specs.declared.refusal.Refusal.{Refusal as Answer}
+use Rattle.hub_replay.specs.Feeds.{Answers, RefusesFor}
+use Rattle.hub_replay.specs.Records.{Did, numbered_turn, long_turn, is_fed, IsRefusalLine, IsReplyLine}
 
 fed_same : (o : Option ℕ) → is_line_end o ≡ is_fed o
 fed_same None = refl
@@ -105,3 +113,39 @@ pub nothing_there : (bytes : List ℕ) (place : ℕ) → slice_get bytes place �
 nothing_there [] place h = omega arith
 nothing_there (b ∷ bs) zero h = cc
 nothing_there (b ∷ bs) (suc place) h = let later = nothing_there bs place h in omega arith
+
+-- a message whose payload isn't whole waits
+pub message_waits : (hub : Hub) (name : List ℕ) (feed n behind : ℕ) (bytes more : List ℕ) → position_from (bytes_eq name) 0 hub.names ≡ Some feed → behind ≤ length bytes
+    → length (bytes ++ more) ≤ behind + n → payload_waits hub (Message name n) (drop behind bytes ++ more) ≡ true
+message_waits hub name feed n behind bytes more found within few =
+    let all = length-append bytes more in
+    let rest = length-append (drop behind bytes) more in
+    let size = length-drop behind bytes in
+    payload_short hub name (drop behind bytes ++ more) feed n found (omega arith)
+
+-- a message that was refused leaves the history as it was
+stays_refused : (feed : ℕ) (history : List Entry) (judgement : Result FeedMessage Refusal) (cause : Refusal) → (outcome_of_judgement feed history judgement).reply ≡ Err cause
+    → (outcome_of_judgement feed history judgement).history ≡ history
+stays_refused feed history (Ok m) cause h = cc
+stays_refused feed history (Err e) cause h = refl
+
+pub refusal_stays : (feed : ℕ) (bytes : List ℕ) (history : List Entry) (cause : Refusal) → (offer_outcome feed bytes history).reply ≡ Err cause → (offer_outcome feed bytes history).history ≡ history
+refusal_stays feed bytes history cause h = stays_refused feed history (judgement_of (last_stamp feed history) bytes) cause h
+
+-- the line of a refusal was said
+refuses : (feed : ℕ) (bytes text said said' : List ℕ) (old new : Hub) (cause : Option Refusal) → RefusesFor feed bytes old new cause → IsRefusalLine cause text → said' ≡ said ++ text
+    → (said' ≡ said ++ reply_line (offer_outcome feed bytes old.history).reply) × (new ≡ record old { history = (offer_outcome feed bytes old.history).history; begun = true })
+refuses feed bytes text said said' old new None answers line says = absurd line
+refuses feed bytes text said said' old new (Some cause) answers line says = (
+  says ∙ ap (λ xs. said ++ xs) (line ∙ ap reply_line (sym answers.0)),
+  answers.1 ∙ ap (λ (entries : List Entry). let h : Hub = record old { history = entries; begun = true } in h) (sym (refusal_stays feed bytes old.history cause answers.0)),
+)
+
+-- the line of an answer was said
+pub offers_to : (feed : ℕ) (bytes text said said' : List ℕ) (old new : Hub) (reply : Result ℕ Answer) → Answers feed bytes old new reply → IsReplyLine reply text → said' ≡ said ++ text
+    → (said' ≡ said ++ reply_line (offer_outcome feed bytes old.history).reply) × (new ≡ record old { history = (offer_outcome feed bytes old.history).history; begun = true })
+offers_to feed bytes text said said' old new (Ok count) answers line says = (
+  says ∙ ap (λ xs. said ++ xs) (line ∙ ap (λ (o : OfferOutcome). reply_line o.reply) (sym answers.0)),
+  answers.1 ∙ ap (λ (o : OfferOutcome). let h : Hub = record old { history = o.history; begun = true } in h) (sym answers.0),
+)
+offers_to feed bytes text said said' old new (Err refusal) answers line says = refuses feed bytes text said said' old new (cause_of refusal) answers line says

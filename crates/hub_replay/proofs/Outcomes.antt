@@ -6,13 +6,14 @@ use Rattle.std.proofs.KnownBytes.{Appends-trans, Consumes-nil}
 use Rattle.std.proofs.lemmas.List.{take-append-le, take_min}
 use Rattle.std.proofs.Math.Seq.{take-append-add, take-append_seam, take-nil}
 use Rattle.hub_outside.specs.Count.{Rose}
+use Rattle.hub_outside.proofs.Rising.{rose_later, rose_before}
 use Rattle.script_defs.specs.Record.{start}
-use Rattle.script_defs.specs.Output.{Run, Output, run, output_of, longest_script, refused_line, fault_line}
+use Rattle.script_defs.specs.Output.{Run, Output, run, output_of, replayed, longest_script, refused_line, fault_line}
 use Rattle.hub_replay.specs.declared.steps.Ending.{Ending}
 use Rattle.hub_replay.specs.declared.steps.Ending.TheVariants.{Ended, Refused, InputFault, OutputFault, NoMemory}
 use Rattle.hub_replay.specs.Window.{remaining}
 use Rattle.hub_replay.specs.Steps.{Leaves, HasCause, at_start}
-use Rattle.hub_replay.specs.Outcome.{IsStatus, IsScript, Outcome, InputFailed, OutputFailed, RanOut, Last, Finishes, output_of_script, Whole}
+use Rattle.hub_replay.specs.Outcome.{IsScript, IsUnfinished, IsCut, Outcome, InputFailed, OutputFailed, RanOut, Last, Finishes, fault_output, output_of_script, IsWhole}
 
 -- what is told of the script is told of all that the input had
 pub script_told : (left left' : Option (List ℕ)) (script : List ℕ) (P : List ℕ → Type 0) → IsScript left left' script → P script → IfSome left P
@@ -28,12 +29,6 @@ take_over n front back h = let sum : length front + (n - length front) ≡ n = o
 take_front : (n : ℕ) (front back : List ℕ) → take n front ≡ take (min n (length front)) (front ++ back)
 take_front n front back = let few : min n (length front) ≤ length front = omega arith in sym (take_min n front) ∙ sym (take-append-le (min n (length front)) front back few)
 
--- the front of two lists
-take_both : (n : ℕ) (front back : List ℕ) → take n (front ++ back) ≡ take n front ++ take (n - length front) back
-take_both n [] back = let same : n - length {A = ℕ} [] ≡ n = omega arith in rw (take-nil n, same) refl
-take_both zero (x ∷ xs) back = let none : zero - length (x ∷ xs) ≡ 0 = omega arith in rw none refl
-take_both (suc n) (x ∷ xs) back = let same : suc n - length (x ∷ xs) ≡ n - length xs = omega arith in rw same (ap (λ ys. x ∷ ys) (take_both n xs back))
-
 written_from : (r : Run) (test : Bool) → r.ended ≡ test → (later : List ℕ) × ((output_of r).written ≡ r.out ++ later)
 written_from r true h = ([], rw h (sym (append-nil r.out)))
 written_from r false h = (refused_line r.taken, rw h refl)
@@ -43,9 +38,6 @@ written_front : (r : Run) (told later : List ℕ) → r.out ≡ told ++ later �
 written_front r told later h =
     let w = written_from r r.ended refl in
     (later ++ w.0, w.1 ∙ ap (λ xs. xs ++ w.0) h ∙ append_assoc told later w.0)
-
-pub rose_later : (a b d : ℕ) → a ≤ b → Rose b d → Rose a d
-rose_later a b d h r = omega arith
 
 -- the facts of an ending that its outcome takes
 pub record Told (left left' written written' : Option (List ℕ)) (told sent : List ℕ) (script : List ℕ) : Type 0 where
@@ -62,7 +54,6 @@ module _ (result : ℕ) (left left' written written' written'' : Option (List �
       → IfSome left (λ script. Appends written written'' (output_of_script script).written × (result ≡ (output_of_script script).status)) → Ends
   done status (inl zero_is) is whole = record {
     is_status = inl (is ∙ zero_is);
-    not_usage = λ e. omega arith;
     whole = λ _. whole;
     input_fault = λ e. absurd (omega arith);
     output_fault = λ e. absurd (omega arith);
@@ -71,8 +62,7 @@ module _ (result : ℕ) (left left' written written' written'' : Option (List �
     output_count = omega arith;
   }
   done status (inr seven) is whole = record {
-    is_status = inr (inr (inr (inr (inr (is ∙ seven)))));
-    not_usage = λ e. omega arith;
+    is_status = inr (inr (inr (inr (is ∙ seven))));
     whole = λ _. whole;
     input_fault = λ e. absurd (omega arith);
     output_fault = λ e. absurd (omega arith);
@@ -81,11 +71,10 @@ module _ (result : ℕ) (left left' written written' written'' : Option (List �
     output_count = omega arith;
   }
 
-  input_failed : result ≡ 4 → Rose input input' × (taken : List ℕ) × Consumes left left' taken × (length taken ≤ longest_script) × Appends written written'' ((run start taken).out ++ fault_line) → Ends
+  input_failed : result ≡ 4 → Rose input input' × ((taken : List ℕ) × IsUnfinished left left' taken × Appends written written'' (fault_output taken)) → Ends
   input_failed is h = record {
-    is_status = inr (inr (inl is));
-    not_usage = λ e. omega arith;
-    whole = elim [ inl e ↦ absurd (omega arith) | inr (inl e) ↦ absurd (omega arith) | inr (inr e) ↦ absurd (omega arith) ];
+    is_status = inr (inl is);
+    whole = elim [ inl e ↦ absurd (omega arith) | inr e ↦ absurd (omega arith) ];
     input_fault = λ _. h;
     output_fault = λ e. absurd (omega arith);
     no_memory = λ e. absurd (omega arith);
@@ -93,12 +82,10 @@ module _ (result : ℕ) (left left' written written' written'' : Option (List �
     output_count = omega arith;
   }
 
-  output_failed : result ≡ 5 → Rose out out''
-      × (script : List ℕ) × IsScript left left' script × (m : ℕ) × (n : ℕ) × Appends written written'' (take m (output_of_script script).written ++ take n fault_line) → Ends
+  output_failed : result ≡ 5 → Rose out out'' × IsCut output_of_script left left' written written'' input input' → Ends
   output_failed is h = record {
-    is_status = inr (inr (inr (inl is)));
-    not_usage = λ e. omega arith;
-    whole = elim [ inl e ↦ absurd (omega arith) | inr (inl e) ↦ absurd (omega arith) | inr (inr e) ↦ absurd (omega arith) ];
+    is_status = inr (inr (inl is));
+    whole = elim [ inl e ↦ absurd (omega arith) | inr e ↦ absurd (omega arith) ];
     input_fault = λ e. absurd (omega arith);
     output_fault = λ _. h;
     no_memory = λ e. absurd (omega arith);
@@ -106,11 +93,10 @@ module _ (result : ℕ) (left left' written written' written'' : Option (List �
     output_count = omega arith;
   }
 
-  out_of_memory : result ≡ 6 → (script : List ℕ) × IsScript left left' script × (m : ℕ) × Appends written written'' (take m (output_of_script script).written) → Ends
+  out_of_memory : result ≡ 6 → (script : List ℕ) × IsScript left left' script × ((n : ℕ) × Appends written written'' (take n (output_of_script script).written)) → Ends
   out_of_memory is h = record {
-    is_status = inr (inr (inr (inr (inl is))));
-    not_usage = λ e. omega arith;
-    whole = elim [ inl e ↦ absurd (omega arith) | inr (inl e) ↦ absurd (omega arith) | inr (inr e) ↦ absurd (omega arith) ];
+    is_status = inr (inr (inr (inl is)));
+    whole = elim [ inl e ↦ absurd (omega arith) | inr e ↦ absurd (omega arith) ];
     input_fault = λ e. absurd (omega arith);
     output_fault = λ e. absurd (omega arith);
     no_memory = λ _. h;
@@ -134,22 +120,15 @@ module _ (result : ℕ) (left left' written written' written'' : Option (List �
   cut_within : (script told line : List ℕ) (m : ℕ) → Rose out out'' → IsScript left left' script → (more : List ℕ) → (output_of_script script).written ≡ told ++ line ++ more → Appends written written'' (take m (told ++ line)) → result ≡ 5 → Ends
   cut_within script told line m rose is more front wrote e =
       let whole = take_front m (told ++ line) more in
-      let same : take m (told ++ line) ≡ take (min m (length (told ++ line))) (output_of_script script).written ++ take 0 fault_line =
-      whole ∙ ap (take (min m (length (told ++ line)))) (sym front) ∙ sym (append-nil (take (min m (length (told ++ line))) (output_of_script script).written)) in
-      output_failed e (rose, script, is, min m (length (told ++ line)), 0, subst (Appends written written'') same wrote)
-
-  -- the output failed in the midst of what is defined, or of the fault's line behind it
-  cut_fault : (script told : List ℕ) (m : ℕ) → Rose out out'' → IsScript left left' script → (more : List ℕ) → (output_of_script script).written ≡ told ++ more → Appends written written'' (take m (told ++ fault_line)) → result ≡ 5 → Ends
-  cut_fault script told m rose is more front wrote e =
-      let same : take m (told ++ fault_line) ≡ take (min m (length told)) (output_of_script script).written ++ take (m - length told) fault_line =
-      take_both m told fault_line ∙ ap (λ xs. xs ++ take (m - length told) fault_line) (take_front m told more ∙ ap (take (min m (length told))) (sym front)) in
-      output_failed e (rose, script, is, min m (length told), m - length told, subst (Appends written written'') same wrote)
+      let same : take m (told ++ line) ≡ take (min m (length (told ++ line))) (output_of_script script).written =
+      whole ∙ ap (take (min m (length (told ++ line)))) (sym front) in
+      output_failed e (rose, inl (script, is, (min m (length (told ++ line)), subst (Appends written written'') same wrote)))
 
   -- memory ran out behind what is told
   short_of : (script told : List ℕ) → IsScript left left' script → (more : List ℕ) → (output_of_script script).written ≡ told ++ more → Appends written written'' told → result ≡ 6 → Ends
   short_of script told is more front wrote e =
       let same : told ≡ take (length told) (output_of_script script).written = sym (take-append_seam told more) ∙ ap (take (length told)) (sym front) in
-      out_of_memory e (script, is, length told, subst (Appends written written'') same wrote)
+      out_of_memory e (script, is, (length told, subst (Appends written written'') same wrote))
 
   abbrev Leaving : Ending → List ℕ → Type 0
   Leaving ending said = Leaves ending at_start said left left' written written'
@@ -214,6 +193,10 @@ module _ (result : ℕ) (left left' written written' written'' : Option (List �
   refused_outcome place said p is (inr (count, inl (e, wrote))) = short_here (Refused place) said p p.keeps e wrote
   refused_outcome place said p is (inr (count, inr (e, rose, (n, wrote)))) = cut_here (Refused place) said p p.keeps e rose n wrote
 
+  -- the input failed in the midst of the script
+  unfinished : (said : List ℕ) (p : Leaving InputFault said) → IsUnfinished left left' p.more
+  unfinished said p = record { read = p.read; within = p.allowed; goes_on = p.ends.1 }
+
   -- the outcome of a replay
   pub outcome : (ending : Ending) (said : List ℕ) → Leaving ending said → HasCause (Some ending) input input' out out' → Finishes ending result said written' written'' out' out'' → Ends
   outcome Ended said p cause (count, inl (e, wrote)) =
@@ -230,14 +213,16 @@ module _ (result : ℕ) (left left' written written' written'' : Option (List �
       refused_outcome place said p is h
   outcome InputFault said p cause (count, inl (e, wrote)) =
       let all = joined p.told p.sent p.unsent fault_line p.says p.wrote (from_unsent p.unsent said fault_line p.keeps wrote) in
-      input_failed e (cause.2, p.more, p.read, p.allowed, subst (λ xs. Appends written written'' (xs ++ fault_line)) (sym p.ends) all)
+      input_failed e (cause.2, (p.more, unfinished said p, subst (λ xs. Appends written written'' (xs ++ fault_line)) (sym p.ends.0) all))
   outcome InputFault said p cause (count, inr (e, rose, (n, wrote))) =
-      let front = front_of InputFault said p in
-      cut_fault (script_of InputFault said p) p.told (length p.sent + n) (rose_later out out' out'' outs rose) (is_script_of InputFault said p) front.0 front.1
-      (cut p.told p.sent p.unsent fault_line n p.says p.wrote (cut_unsent p.unsent said fault_line n p.keeps wrote)) e
+      let part = cut p.told p.sent p.unsent fault_line n p.says p.wrote (cut_unsent p.unsent said fault_line n p.keeps wrote) in
+      output_failed e (
+        rose_later out out' out'' outs rose,
+        inr (cause.2, (p.more, unfinished said p, (length p.sent + n, subst (λ xs. Appends written written'' (take (length p.sent + n) (xs ++ fault_line))) (sym p.ends.0) part))),
+      )
   outcome OutputFault said p cause (e, count, wrote) =
       let front = front_of OutputFault said p in
-      let rose : Rose out out'' = omega (arith, cause.2) in
+      let rose : Rose out out'' = rose_before out out' out'' cause.2 outs' in
       let sent_is : p.sent ++ [] ≡ take (length p.sent) (p.told ++ []) =
       append-nil p.sent ∙ sym (take-append_seam p.sent p.unsent) ∙ ap (take (length p.sent)) (sym p.says ∙ sym (append-nil p.told)) in
       cut_within (script_of OutputFault said p) p.told [] (length p.sent) rose (is_script_of OutputFault said p) front.0 (front.1 ∙ ap (λ xs. xs ++ front.0) (sym (append-nil p.told)))
@@ -254,20 +239,33 @@ finishes_count InputFault result said written written' out out' h = h.0
 finishes_count OutputFault result said written written' out out' h = h.1
 finishes_count NoMemory result said written written' out out' h = h.0
 
-whole_given : (f g : List ℕ → Output) → ((script : List ℕ) → f script ≡ g script) → (status : ℕ) (left written written' : Option (List ℕ)) → Whole f status left written written' → Whole g status left written written'
+whole_given : (f g : List ℕ → Output) → ((script : List ℕ) → f script ≡ g script) → (status : ℕ) (left written written' : Option (List ℕ)) → IsWhole f status left written written' → IsWhole g status left written written'
 whole_given f g same status None written written' h = h
 whole_given f g same status (Some xs) written written' h = λ which. rw (← same xs) (h which)
 
+cut_given : (f g : List ℕ → Output) → ((script : List ℕ) → f script ≡ g script) → (left left' written written' : Option (List ℕ)) (input input' : ℕ) → IsCut f left left' written written' input input' → IsCut g left left' written written' input input'
+cut_given f g same left left' written written' input input' (inl (script, is, (n, wrote))) = inl (script, is, (n, rw (← same script) wrote))
+cut_given f g same left left' written written' input input' (inr h) = inr h
+
 -- an outcome, by another word for what is defined
-pub outcome_given : (f g : List ℕ → Output) → ((script : List ℕ) → f script ≡ g script) → (status : ℕ) (left left' written written' : Option (List ℕ)) (input input' out out' : ℕ)
+outcome_given : (f g : List ℕ → Output) → ((script : List ℕ) → f script ≡ g script) → (status : ℕ) (left left' written written' : Option (List ℕ)) (input input' out out' : ℕ)
     → Outcome f status left left' written written' input input' out out' → Outcome g status left left' written written' input input' out out'
 outcome_given f g same status left left' written written' input input' out out' o = record {
   is_status = o.is_status;
-  not_usage = o.not_usage;
   whole = whole_given f g same status left written written' o.whole;
   input_fault = o.input_fault;
-  output_fault = λ e. let h = o.output_fault e in (h.0, h.1, h.2, h.3, h.4, rw (← same h.1) h.5);
-  no_memory = λ e. let h = o.no_memory e in (h.0, h.1, h.2, rw (← same h.0) h.3);
+  output_fault = λ e. let h = o.output_fault e in (h.0, cut_given f g same left left' written written' input input' h.1);
+  no_memory = λ e. let h = o.no_memory e in (h.0, h.1, (h.2.0, rw (← same h.0) h.2.1));
   input_count = o.input_count;
   output_count = o.output_count;
 }
+
+replayed_is : (script : List ℕ) → output_of_script script ≡ replayed script
+unfolding replayed
+replayed_is script = refl
+
+-- the outcome in the word of the definition
+pub replay_outcome : (status : ℕ) (left left' written written' : Option (List ℕ)) (input input' out out' : ℕ) → Outcome output_of_script status left left' written written' input input' out out'
+    → Outcome replayed status left left' written written' input input' out out'
+replay_outcome status left left' written written' input input' out out' o =
+    outcome_given output_of_script replayed replayed_is status left left' written written' input input' out out' o

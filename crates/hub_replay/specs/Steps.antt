@@ -5,7 +5,7 @@ use Rattle.std.specs.Io.KnownBytes.{Appends, Consumes}
 use Rattle.hub_outside.specs.Count.{Rose}
 use Rattle.script_defs.specs.Record.{Hub, start, reply_line}
 use Rattle.hub_replay.specs.Records.{is_fed}
-use Rattle.script_defs.specs.Output.{run, behind, longest_script}
+use Rattle.script_defs.specs.Output.{run, is_open, behind, longest_script}
 use Rattle.hub_replay.specs.declared.steps.Replay.{Replay}
 use Rattle.hub_replay.specs.declared.steps.Ending.{Ending as HowEnded}
 use Rattle.hub_replay.specs.declared.steps.Ending.TheVariants.{Ended, Refused, InputFault, OutputFault, NoMemory}
@@ -13,7 +13,8 @@ use Rattle.hub_replay.specs.declared.window.Refill.{Refill}
 use Rattle.hub_replay.specs.declared.window.Refill.TheVariants.{More, End, Failed, NoMemory as NoRoom}
 use Rattle.hub_replay.specs.Window.{Windowed, remaining}
 
--- a replay between two records: the bytes in hand and those allowed, the hub, what waits to be written, and the place
+-- a replay between two records: the bytes in hand and those allowed, the hub, what waits to be
+-- written, and the place
 pub record At : Type 0 where
   pub held : List ℕ
   pub allowed : ℕ
@@ -22,7 +23,8 @@ pub record At : Type 0 where
   pub place : ℕ
 
 abbrev pub at : Replay → At
-at r = record { held = r.window.held; allowed = r.window.allowed; hub = r.hub; said = r.said.items; place = r.place }
+at r = record { held = r.window.held; allowed = r.window.allowed; hub = r.hub; said = r.said.items;
+    place = r.place }
 
 -- before the first record
 abbrev pub at_start : At
@@ -32,7 +34,8 @@ at_start = record { held = []; allowed = longest_script; hub = start; said = [];
 abbrev pub place_sum : At → ℕ
 place_sum r = r.place + length r.held + r.allowed
 
--- From one replay to a later one: what was read, written and printed. Whatever bytes follow, the run goes on as from the later one.
+-- From one replay to a later one: what was read, written and printed. Whatever bytes follow, the
+-- run goes on as from the later one.
 pub record Goes (old new : At) (left left' written written' : Option (List ℕ)) : Type 0 where
   pub more : List ℕ
   pub sent : List ℕ
@@ -43,15 +46,22 @@ pub record Goes (old new : At) (left left' written written' : Option (List ℕ))
   pub allowed : new.allowed + length more ≡ old.allowed
   pub rises : old.place ≤ new.place
   pub size : new.place + length new.held ≡ old.place + length old.held + length more
-  pub runs : (rest : List ℕ) → run old.hub (old.held ++ (more ++ rest)) ≡ behind told (new.place - old.place) (run new.hub (new.held ++ rest))
+  pub runs : (rest : List ℕ) → run old.hub (old.held ++ (more ++ rest)) ≡ behind told
+      (new.place - old.place) (run new.hub (new.held ++ rest))
+  pub opens : (rest : List ℕ) → is_open old.hub (old.held ++ (more ++ rest)) ≡ is_open new.hub
+      (new.held ++ rest)
 
 -- what is to be said of an ending, where `told` was printed since and `more` read
 abbrev pub EndsAs : HowEnded → At → List ℕ → List ℕ → Option (List ℕ) → Type 0
-EndsAs Ended old more told left' = (rest : List ℕ) → (taken : ℕ) × (run old.hub (old.held ++ (more ++ rest)) ≡ record { out = told; taken = taken; ended = true })
+EndsAs Ended old more told left' = (rest : List ℕ) → (taken : ℕ)
+    × (run old.hub (old.held ++ (more ++ rest)) ≡ record { out = told; taken = taken;
+    ended = true })
 EndsAs (Refused place) old more told left' =
     (old.place ≤ place)
-    × (run old.hub (old.held ++ (more ++ remaining left' (old.allowed - length more))) ≡ record { out = told; taken = place - old.place; ended = false })
-EndsAs InputFault old more told left' = (run old.hub (old.held ++ more)).out ≡ told
+    × (run old.hub (old.held ++ (more ++ remaining left' (old.allowed - length more))) ≡ record {
+        out = told; taken = place - old.place; ended = false })
+EndsAs InputFault old more told left' =
+    ((run old.hub (old.held ++ more)).out ≡ told) × (is_open old.hub (old.held ++ more) ≡ true)
 EndsAs OutputFault old more told left' = Unit {0}
 EndsAs NoMemory old more told left' = Unit {0}
 
@@ -63,8 +73,10 @@ Keeps InputFault unsent said = unsent ≡ said
 Keeps OutputFault unsent said = Unit {0}
 Keeps NoMemory unsent said = unsent ≡ said
 
--- From a replay to its ending: what was printed since is the front of what the records print, whatever follows.
-pub record Leaves (ending : HowEnded) (old : At) (said : List ℕ) (left left' written written' : Option (List ℕ)) : Type 0 where
+-- From a replay to its ending: what was printed since is the front of what the records print,
+-- whatever follows.
+pub record Leaves (ending : HowEnded) (old : At) (said : List ℕ)
+    (left left' written written' : Option (List ℕ)) : Type 0 where
   pub more : List ℕ
   pub sent : List ℕ
   pub told : List ℕ
@@ -74,14 +86,18 @@ pub record Leaves (ending : HowEnded) (old : At) (said : List ℕ) (left left' w
   pub says : old.said ++ told ≡ sent ++ unsent
   pub keeps : Keeps ending unsent said
   pub allowed : length more ≤ old.allowed
-  pub front : (rest : List ℕ) → (later : List ℕ) × ((run old.hub (old.held ++ (more ++ rest))).out ≡ told ++ later)
+  pub front : (rest : List ℕ) → (later : List ℕ)
+      × ((run old.hub (old.held ++ (more ++ rest))).out ≡ told ++ later)
   pub ends : EndsAs ending old more told left'
 
 -- one step: it goes on, with less to do, or ends
-abbrev pub Advances : Option HowEnded → At → At → Option (List ℕ) → Option (List ℕ) → Option (List ℕ) → Option (List ℕ) → Type 0
+abbrev pub Advances : Option HowEnded → At → At → Option (List ℕ) → Option (List ℕ)
+    → Option (List ℕ) → Option (List ℕ) → Type 0
 Advances None old new left left' written written' =
-    Goes old new left left' written written' × (2 * new.allowed + length new.held < 2 * old.allowed + length old.held)
-Advances (Some ending) old new left left' written written' = Leaves ending old new.said left left' written written'
+    Goes old new left left' written written'
+        × (2 * new.allowed + length new.held < 2 * old.allowed + length old.held)
+Advances (Some ending) old new left left' written written' =
+    Leaves ending old new.said left left' written written'
 
 -- an ending by a fault has its cause
 abbrev pub Blames : HowEnded → ℕ → ℕ → ℕ → ℕ → Type 0
@@ -94,7 +110,8 @@ Blames NoMemory input input' out out' = Unit {0}
 -- neither count of faults fell, and a fault raised its own
 abbrev pub HasCause : Option HowEnded → ℕ → ℕ → ℕ → ℕ → Type 0
 HasCause None input input' out out' = (input ≤ input') × (out ≤ out')
-HasCause (Some ending) input input' out out' = (input ≤ input') × (out ≤ out') × Blames ending input input' out out'
+HasCause (Some ending) input input' out out' =
+    (input ≤ input') × (out ≤ out') × Blames ending input input' out out'
 
 -- more bytes are in hand, behind some that were let go
 pub record Passes (old new : Windowed) (left left' : Option (List ℕ)) (count : ℕ) : Type 0 where
@@ -116,16 +133,20 @@ pub record Lacks (old new : Windowed) (left left' : Option (List ℕ)) (count : 
 -- letting go of so many bytes, so that one at least stands behind them
 abbrev pub Skips : Refill → Windowed → Windowed → Option (List ℕ) → Option (List ℕ) → ℕ → Type 0
 Skips More old new left left' count = Passes old new left left' count
-Skips End old new left left' count = Lacks old new left left' count × (remaining left' new.allowed ≡ [])
+Skips End old new left left' count = Lacks old new left left' count
+    × (remaining left' new.allowed ≡ [])
 Skips Failed old new left left' count = Lacks old new left left' count
 Skips NoRoom old new left left' count = Lacks old new left left' count
 
 -- what was said went out, or waits on; where the output failed, the front of it went out
-abbrev pub Flushes : {A E : Type 0} → Result A E → List ℕ → List ℕ → Option (List ℕ) → Option (List ℕ) → Type 0
-Flushes (Ok x) said said' written written' = (sent : List ℕ) × (said ≡ sent ++ said') × Appends written written' sent
+abbrev pub Flushes : {A E : Type 0} → Result A E → List ℕ → List ℕ → Option (List ℕ)
+    → Option (List ℕ) → Type 0
+Flushes (Ok x) said said' written written' = (sent : List ℕ) × (said ≡ sent ++ said')
+    × Appends written written' sent
 Flushes (Err e) said said' written written' = (n : ℕ) × Appends written written' (take n said)
 
--- a message too long to be looked at, behind whose payload LF stands, is refused and passed; else it is no record
+-- a message too long to be looked at, behind whose payload LF stands, is refused and passed; else
+-- it is no record
 abbrev pub RefusesLong : Option HowEnded → ℕ → ℕ → At → At → Type 0
 RefusesLong None end count old new =
     (slice_get old.held 0 ≡ Some 10)
@@ -136,7 +157,8 @@ RefusesLong None end count old new =
     × (new.place ≡ old.place + end + 1)
 RefusesLong (Some Ended) end count old new = ⊥
 RefusesLong (Some (Refused place)) end count old new =
-    (place ≡ old.place) × (new.said ≡ old.said) × (new.allowed ≡ old.allowed) × (is_fed (slice_get old.held 0) ≡ false)
+    (place ≡ old.place) × (new.said ≡ old.said) × (new.allowed ≡ old.allowed)
+        × (is_fed (slice_get old.held 0) ≡ false)
 RefusesLong (Some InputFault) end count old new = ⊥
 RefusesLong (Some OutputFault) end count old new = ⊥
 RefusesLong (Some NoMemory) end count old new = (new.said ≡ []) × (new.allowed ≡ old.allowed)

@@ -2,19 +2,26 @@
 ghost use Rattle.std.specs.Prelude.{◌≡◌, ◌++◌, IfOk};
 ghost use Rattle.std.specs.String.{string_bytes};
 ghost use Rattle.script_defs.specs.Output.{refused_line};
-ghost use Rattle.hub_replay.specs.Outcome.{Outcome, output_of_script, Last, Finishes};
+ghost use Rattle.hub_replay.specs.Outcome.{ReplayOutcome, Last, Finishes};
+ghost use Rattle.hub_outside.specs.Outside.{stream};
 
 use crate::running::do_all;
 use crate::statuses::{DONE, FAULT, NO_MEMORY, OUTPUT_FAULT, REFUSED_SCRIPT};
 use crate::steps::{Ending, Replay};
 use hub_outside::{OutputFault, Sink, Source, write_all};
-use std::alloc::{AllocError, Global};
+use crate::NoMemory;
+use std::alloc::Global;
 
-/// Replays the script on the input: does its records in order, and writes what they print. Gives the exit
-/// status: 0 where the script was read to its end, 4 where the input failed, 5 where the output did, 6 where
-/// memory ran out, and 7 where the script is refused.
+/// Replays the script on the input: does its records in order, and writes what they print. Gives
+/// the exit status: 0 where the script was read to its end, 4 where the input failed, 5 where the
+/// output did, 6 where memory ran out, and 7 where the script is refused.
 pub fn replay<S: Source, K: Sink>(alloc: Global, input: &mut S, out: &mut K) -> u8
-    ensures { Outcome output_of_script result (S.left input.old) (S.left input.new) (K.written out.old) (K.written out.new) (S.faults input.old) (S.faults input.new) (K.faults out.old) (K.faults out.new) }
+    ensures { ReplayOutcome
+        (stream (S.left input.old) (S.faults input.old))
+        (stream (S.left input.new) (S.faults input.new))
+        (stream (K.written out.old) (K.faults out.old))
+        (stream (K.written out.new) (K.faults out.new))
+        result }
 {
     let mut run = Replay::new(alloc);
     let ending = do_all(alloc, &mut run, input, out);
@@ -23,7 +30,8 @@ pub fn replay<S: Source, K: Sink>(alloc: Global, input: &mut S, out: &mut K) -> 
 
 // Writes what is left to be written at an ending, and gives the status.
 fn finish<K: Sink>(alloc: Global, ending: Ending, said: &[u8], out: &mut K) -> u8
-    ensures { Finishes ending result said.now (K.written out.old) (K.written out.new) (K.faults out.old) (K.faults out.new) }
+    ensures { Finishes ending result said.now (K.written out.old) (K.written out.new)
+        (K.faults out.old) (K.faults out.new) }
 {
     match ending {
         Ending::Ended => write_last(said, b"", DONE, out),
@@ -38,7 +46,7 @@ fn finish<K: Sink>(alloc: Global, ending: Ending, said: &[u8], out: &mut K) -> u
 }
 
 // The line of a script that is refused.
-fn refused_text(alloc: Global, place: u64) -> Result<String, AllocError>
+fn refused_text(alloc: Global, place: u64) -> Result<String, NoMemory>
     ensures { IfOk result (λ text. string_bytes text ≡ refused_line place) }
 {
     format!(in alloc; "hub: script refused at {place}\n")
@@ -46,7 +54,8 @@ fn refused_text(alloc: Global, place: u64) -> Result<String, AllocError>
 
 // Writes what was said and a last line. The status is the given one, unless the output fails.
 fn write_last<K: Sink>(said: &[u8], line: &[u8], status: u8, out: &mut K) -> u8
-    ensures { Last status (said.now ++ line.now) result (K.written out.old) (K.written out.new) (K.faults out.old) (K.faults out.new) }
+    ensures { Last status (said.now ++ line.now) result (K.written out.old) (K.written out.new)
+        (K.faults out.old) (K.faults out.new) }
 {
     match write_all(out, said) {
         Ok(()) => match write_all(out, line) {

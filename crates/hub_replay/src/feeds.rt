@@ -1,39 +1,48 @@
 //! The hub that a script works on.
-ghost use Rattle.std.specs.Prelude.{◌≡◌, ◌<◌, length, position, OnOk, IfOk, MatchOption};
-ghost use Rattle.std.specs.List.{position_from, list_any, list_all};
+ghost use Rattle.std.specs.Prelude.{◌≡◌, ◌<◌, ◌&&◌, [], length, nat_lt, not, position, OnOk, IfOk, MatchOption};
+ghost use Rattle.std.specs.List.{position_from, list_any};
 ghost use Rattle.std.specs.Str.{bytes_eq};
-ghost use Rattle.script_defs.specs.Record.{start, may_declare};
-ghost use Rattle.text_defs.specs.Names.{is_name_byte, is_name};
+ghost use Rattle.text_defs.specs.Names.{is_name};
+ghost use Rattle.script_defs.specs.Record.{start, most_feeds};
 ghost use Rattle.feed_defs.specs.Combined.{combined};
-ghost use Rattle.hub_replay.specs.Feeds.{begun, Answers, Declares};
+ghost use Rattle.hub_replay.specs.Feeds.{running, Answers, Declares};
 
+use crate::NoMemory;
 use hub_core::{Refusal, ReplayHub};
-use rt_types::{Copied, Text};
-use std::alloc::{AllocError, Global};
+use rt_types::Text;
+use std::alloc::Global;
 use std::marker::Model;
+use std::mem;
 use texts::is_name;
 
 /// The most feeds.
 const MOST_FEEDS: usize = 64;
 
-/// The feeds that a script declared, and the hub that keeps what it offered: it is made at the first
-/// record that declares no feed.
+/// Where a script stands: it declares feeds, or runs on the hub that has them.
+#[derive(Drop)]
+pub(crate) enum ScriptState {
+    /// Only feeds were declared so far: their names.
+    Declaring(Vec<Text>),
+    /// Another record came: no feed can be declared any more.
+    Running(ReplayHub),
+}
+
+/// The hub of a script. It is made at the first record that declares no feed.
 #[derive(Drop)]
 pub(crate) struct ScriptHub {
-    names: Vec<Text>,
-    core: Option<ReplayHub>,
+    state: ScriptState,
 }
 
 impl Model for ScriptHub {
-    ghost use Rattle.std.specs.Prelude.{◌≡◌, ◌≤◌, length, is_some};
+    ghost use Rattle.std.specs.Prelude.{◌≤◌, length};
     ghost use Rattle.script_defs.specs.Record.{Hub};
-    ghost use Rattle.hub_replay.specs.Feeds.{history_of, names_of};
+    ghost use Rattle.hub_replay.specs.Feeds.{hub_of};
 
     ghost Value = { Hub };
 
-    ghost view = { λ hub. record { names = hub.names.items; history = history_of hub.core; begun = is_some hub.core } };
+    ghost view = { λ hub. hub_of hub.state };
 
-    ghost invariant = { λ hub. (length hub.names.items ≤ 64) × (names_of hub.names.items hub.core ≡ hub.names.items) };
+    ghost invariant = { λ hub. length (hub_of hub.state).names ≤ 64 };
 }
 
 impl ScriptHub {
@@ -42,31 +51,39 @@ impl ScriptHub {
         ensures { result ≡ start }
     {
         ScriptHub {
-            names: Vec::new(alloc),
-            core: None,
+            state: ScriptState::Declaring(Vec::new(alloc)),
         }
     }
 
-    /// Declares a feed of that name where the script may: before all other records, under a new name of
-    /// the right form, as one of at most 64. Answers whether it did.
-    pub(crate) fn declare(&mut self, alloc: Global, name: &str) -> Result<bool, AllocError>
+    /// Declares a feed of that name where the script may: before all other records, under a new
+    /// name of the right form, as one of at most 64. Answers whether it did.
+    pub(crate) fn declare(&mut self, alloc: Global, name: &str) -> Result<bool, NoMemory>
         ensures { Declares result self.old self.new name.now }
     {
-        if !self.may_declare(name) {
-            return Ok(false);
+        match &mut self.state {
+            ScriptState::Declaring(names) => {
+                if !is_new_name(names, name) {
+                    return Ok(false);
+                }
+                let name = Text::new(alloc, name)?;
+                names.push(name)?;
+                Ok(true)
+            }
+            ScriptState::Running(_) => Ok(false),
         }
-        let name = Text::new(alloc, name)?;
-        self.names.push(name)?;
-        Ok(true)
     }
 
     /// The number of the feed of that name, counted from 0 in the order of their records.
     pub(crate) fn feed_number(&self, name: &str) -> Option<u32>
         ensures { MatchOption result (position_from (bytes_eq name.now) 0 self.now.names ≡ None)
-            (λ k. (k < length self.now.names) × (position_from (bytes_eq name.now) 0 self.now.names ≡ Some k)) }
+            (λ k. (k < length self.now.names)
+                × (position_from (bytes_eq name.now) 0 self.now.names ≡ Some k)) }
     {
-        let _ = &self.core;
-        match feed_place(&self.names, name) {
+        let place = match &self.state {
+            ScriptState::Declaring(names) => feed_place(names, name),
+            ScriptState::Running(hub) => feed_place(hub.names(), name),
+        };
+        match place {
             Some(place) => Some(place as u32),
             None => None,
         }
@@ -77,46 +94,62 @@ impl ScriptHub {
         requires { feed < length self.old.names }
         ensures { Answers feed bytes.now self.old self.new result }
     {
-        if self.begin(alloc).is_err() {
-            return Err(Refusal::NoMemory);
-        }
-        match &mut self.core {
-            Some(core) => core.offer(feed, bytes),
-            None => unreachable!(),
+        match &mut self.state {
+            ScriptState::Running(hub) => hub.offer(feed, bytes),
+            ScriptState::Declaring(names) => {
+                let mut hub = hub_with(alloc, names)?;
+                let answer = hub.offer(feed, bytes);
+                self.state = ScriptState::Running(hub);
+                answer
+            }
         }
     }
 
     /// The combined feed of all that was accepted. From here on no feed can be declared.
-    pub(crate) fn combined(&mut self, alloc: Global) -> Result<Vec<u8>, AllocError>
-        ensures { IfOk result (λ bytes. (bytes.items ≡ combined self.old.names self.old.history) × (self.new ≡ begun self.old)) }
+    pub(crate) fn combined(&mut self, alloc: Global) -> Result<Vec<u8>, NoMemory>
+        ensures { IfOk result (λ bytes. (bytes.items ≡ combined self.old.names self.old.history)
+            × (self.new ≡ running self.old)) }
     {
-        self.begin(alloc)?;
-        match &self.core {
-            Some(core) => core.combined(),
-            None => unreachable!(),
+        match &mut self.state {
+            ScriptState::Running(hub) => hub.combined(),
+            ScriptState::Declaring(names) => {
+                let hub = hub_with(alloc, names)?;
+                let feed = hub.combined();
+                self.state = ScriptState::Running(hub);
+                feed
+            }
         }
     }
 
     /// Makes the hub, unless it is there: from here on no feed can be declared.
-    pub(crate) fn begin(&mut self, alloc: Global) -> Result<(), AllocError>
-        ensures { OnOk result (self.new ≡ begun self.old) }
+    pub(crate) fn begin(&mut self, alloc: Global) -> Result<(), NoMemory>
+        ensures { OnOk result (self.new ≡ running self.old) }
     {
-        if self.core.is_none() {
-            let names = copied(alloc, &self.names)?;
-            self.core = Some(ReplayHub::plain(alloc, names)?);
+        match &mut self.state {
+            ScriptState::Running(_) => {}
+            ScriptState::Declaring(names) => {
+                let hub = hub_with(alloc, names)?;
+                self.state = ScriptState::Running(hub);
+            }
         }
         Ok(())
     }
+}
 
-    // Whether the script may declare a feed of that name here.
-    fn may_declare(&self, name: &str) -> bool
-        ensures { result ≡ may_declare self.now name.now }
-    {
-        self.core.is_none()
-            && is_name(name.as_bytes())
-            && !is_among(&self.names, name)
-            && self.names.len() < MOST_FEEDS
-    }
+// The hub of these feeds, whose names it takes.
+fn hub_with(alloc: Global, names: &mut Vec<Text>) -> Result<ReplayHub, NoMemory>
+    ensures ok { IfOk result (λ hub. hub ≡ record { names = names.old.items; history = [] }) }
+    ensures taken { names.new.items ≡ [] }
+{
+    ReplayHub::plain(alloc, mem::replace(names, Vec::new(alloc)))
+}
+
+// Whether a feed of that name may follow those names.
+fn is_new_name(names: &[Text], name: &str) -> bool
+    ensures { result ≡ (is_name name.now && not (list_any (bytes_eq name.now) names.now)
+        && nat_lt (length names.now) most_feeds) }
+{
+    is_name(name.as_bytes()) && !is_among(names, name) && names.len() < MOST_FEEDS
 }
 
 // Whether the name is one of the names.
@@ -138,15 +171,4 @@ fn first_place(names: &[Text], name: &str) -> Option<usize>
     ensures { result ≡ position (bytes_eq name.now) names.now }
 {
     names.iter().position(|known| name == known.as_str())
-}
-
-// Copies of the names.
-fn copied(alloc: Global, names: &[Text]) -> Result<Vec<Text>, AllocError>
-    ensures { IfOk result (λ copies. copies.items ≡ names.now) }
-{
-    let mut copies = Vec::new(alloc);
-    for name in names {
-        copies.push(name.copy()?)?;
-    }
-    Ok(copies)
 }

@@ -1,13 +1,14 @@
 //! Reads and runs the scripts of `hub replay`, over any input and output.
 //!
-//! [`replay`] reads a script in pieces, does its records in order and writes what they print. Its contract
-//! says which bytes were written and which status the command ends with, by the definitions of
-//! `script_defs`, which speak of the whole input as a list. [`parse_line`] says which record a line is.
+//! [`replay`] reads a script in pieces, does its records in order and writes what they print. Its
+//! contract says which bytes were written and which status the command ends with, by the
+//! definitions of `script_defs`, which speak of the whole input as a list. [`parse_line`] says
+//! which record a line is.
 //!
 //! The parts by job: `lines` (what a record's line says), `feeds` (the hub that a script works on),
-//! `records` (one whole record), `replies` (the lines that answer an offered message), `window` (the bytes
-//! that were read and not yet used), `steps` (one step of a replay), `running` (all of them) and `ending`
-//! (the last bytes, and the status).
+//! `records` (one whole record), `replies` (the lines that answer an offered message), `window`
+//! (the bytes that were read and not yet used), `steps` (one step of a replay), `running` (all of
+//! them) and `ending` (the last bytes, and the status).
 //!
 //! The crate stands on `hub_core` for the messages and on `hub_outside` for input and output.
 #![tactic(auto)]

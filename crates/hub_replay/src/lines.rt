@@ -29,7 +29,9 @@ pub enum Line<'a> {
 /// Where the line in front ends: the place of its LF, which is among the first 4096 bytes.
 pub(crate) fn line_end(bytes: &[u8]) -> Option<usize>
     ensures { MatchOption result (line_within longest_line bytes.now ≡ None)
-        (λ k. (k < length bytes.now) × (k < longest_line) × (line_within longest_line bytes.now ≡ Some (take k bytes.now, drop (k + 1) bytes.now))) }
+        (λ k. (k < length bytes.now) × (k < longest_line)
+            × (line_within longest_line bytes.now ≡ Some
+            (take k bytes.now, drop (k + 1) bytes.now))) }
 {
     line_feed_place(&bytes[..bytes.len().min(LONGEST_LINE)])
 }
@@ -53,7 +55,8 @@ pub fn parse_line(line: &[u8]) -> Option<Line<'_>>
 
 // The line as a text, if it is one and has no percent sign.
 fn plain_text(line: &[u8]) -> Option<&str>
-    ensures { MatchOption result (is_plain_line line.now ≡ false) (λ text. (text.now ≡ line.now) × (is_plain_line line.now ≡ true)) }
+    ensures { MatchOption result (is_plain_line line.now ≡ false) (λ text. (text.now ≡ line.now)
+        × (is_plain_line line.now ≡ true)) }
 {
     match str::from_utf8(line) {
         Ok(text) => {
@@ -76,7 +79,8 @@ fn has_no_percent(line: &[u8]) -> bool
 
 // The first word of a line and what stands behind its space, where there is one.
 fn first_word(line: &str) -> Option<(&str, &str)>
-    ensures { MatchOption result (words_of line.now ≡ line.now ∷ []) (λ parts. words_of line.now ≡ parts.0.now ∷ words_of parts.1.now) }
+    ensures { MatchOption result (words_of line.now ≡ line.now ∷ [])
+        (λ parts. words_of line.now ≡ parts.0.now ∷ words_of parts.1.now) }
 {
     line.split_once(' ')
 }

@@ -3,13 +3,13 @@ ghost use Rattle.std.specs.Prelude.{◌≡◌, ◌<◌, ◌≤◌, ◌+◌, ◌+
 ghost use Rattle.std.specs.Fmt.{decimal};
 ghost use Rattle.text_defs.specs.Cleaned.{line_feed};
 ghost use Rattle.script_defs.specs.Record.Head.{Feed, Message, Combined};
-ghost use Rattle.hub_replay.specs.Lines.{head_seen};
-ghost use Rattle.hub_replay.specs.Records.{Turns, Acts, Numbered, Says, OffersTo};
+ghost use Rattle.hub_replay.specs.Records.{Turns, Acts, LacksLine, Says, OffersTo};
 
 use crate::feeds::ScriptHub;
 use crate::lines::{LONGEST_LINE, Line, line_end, parse_line};
 use crate::replies::reply_line;
-use std::alloc::{AllocError, Global};
+use crate::NoMemory;
+use std::alloc::Global;
 
 /// The most bytes of a message that is looked at; a longer one is refused unseen.
 const LONGEST_MESSAGE: u32 = 16_777_216;
@@ -22,8 +22,8 @@ pub(crate) enum Step {
     Ends,
     /// No whole record; there is one perhaps once more bytes follow.
     Short,
-    /// A message of so many bytes, too long to be looked at: it is refused if LF stands at the place `end`,
-    /// behind its last byte.
+    /// A message of so many bytes, too long to be looked at: it is refused if LF stands at the
+    /// place `end`, behind its last byte.
     Long { end: usize, size: u32 },
     /// No record, whatever follows.
     Refused,
@@ -42,37 +42,28 @@ pub(crate) fn do_record(
 {
     match line_end(bytes) {
         Some(end) => match parse_line(&bytes[..end]) {
-            Some(head) => do_head(alloc, hub, head, bytes, end + 1, said),
+            Some(Line::Feed(name)) => do_feed(alloc, hub, name, bytes, end + 1, said),
+            Some(Line::Message(feed, size)) => {
+                do_message(alloc, hub, feed, size, bytes, end + 1, said)
+            }
+            Some(Line::Combined(schedule)) => {
+                do_combined(alloc, hub, schedule, bytes, end + 1, said)
+            }
+            Some(Line::End) => Step::Ends,
             None => Step::Refused,
         },
-        None => {
-            if bytes.len() < LONGEST_LINE {
-                Step::Short
-            } else {
-                Step::Refused
-            }
-        }
+        None => step_without_line(bytes.len()),
     }
 }
 
-// Does the record of a line; what stands behind the line begins at `behind`.
-fn do_head(
-    alloc: Global,
-    hub: &mut ScriptHub,
-    head: Line<'_>,
-    bytes: &[u8],
-    behind: usize,
-    said: &mut Vec<u8>,
-) -> Step
-    requires within { behind ≤ length bytes.now }
-    requires line { behind ≤ 4096 }
-    ensures { Acts (head_seen head.entry) behind result hub.old hub.new bytes.now said.old.items said.new.items }
+// Bytes without a line's end wait for more of them, while a line may be longer.
+fn step_without_line(count: usize) -> Step
+    ensures { LacksLine count result }
 {
-    match head {
-        Line::Feed(name) => do_feed(alloc, hub, name, bytes, behind, said),
-        Line::Message(feed, size) => do_message(alloc, hub, feed, size, bytes, behind, said),
-        Line::Combined(schedule) => do_combined(alloc, hub, schedule, bytes, behind, said),
-        Line::End => Step::Ends,
+    if count < LONGEST_LINE {
+        Step::Short
+    } else {
+        Step::Refused
     }
 }
 
@@ -86,7 +77,8 @@ fn do_feed(
     said: &mut Vec<u8>,
 ) -> Step
     requires { behind ≤ length bytes.now }
-    ensures { Acts (Feed name.now) behind result hub.old hub.new bytes.now said.old.items said.new.items }
+    ensures { Acts (Feed name.now) behind result hub.old hub.new
+        bytes.now said.old.items said.new.items }
 {
     match hub.declare(alloc, name) {
         Ok(true) => Step::Whole(behind),
@@ -107,29 +99,12 @@ fn do_message(
 ) -> Step
     requires within { behind ≤ length bytes.now }
     requires line { behind ≤ 4096 }
-    ensures { Acts (Message feed.now size) behind result hub.old hub.new bytes.now said.old.items said.new.items }
+    ensures { Acts (Message feed.now size) behind result hub.old hub.new
+        bytes.now said.old.items said.new.items }
 {
-    match hub.feed_number(feed) {
-        Some(feed) => do_offer(alloc, hub, feed, size, bytes, behind, said),
-        None => Step::Refused,
-    }
-}
-
-// Offers a message to the feed of that number.
-fn do_offer(
-    alloc: Global,
-    hub: &mut ScriptHub,
-    feed: u32,
-    size: u32,
-    bytes: &[u8],
-    behind: usize,
-    said: &mut Vec<u8>,
-) -> Step
-    requires feed { feed < length hub.old.names }
-    requires within { behind ≤ length bytes.now }
-    requires line { behind ≤ 4096 }
-    ensures { Numbered feed size behind result hub.old hub.new bytes.now said.old.items said.new.items }
-{
+    let Some(feed) = hub.feed_number(feed) else {
+        return Step::Refused;
+    };
     let end = behind + size as usize;
     if size > LONGEST_MESSAGE {
         return Step::Long { end, size };
@@ -161,7 +136,8 @@ fn do_combined(
     said: &mut Vec<u8>,
 ) -> Step
     requires { behind ≤ length bytes.now }
-    ensures { Acts (Combined schedule.now) behind result hub.old hub.new bytes.now said.old.items said.new.items }
+    ensures { Acts (Combined schedule.now) behind result hub.old hub.new bytes.now said.old.items
+        said.new.items }
 {
     if schedule == "plain" {
         let Ok(feed) = hub.combined(alloc) else {
@@ -189,7 +165,7 @@ fn offer(
     feed: u32,
     bytes: &[u8],
     said: &mut Vec<u8>,
-) -> Result<(), AllocError>
+) -> Result<(), NoMemory>
     requires { feed < length hub.old.names }
     ensures { OffersTo result feed bytes.now hub.old hub.new said.old.items said.new.items }
 {
@@ -199,8 +175,9 @@ fn offer(
 }
 
 // A feed, with its length before it and LF behind it.
-fn say_feed(alloc: Global, feed: &[u8], said: &mut Vec<u8>) -> Result<(), AllocError>
-    ensures { Says result said.old.items said.new.items (codes "feed " ++ decimal (length feed.now) ++ line_feed ++ feed.now ++ line_feed) }
+fn say_feed(alloc: Global, feed: &[u8], said: &mut Vec<u8>) -> Result<(), NoMemory>
+    ensures { Says result said.old.items said.new.items (codes "feed " ++ decimal (length feed.now)
+        ++ line_feed ++ feed.now ++ line_feed) }
 {
     let length = feed.len();
     let line = format!(in alloc; "feed {length}\n")?;
@@ -210,7 +187,7 @@ fn say_feed(alloc: Global, feed: &[u8], said: &mut Vec<u8>) -> Result<(), AllocE
 }
 
 /// Something more to be printed.
-pub(crate) fn say(text: &[u8], said: &mut Vec<u8>) -> Result<(), AllocError>
+pub(crate) fn say(text: &[u8], said: &mut Vec<u8>) -> Result<(), NoMemory>
     ensures { Says result said.old.items said.new.items text.now }
 {
     said.extend_from_slice(text)

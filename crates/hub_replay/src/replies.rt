@@ -6,16 +6,17 @@ ghost use Rattle.feed_defs.specs.History.Refusal.{TooLong as LongCause, Malforme
 ghost use Rattle.script_defs.specs.Record.{reply_line};
 ghost use Rattle.text_defs.specs.Cleaned.{line_feed, cleaned_text};
 ghost use Rattle.script_defs.specs.Texts.{what_word, kind_name};
-ghost use Rattle.hub_replay.specs.Records.{Tells};
+ghost use Rattle.hub_replay.specs.Records.{IsReplyLine};
 
 use hub_core::Refusal;
 use rt_types::{Kind, What};
-use std::alloc::{AllocError, Global};
+use crate::NoMemory;
+use std::alloc::Global;
 use texts::push_cleaned;
 
 /// The line that answers an offered message.
-pub(crate) fn reply_line(alloc: Global, reply: Result<u64, Refusal>) -> Result<Vec<u8>, AllocError>
-    ensures { IfOk result (λ line. Tells reply line.items) }
+pub(crate) fn reply_line(alloc: Global, reply: Result<u64, Refusal>) -> Result<Vec<u8>, NoMemory>
+    ensures { IfOk result (λ line. IsReplyLine reply line.items) }
 {
     let line = match reply {
         Ok(count) => format!(in alloc; "accepted {count}\n")?,
@@ -31,20 +32,21 @@ pub(crate) fn reply_line(alloc: Global, reply: Result<u64, Refusal>) -> Result<V
         Err(Refusal::Version(version)) => return version_line(alloc, version.as_str()),
         Err(Refusal::BadStamp { got }) => format!(in alloc; "refused stamp {got}\n")?,
         Err(Refusal::Stale { last, got }) => stale_line(alloc, last, got)?,
-        Err(Refusal::NoMemory) => return Err(AllocError),
+        Err(Refusal::NoMemory) => return Err(NoMemory),
     };
     Ok(line.into_bytes())
 }
 
 /// The line that refuses a message of so many bytes.
-pub(crate) fn too_long_line(alloc: Global, len: u64) -> Result<String, AllocError>
+pub(crate) fn too_long_line(alloc: Global, len: u64) -> Result<String, NoMemory>
     ensures { IfOk result (λ line. string_bytes line ≡ reply_line (Err (LongCause len))) }
 {
     format!(in alloc; "refused toolong {len}\n")
 }
 
-// The line that refuses a message no newer than its feed's last; both stamps are in seconds since 1970.
-fn stale_line(alloc: Global, last: u64, got: u64) -> Result<String, AllocError>
+// The line that refuses a message no newer than its feed's last; both stamps are in seconds since
+// 1970.
+fn stale_line(alloc: Global, last: u64, got: u64) -> Result<String, NoMemory>
     ensures { IfOk result (λ line. string_bytes line ≡ reply_line (Err (StaleCause last got))) }
 {
     format!(in alloc; "refused stale {last} {got}\n")
@@ -57,8 +59,9 @@ fn malformed_line(
     what: What,
     kind: Kind,
     field: u32,
-) -> Result<String, AllocError>
-    ensures { IfOk result (λ line. string_bytes line ≡ reply_line (Err (FaultCause (record { entity = entity; what = what; kind = kind; field = field })))) }
+) -> Result<String, NoMemory>
+    ensures { IfOk result (λ line. string_bytes line ≡ reply_line
+        (Err (FaultCause (record { entity = entity; what = what; kind = kind; field = field })))) }
 {
     fault_line(alloc, entity, what_word(what), kind_name(kind), field)
 }
@@ -70,14 +73,17 @@ fn fault_line(
     what: &str,
     kind: &str,
     field: u32,
-) -> Result<String, AllocError>
-    ensures { IfOk result (λ line. string_bytes line ≡ codes "refused malformed " ++ (decimal entity ++ codes " " ++ what.now ++ codes " " ++ kind.now ++ codes " " ++ decimal field) ++ line_feed) }
+) -> Result<String, NoMemory>
+    ensures { IfOk result (λ line. string_bytes line ≡ codes "refused malformed "
+        ++ (decimal entity ++ codes " " ++ what.now ++ codes " " ++ kind.now ++ codes " "
+        ++ decimal field) ++ line_feed) }
 {
     format!(in alloc; "refused malformed {entity} {what} {kind} {field}\n")
 }
 
-// The line that refuses a message of another version, whose control characters would break the line.
-fn version_line(alloc: Global, version: &str) -> Result<Vec<u8>, AllocError>
+// The line that refuses a message of another version, whose control characters would break the
+// line.
+fn version_line(alloc: Global, version: &str) -> Result<Vec<u8>, NoMemory>
     ensures { IfOk result (λ line. line.items ≡ reply_line (Err (VersionCause version.now))) }
 {
     let mut line = Vec::from_slice(alloc, b"refused version ")?;

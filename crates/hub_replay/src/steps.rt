@@ -1,7 +1,7 @@
 //! One step of a replay: a record, or more of the input.
-ghost use Rattle.std.specs.Prelude.{◌≡◌, ◌≤◌, ◌<◌, ◌+◌, length, ℕ, List, [], ◌++◌, OnOk, OnErr, None, Err};
+ghost use Rattle.std.specs.Prelude.{◌≡◌, ◌≤◌, ◌<◌, ◌+◌, length, ℕ, List, [], ◌++◌, OnOk, OnErr, None, Err, true};
 ghost use Rattle.feed_defs.specs.History.Refusal.{TooLong};
-ghost use Rattle.script_defs.specs.Record.{turn, reply_line};
+ghost use Rattle.script_defs.specs.Record.{turn, waits, reply_line};
 ghost use Rattle.script_defs.specs.Output.{longest_script};
 ghost use Rattle.hub_outside.specs.Writing.{WritesAll, HasWritingCause};
 ghost use Rattle.hub_replay.specs.Window.{HasRefillCause};
@@ -13,7 +13,8 @@ use crate::records::{Step, byte_at, do_record, say};
 use crate::replies::too_long_line;
 use crate::window::{Refill, Window};
 use hub_outside::{OutputFault, Sink, Source, write_all};
-use std::alloc::{AllocError, Global};
+use crate::NoMemory;
+use std::alloc::Global;
 
 /// So many bytes are written at once where more wait.
 const MOST_WAITING: usize = 65_536;
@@ -59,7 +60,8 @@ impl Replay {
     }
 }
 
-/// Does the record in front, or reads on where it isn't whole. What was said goes out before more is read.
+/// Does the record in front, or reads on where it isn't whole. What was said goes out before more
+/// is read.
 pub(crate) fn advance<S: Source, K: Sink>(
     alloc: Global,
     run: &mut Replay,
@@ -67,8 +69,10 @@ pub(crate) fn advance<S: Source, K: Sink>(
     out: &mut K,
 ) -> Option<Ending>
     requires { place_sum (at run.old) ≤ longest_script }
-    ensures step { Advances result (at run.old) (at run.new) (S.left input.old) (S.left input.new) (K.written out.old) (K.written out.new) }
-    ensures cause { HasCause result (S.faults input.old) (S.faults input.new) (K.faults out.old) (K.faults out.new) }
+    ensures step { Advances result (at run.old) (at run.new) (S.left input.old) (S.left input.new)
+        (K.written out.old) (K.written out.new) }
+    ensures cause { HasCause result (S.faults input.old) (S.faults input.new) (K.faults out.old)
+        (K.faults out.new) }
 {
     let before = run.said.len();
     match do_record(alloc, &mut run.hub, run.window.held(), &mut run.said) {
@@ -93,7 +97,8 @@ pub(crate) fn advance<S: Source, K: Sink>(
 
 // Writes what was said, once much of it waits.
 fn flush_long<K: Sink>(said: &mut Vec<u8>, out: &mut K) -> Result<(), OutputFault>
-    ensures bytes { Flushes result said.old.items said.new.items (K.written out.old) (K.written out.new) }
+    ensures bytes { Flushes result said.old.items said.new.items (K.written out.old)
+        (K.written out.new) }
     ensures cause { HasWritingCause result (K.faults out.old) (K.faults out.new) }
 {
     if said.len() < MOST_WAITING {
@@ -115,9 +120,12 @@ fn flush<K: Sink>(said: &mut Vec<u8>, out: &mut K) -> Result<(), OutputFault>
 
 // Writes what was said and reads on, where no whole record is in hand.
 fn fetch<S: Source, K: Sink>(run: &mut Replay, input: &mut S, out: &mut K) -> Option<Ending>
-    requires { turn run.old.hub run.old.window.held ≡ None }
-    ensures step { Advances result (at run.old) (at run.new) (S.left input.old) (S.left input.new) (K.written out.old) (K.written out.new) }
-    ensures cause { HasCause result (S.faults input.old) (S.faults input.new) (K.faults out.old) (K.faults out.new) }
+    requires record { turn run.old.hub run.old.window.held ≡ None }
+    requires waits { waits run.old.hub run.old.window.held ≡ true }
+    ensures step { Advances result (at run.old) (at run.new) (S.left input.old) (S.left input.new)
+        (K.written out.old) (K.written out.new) }
+    ensures cause { HasCause result (S.faults input.old) (S.faults input.new) (K.faults out.old)
+        (K.faults out.new) }
 {
     match flush(&mut run.said, out) {
         Ok(()) => match run.window.read_more(input) {
@@ -139,10 +147,15 @@ fn pass_message<S: Source, K: Sink>(
     input: &mut S,
     out: &mut K,
 ) -> Option<Ending>
-    requires record { (more : List ℕ) → turn run.old.hub (run.old.window.held ++ more) ≡ long_turn end size run.old.hub (run.old.window.held ++ more) }
+    requires record { (more : List ℕ) → turn run.old.hub (run.old.window.held ++ more) ≡ long_turn
+        end size run.old.hub (run.old.window.held ++ more) }
+    requires waits { (more : List ℕ) → length (run.old.window.held ++ more) ≤ end
+        → waits run.old.hub (run.old.window.held ++ more) ≡ true }
     requires place { place_sum (at run.old) ≤ longest_script }
-    ensures step { Advances result (at run.old) (at run.new) (S.left input.old) (S.left input.new) (K.written out.old) (K.written out.new) }
-    ensures cause { HasCause result (S.faults input.old) (S.faults input.new) (K.faults out.old) (K.faults out.new) }
+    ensures step { Advances result (at run.old) (at run.new) (S.left input.old) (S.left input.new)
+        (K.written out.old) (K.written out.new) }
+    ensures cause { HasCause result (S.faults input.old) (S.faults input.new) (K.faults out.old)
+        (K.faults out.new) }
 {
     match flush(&mut run.said, out) {
         Ok(()) => match skip(&mut run.window, end, input) {
@@ -178,7 +191,7 @@ fn refuse_message(alloc: Global, run: &mut Replay, end: usize, size: u32) -> Opt
 }
 
 // Says that a message has too many bytes, and how many.
-fn say_too_long(alloc: Global, size: u32, said: &mut Vec<u8>) -> Result<(), AllocError>
+fn say_too_long(alloc: Global, size: u32, said: &mut Vec<u8>) -> Result<(), NoMemory>
     ensures { Says result said.old.items said.new.items (reply_line (Err (TooLong size))) }
 {
     let line = too_long_line(alloc, u64::from(size))?;

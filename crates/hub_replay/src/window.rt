@@ -4,7 +4,8 @@ ghost use Rattle.hub_outside.specs.Source.{IsReadWithin, TakesBytes, HasReadCaus
 ghost use Rattle.hub_replay.specs.Window.{Windowed, fresh, Refills, HasRefillCause};
 
 use hub_outside::{ReadAnswer, Source};
-use std::alloc::{AllocError, Global};
+use crate::NoMemory;
+use std::alloc::Global;
 use std::marker::Model;
 
 /// The least room for one read, in bytes.
@@ -41,7 +42,8 @@ impl Model for Window {
 
     ghost Value = { Windowed };
 
-    ghost view = { λ w. record { held = take (w.end - w.start) (drop w.start w.bytes.items); allowed = w.allowed; room = vec_len w.bytes - w.end } };
+    ghost view = { λ w. record { held = take (w.end - w.start) (drop w.start w.bytes.items);
+        allowed = w.allowed; room = vec_len w.bytes - w.end } };
 
     ghost invariant = { λ w. (w.start ≤ w.end) × (w.end ≤ vec_len w.bytes) };
 }
@@ -117,9 +119,10 @@ impl Window {
         }
     }
 
-    // Makes room for a piece. What is in hand moves to the front only once the buffer's end is reached,
-    // and the buffer at least doubles where half of it is in use, so all moves together stay linear.
-    fn make_room(&mut self) -> Result<(), AllocError>
+    // Makes room for a piece. What is in hand moves to the front only once the buffer's end is
+    // reached, and the buffer at least doubles where half of it is in use, so all moves together
+    // stay linear.
+    fn make_room(&mut self) -> Result<(), NoMemory>
         ensures held { self.new.held ≡ self.old.held }
         ensures allowed { self.new.allowed ≡ self.old.allowed }
         ensures room { OnOk result (0 < self.new.room) }

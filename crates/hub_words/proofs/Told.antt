@@ -5,7 +5,7 @@ use Rattle.clap.specs.Words.{App, fault_of, is_simple_and_free, is_simple, kind_
 use Rattle.clap.specs.declared.error.Error.{Error}
 use Rattle.clap.specs.declared.parser.matches.ArgMatches.{ArgMatches}
 use Rattle.command_defs.specs.Words.{command_of, command_with, is_option}
-use Rattle.hub_words.specs.Answer.{Blames, Parses}
+use Rattle.hub_words.specs.Answer.{IsFaultOf, Parses}
 use Rattle.hub_words.specs.Forms.{app_for, command_in, forms}
 use Rattle.hub_words.specs.declared.read.WordsFault.{WordsFault}
 use Rattle.hub_words.specs.declared.read.WordsFault.TheVariants.{Usage, NoMemory}
@@ -30,7 +30,7 @@ taken app words texts m is same plain kinds matches =
 
 -- of an error
 pub refused : (app : App) (words texts : List (List ℕ)) (e : Error) (fault : WordsFault) → app ≡ app_for forms → texts ≡ words → list_any is_option words ≡ false
-    → (is_simple_and_free app ≡ true → HasKind (fault_of app texts) e) → Blames (kind_of e) fault → Parses (command_of words) (Err fault)
+    → (is_simple_and_free app ≡ true → HasKind (fault_of app texts) e) → IsFaultOf (kind_of e) fault → Parses (command_of words) (Err fault)
 refused app words texts e NoMemory is same plain kinds blames = tt
 refused app words texts e Usage is same plain kinds blames =
     let Fails : App → List (List ℕ) → Type 0 = λ a ws. is_simple_and_free a ≡ true → HasKind (fault_of a ws) e in

@@ -1,5 +1,5 @@
 -- What reading the words answers.
-use Rattle.std.specs.Prelude.{◌≡◌, Option, Some, None, Result, Ok, Err}
+use Rattle.std.specs.Prelude.{◌≡◌, Option, Some, None, Result, Ok, Err, ⊤}
 use Rattle.clap.specs.Words.{subcommand_rows_of}
 use Rattle.clap.specs.declared.parser.matches.ArgMatches.{ArgMatches}
 use Rattle.clap.specs.declared.error.kind.ErrorKind.{ErrorKind}
@@ -20,15 +20,15 @@ seen (read.Check path) = Check path.now
 abbrev pub Reads : Option Command → Result Read WordsFault → Type 0
 Reads command (Ok c) = command ≡ Some (seen c)
 Reads command (Err Usage) = command ≡ None
-Reads command (Err NoMemory) = Unit {0}
+Reads command (Err NoMemory) = ⊤
 
 -- the same of what clap makes of them
 abbrev pub Parses : Option Command → Result ArgMatches WordsFault → Type 0
 Parses command (Ok matches) = command_in (subcommand_rows_of matches) ≡ command
 Parses command (Err Usage) = command ≡ None
-Parses command (Err NoMemory) = Unit {0}
+Parses command (Err NoMemory) = ⊤
 
--- it is usage where memory was there
-abbrev pub Blames : ErrorKind → WordsFault → Type 0
-Blames k Usage = k ≡ OutOfMemory → ⊥
-Blames k NoMemory = Unit {0}
+-- memory ran out exactly where clap says so
+abbrev pub IsFaultOf : ErrorKind → WordsFault → Type 0
+IsFaultOf k Usage = k ≡ OutOfMemory → ⊥
+IsFaultOf k NoMemory = k ≡ OutOfMemory

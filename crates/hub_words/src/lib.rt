@@ -1,12 +1,13 @@
 //! Reads the words of the command line, by the crate `clap`.
 //!
-//! [`read_words`] gives the command of a list of words, or says that they are none. Which lists are commands,
-//! and which, is defined in `command_defs` (`Words.command_of`) with no thought of a parser; `clap` is told of
-//! the same commands, each a subcommand with its positional words and no flag, and that it takes exactly the
-//! words of the definition is proved once for any list of positionals (`proofs/Leaves`, `proofs/Commands`).
+//! [`read_words`] gives the command of a list of words, or says that they are none. Which lists are
+//! commands, and which, is defined in `command_defs` (`Words.command_of`) with no thought of a
+//! parser; `clap` is told of the same commands, each a subcommand with its positional words and no
+//! flag, and that it takes exactly the words of the definition is proved once for any list of
+//! positionals (`proofs/Leaves`, `proofs/Commands`).
 //!
-//! Words that begin with a hyphen are refused before `clap` sees them, since there are no options. The crate
-//! stands on `clap` for the parsing and on `rt_types` for the words.
+//! Words that begin with a hyphen are refused before `clap` sees them, since there are no options.
+//! The crate stands on `clap` for the parsing and on `rt_types` for the words.
 #![tactic(auto)]
 
 mod parser;
@@ -15,3 +16,4 @@ mod read;
 mod tests;
 
 pub use read::{Command, WordsFault, read_words};
+pub use std::alloc::AllocError as NoMemory;

@@ -1,4 +1,4 @@
-// The commands as `clap` is told of them.
+//! The commands as `clap` is told of them.
 ghost use Rattle.std.specs.Prelude.{◌≡◌, IfOk, false};
 ghost use Rattle.clap.specs.Words.{app_of, rule_of};
 ghost use Rattle.hub_words.specs.Forms.{app_for, top_app, forms, required, rule_for};

@@ -1,4 +1,4 @@
-// The command of a list of words.
+//! The command of a list of words.
 ghost use Rattle.std.specs.Prelude.{◌≡◌, false, codes};
 ghost use Rattle.std.specs.Option.{option_map};
 ghost use Rattle.std.specs.List.{list_any};
@@ -6,7 +6,7 @@ ghost use Rattle.clap.specs.Words.{first_of, found_of, kind_of, rows_of, subcomm
 ghost use Rattle.command_defs.specs.Words.{command_of, is_option};
 ghost use Rattle.command_defs.specs.Words.Command.{Check};
 ghost use Rattle.hub_words.specs.Forms.{command_in, named};
-ghost use Rattle.hub_words.specs.Answer.{Blames, Reads, Parses, seen};
+ghost use Rattle.hub_words.specs.Answer.{IsFaultOf, Reads, Parses, seen};
 
 use crate::parser::parser;
 use clap::error::ErrorKind;
@@ -44,8 +44,8 @@ impl From<AllocError> for WordsFault {
     }
 }
 
-/// The command of the words, which are those behind the program's name. A word that begins with a hyphen is
-/// of no command. Any other word counts, the empty one too, where a command wants one.
+/// The command of the words, which are those behind the program's name. A word that begins with a
+/// hyphen is of no command. Any other word counts, the empty one too, where a command wants one.
 pub fn read_words<'a>(alloc: Global, words: &'a [Text]) -> Result<Command<'a>, WordsFault>
     ensures { Reads (command_of words.entry.now) result }
 {
@@ -85,7 +85,7 @@ fn matches_of<'a>(alloc: Global, words: &'a [Text]) -> Result<ArgMatches<'a>, Wo
 
 // Why clap refuses the words.
 fn fault_of(error: &Error) -> WordsFault
-    ensures { Blames (kind_of error.now) result }
+    ensures { IsFaultOf (kind_of error.now) result }
 {
     match error.kind() {
         ErrorKind::OutOfMemory => WordsFault::NoMemory,
@@ -118,7 +118,8 @@ fn named_command<'a>(name: &str, words: &ArgMatches<'a>) -> Option<Command<'a>>
 
 // `check` of the word that it has.
 fn check_of<'a>(words: &ArgMatches<'a>) -> Option<Command<'a>>
-    ensures { option_map seen result ≡ option_map Check (first_of (codes "config") (rows_of (found_of words.now))) }
+    ensures { option_map seen result ≡ option_map Check
+        (first_of (codes "config") (rows_of (found_of words.now))) }
 {
     match words.get_str("config") {
         Some(path) => Some(Command::Check(path)),

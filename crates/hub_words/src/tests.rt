@@ -1,4 +1,5 @@
-// Each command and each refusal, with ample memory: want of memory may come in place of any answer, so that
+//! Each command and each refusal, with ample memory: want of memory may come in place of any
+//! answer, so that
 // no contract refuses a reader that only says so.
 use crate::{Command, WordsFault, read_words};
 use rt_types::Text;

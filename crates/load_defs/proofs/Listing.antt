@@ -142,12 +142,15 @@ module _ {K R : Type 0} (order : K → K → Ordering) (o : IsTotalOrder order) 
       (λ e. cases (λ l. absurd (less_equal (sym (h.rise a.0 b.0 x y l left right) ∙ tied))) (λ l. absurd (less_equal (sym (h.rise b.0 a.0 y x l right left) ∙ back))) e)
       (cases_order a.0 b.0)
 
+  -- a list whose keys strictly rise is what `listed` lists, where each key is found in it as in the rows
+  pub listed-found : (rows sorted : List R) → ((q : K) → find (λ row. eq_by_cmp order q (key row)) rows ≡ find (λ row. eq_by_cmp order q (key row)) sorted) → Rises sorted → rows_by_key order key rows ≡ sorted
+  unfolding rows_by_key
+  listed-found rows sorted found h =
+      ap (map (λ entry. entry.1)) (same_entries order o same (rows_with_keys order key rows) (paired sorted) (keyed_sorted rows) (sorted_pairs sorted h)
+      (λ q. find_keyed q rows ∙ found q ∙ sym (find_paired q sorted)))
+      ∙ values_paired sorted
+
   -- a list of the same rows whose keys strictly rise is what `listed` lists
   pub listed-permutation : (rows sorted : List R) → IsPermutation rows sorted → Rises sorted → rows_by_key order key rows ≡ sorted
-  unfolding rows_by_key
   listed-permutation rows sorted p h =
-      ap (map (λ entry. entry.1)) (same_entries order o same (rows_with_keys order key rows) (paired sorted) (keyed_sorted rows) (sorted_pairs sorted h)
-      (λ q. find_keyed q rows
-      ∙ find-permutation (λ row. eq_by_cmp order q (key row)) rows sorted p (one_row sorted h q)
-      ∙ sym (find_paired q sorted)))
-      ∙ values_paired sorted
+      listed-found rows sorted (λ q. find-permutation (λ row. eq_by_cmp order q (key row)) rows sorted p (one_row sorted h q)) h

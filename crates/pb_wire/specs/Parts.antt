@@ -20,14 +20,19 @@ payload_seen carried.Group = Group
 
 -- a field without where it lies in memory
 abbrev pub part_seen : Part → wire.Field
-part_seen part = record { number = part.number; payload = payload_seen part.payload; raw = part.raw.now }
+part_seen part = record {
+  number = part.number;
+  payload = payload_seen part.payload;
+  raw = part.raw.now;
+}
 
 -- fields without where they lie in memory
 abbrev pub parts_seen : List Part → List wire.Field
 parts_seen parts = map part_seen parts
 
 -- fields with these before them, or the fault in their place
-abbrev pub with_front : List wire.Field → Result (List wire.Field) wire.Fault → Result (List wire.Field) wire.Fault
+abbrev pub with_front : List wire.Field → Result (List wire.Field) wire.Fault
+    → Result (List wire.Field) wire.Fault
 with_front front told = told >>= λ fields. Ok (front ++ fields)
 
 -- the fault of the wire that a fault names; want of memory names none
@@ -46,7 +51,8 @@ IsFault told named.Tag = told ≡ Err BadTag
 IsFault told named.Group = told ≡ Err BadGroup
 IsFault told named.NoMemory = ⊥
 
--- what a function that needs no memory finds in front of bytes, seen so, is what is told; else it names the fault
+-- what a function that needs no memory finds in front of bytes, seen so, is what is told; else it
+-- names the fault
 abbrev pub Finds : {X Y : Type 0} → (X → Y) → Result X WireFault → Result Y wire.Fault → Type 0
 Finds view (Ok x) told = told ≡ Ok (view x)
 Finds view (Err fault) told = IsFault told fault

@@ -17,7 +17,11 @@ payload_in bytes placed.Group = Group
 
 -- a field, with the bytes that stand at its places
 abbrev pub field_in : List ℕ → Field → wire.Field
-field_in bytes field = record { number = field.number; payload = payload_in bytes field.payload; raw = slice_range bytes field.start field.end }
+field_in bytes field = record {
+  number = field.number;
+  payload = payload_in bytes field.payload;
+  raw = slice_range bytes field.start field.end;
+}
 
 -- fields, with the bytes that stand at their places
 abbrev pub fields_in : List ℕ → List Field → List wire.Field
@@ -37,7 +41,8 @@ pub record LiesWithin (limit : ℕ) (field : Field) : Type 0 where
   pub ended : field.end ≤ limit
   pub carried : LiesBetween field.start field.end field.payload
 
--- from a place on the fields stand one after another, each beginning where the one before it ends, up to the limit
+-- from a place on the fields stand one after another, each beginning where the one before it ends,
+-- up to the limit
 abbrev pub AreInRow : ℕ → ℕ → List Field → Type 0
 AreInRow at limit [] = at ≡ limit
 AreInRow at limit (f ∷ fs) = (f.start ≡ at) × AreInRow f.end limit fs
@@ -60,7 +65,12 @@ payload_place end Group = placed.Group
 
 -- a field by its places, where it starts at this place
 abbrev pub place : ℕ → wire.Field → Field
-place start field = record { number = field.number; payload = payload_place (start + length field.raw) field.payload; start = start; end = start + length field.raw }
+place start field = record {
+  number = field.number;
+  payload = payload_place (start + length field.raw) field.payload;
+  start = start;
+  end = start + length field.raw;
+}
 
 -- fields by their places, one behind another from this place on
 unfoldable pub places : ℕ → List wire.Field → List Field

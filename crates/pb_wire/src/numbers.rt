@@ -9,6 +9,8 @@ ghost use Rattle.pb_wire.specs.Parts.{Finds};
 use crate::fault::WireFault;
 
 /// The varint in front, and the bytes behind it.
+// Each field passes through these three: in line, what they answer stays in registers.
+#[inline(always)]
 pub fn varint_at(bytes: &[u8]) -> Result<(u64, &[u8]), WireFault>
     ensures { Finds (λ x. (x.0, x.1.now)) result (varint_at bytes.now) }
 {
@@ -18,6 +20,8 @@ pub fn varint_at(bytes: &[u8]) -> Result<(u64, &[u8]), WireFault>
     }
 }
 
+// Few varints have more than one byte, so their loop is kept off the path of the others.
+#[inline(never)]
 fn long_varint_at(bytes: &[u8]) -> Result<(u64, &[u8]), WireFault>
     ensures { Finds (λ x. (x.0, x.1.now)) result (varint_at bytes.now) }
 {
@@ -40,6 +44,7 @@ fn long_varint_at(bytes: &[u8]) -> Result<(u64, &[u8]), WireFault>
 
 /// The tag in front, and the bytes behind it: it has a number of at least 1 and a wire type of at most 5.
 #[tactic(auto, unfolding(wire_defs::specs::Reading::tag_at))]
+#[inline(always)]
 pub fn tag_at(bytes: &[u8]) -> Result<(u32, &[u8]), WireFault>
     ensures { Finds (λ x. (x.0, x.1.now)) result (tag_at bytes.now) }
 {
@@ -78,6 +83,7 @@ pub fn eight_at(bytes: &[u8]) -> Result<(u64, &[u8]), WireFault>
 
 /// As many bytes as the varint in front says, and the bytes behind them.
 #[tactic(auto, unfolding(wire_defs::specs::Reading::span_at))]
+#[inline(always)]
 pub fn span_at(bytes: &[u8]) -> Result<(&[u8], &[u8]), WireFault>
     ensures { Finds (λ x. (x.0.now, x.1.now)) result (span_at bytes.now) }
 {

@@ -11,6 +11,7 @@ use crate::numbers::{eight_at, four_at, span_at, varint_at};
 use crate::part::PartPayload;
 
 /// The payload that the wire type asks for in a field of that number, and the bytes behind it.
+#[inline(always)]
 pub fn payload_at(
     number: u32,
     wire_type: u32,

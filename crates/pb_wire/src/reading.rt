@@ -15,7 +15,7 @@ use crate::payloads::payload_at;
 pub fn read_parts<'a>(bytes: &'a [u8], parts: &mut Vec<Part<'a>>) -> Result<(), WireFault>
     ensures read { OnOk result
         (with_front (parts_seen parts.old.items) (fields_of bytes.now)
-            ≡ Ok (parts_seen parts.new.items)) }
+        ≡ Ok (parts_seen parts.new.items)) }
     ensures fault { IfErr result (λ fault. IsCause (fields_of bytes.now) (cause_of fault)) }
     ensures kept { OnErr result (parts.new.items ≡ parts.old.items) }
 {
@@ -31,7 +31,7 @@ pub fn read_parts<'a>(bytes: &'a [u8], parts: &mut Vec<Part<'a>>) -> Result<(), 
 fn push_parts<'a>(bytes: &'a [u8], parts: &mut Vec<Part<'a>>) -> Result<(), WireFault>
     ensures read { OnOk result
         (with_front (parts_seen parts.old.items) (fields_of bytes.now)
-            ≡ Ok (parts_seen parts.new.items)) }
+        ≡ Ok (parts_seen parts.new.items)) }
     ensures fault { IfErr result (λ fault. IsCause (fields_of bytes.now) (cause_of fault)) }
     ensures begins { take (length parts.old.items) parts.new.items ≡ parts.old.items }
 {
@@ -50,6 +50,7 @@ fn push_parts<'a>(bytes: &'a [u8], parts: &mut Vec<Part<'a>>) -> Result<(), Wire
 
 /// The field in front of the bytes, and the bytes behind it.
 #[tactic(auto, unfolding(wire_defs::specs::Reading::field_at, wire_defs::specs::Reading::field_with))]
+#[inline(always)]
 pub fn field_at(bytes: &[u8]) -> Result<(Part<'_>, &[u8]), WireFault>
     ensures { Finds (λ x. (part_seen x.0, x.1.now)) result (field_at bytes.now) }
 {

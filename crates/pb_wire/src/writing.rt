@@ -56,7 +56,7 @@ pub fn write_scalar(number: u32, value: u64, out: &mut Vec<u8>) -> Result<(), No
     requires last { number ≤ 536870911 }
     ensures written { OnOk result
         (out.new.items
-            ≡ out.old.items ++ field_bytes (record { number = number; payload = Varint value })) }
+        ≡ out.old.items ++ field_bytes (record { number = number; payload = Varint value })) }
     ensures kept { OnErr result (out.new.items ≡ out.old.items) }
 {
     let length = out.len();
@@ -74,7 +74,7 @@ pub fn write_field(number: u32, bytes: &[u8], out: &mut Vec<u8>) -> Result<(), N
     requires last { number ≤ 536870911 }
     ensures written { OnOk result
         (out.new.items
-            ≡ out.old.items ++ field_bytes (record { number = number; payload = Span bytes.now })) }
+        ≡ out.old.items ++ field_bytes (record { number = number; payload = Span bytes.now })) }
     ensures kept { OnErr result (out.new.items ≡ out.old.items) }
 {
     let length = out.len();
@@ -92,7 +92,7 @@ pub fn write_four(number: u32, value: u32, out: &mut Vec<u8>) -> Result<(), NoMe
     requires last { number ≤ 536870911 }
     ensures written { OnOk result
         (out.new.items
-            ≡ out.old.items ++ field_bytes (record { number = number; payload = Four value })) }
+        ≡ out.old.items ++ field_bytes (record { number = number; payload = Four value })) }
     ensures kept { OnErr result (out.new.items ≡ out.old.items) }
 {
     let length = out.len();
@@ -108,7 +108,7 @@ fn append_scalar(number: u32, value: u64, out: &mut Vec<u8>) -> Result<(), NoMem
     requires { number ≤ 536870911 }
     ensures written { OnOk result
         (out.new.items
-            ≡ out.old.items ++ field_bytes (record { number = number; payload = Varint value })) }
+        ≡ out.old.items ++ field_bytes (record { number = number; payload = Varint value })) }
     ensures begins { OnErr result ((more : List ℕ) × (out.new.items ≡ out.old.items ++ more)) }
 {
     write_varint(u64::from(number) * 8, out)?;
@@ -120,7 +120,7 @@ fn append_field(number: u32, bytes: &[u8], out: &mut Vec<u8>) -> Result<(), NoMe
     requires { number ≤ 536870911 }
     ensures written { OnOk result
         (out.new.items
-            ≡ out.old.items ++ field_bytes (record { number = number; payload = Span bytes.now })) }
+        ≡ out.old.items ++ field_bytes (record { number = number; payload = Span bytes.now })) }
     ensures begins { OnErr result ((more : List ℕ) × (out.new.items ≡ out.old.items ++ more)) }
 {
     write_varint(u64::from(number) * 8 + 2, out)?;
@@ -133,7 +133,7 @@ fn append_four(number: u32, value: u32, out: &mut Vec<u8>) -> Result<(), NoMemor
     requires { number ≤ 536870911 }
     ensures written { OnOk result
         (out.new.items
-            ≡ out.old.items ++ field_bytes (record { number = number; payload = Four value })) }
+        ≡ out.old.items ++ field_bytes (record { number = number; payload = Four value })) }
     ensures begins { OnErr result ((more : List ℕ) × (out.new.items ≡ out.old.items ++ more)) }
 {
     write_varint(u64::from(number) * 8 + 5, out)?;

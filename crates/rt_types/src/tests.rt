@@ -178,9 +178,12 @@ fn first_header(message: &FeedMessage) -> Option<&str> {
 }
 
 #[test]
-fn a_boxed_value_comes_out_again(rt: HostRuntime) -> Result<(), Fail> {
-    let boxed = Shared::new(rt.alloc(), Degrees { bits: 7 })?;
-    assert_eq!(rt; boxed.get().bits, 7);
-    assert_eq!(rt; boxed.into_inner().bits, 7);
+fn a_shared_value_comes_out_again(rt: HostRuntime) -> Result<(), Fail> {
+    let shared = Shared::new(rt.alloc(), event(rt.alloc(), 7)?)?;
+    let other = shared.copy()?;
+    assert_eq!(rt; other.get().delay, Some(7));
+    // It is copied while it has two owners, and then handed out.
+    assert_eq!(rt; other.into_inner()?.delay, Some(7));
+    assert_eq!(rt; shared.into_inner()?.delay, Some(7));
     Ok(())
 }

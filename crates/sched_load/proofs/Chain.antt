@@ -12,7 +12,14 @@ use Rattle.load_defs.specs.Numbers.{Dataset, timetable_of}
 use Rattle.sched_types.specs.Timetable.{Timetable}
 use Rattle.sched_load.specs.Built.{IsBuilt}
 use Rattle.sched_load.specs.declared.tables.Tables.{Tables}
-use Rattle.sched_load.specs.Tables.{dataset_read}
+use Rattle.std.specs.Prelude.{Vec}
+use Rattle.std.specs.declared.alloc.Global.{Global}
+use Rattle.gtfs_rows.specs.declared.rows.StopRow.{StopRow}
+use Rattle.gtfs_rows.specs.declared.rows.TripRow.{TripRow}
+use Rattle.gtfs_rows.specs.declared.rows.StopTimeRow.{StopTimeRow}
+use Rattle.sched_load.specs.declared.visits.Visit.{Visit}
+use Rattle.sched_load.specs.Arranged.{ReadsArranged}
+use Rattle.sched_load.specs.Tables.{ReadsTables}
 use Rattle.sched_load.specs.Answer.{Reads, Loads, Refuses, RefusesAlone, HasLoadCause, HasFaultCause, IsPlainAnswer, IsPlain}
 
 -- what is at fault in a step is at fault in the whole
@@ -152,10 +159,15 @@ pub passed : {A : Type 0} (contents : Option (List (List ℕ × List ℕ))) (tol
 passed contents told before after (Ok x) e p h = absurd p
 passed contents told before after (Err y) e p h = rw p h
 
--- the same of the rows that are read
-pub dataset_passed : (contents : Option (List (List ℕ × List ℕ))) (told : List (List ℕ × List ℕ) → Result Dataset LoadFault) (before after : ℕ) (r : Result Tables LoadFault) (e : LoadFault) → IsErrAnd r (λ x. x ≡ e) → Reads contents told before after (Err e) → Reads contents told before after (dataset_read r)
-dataset_passed contents told before after (Ok x) e p h = absurd p
-dataset_passed contents told before after (Err y) e p h = rw p h
+-- the same of the tables that are read
+pub tables_passed : (contents : Option (List (List ℕ × List ℕ))) (told : List (List ℕ × List ℕ) → Result Dataset LoadFault) (before after : ℕ) (r : Result Tables LoadFault) (e : LoadFault) → IsErrAnd r (λ x. x ≡ e) → Reads contents told before after (Err e) → ReadsTables contents told before after r
+tables_passed contents told before after (Ok x) e p h = absurd p
+tables_passed contents told before after (Err y) e p h = rw p h
+
+-- the same of visits that are arranged
+pub visits_passed : (trips : List TripRow) (stops : List StopRow) (contents : Option (List (List ℕ × List ℕ))) (told : List (List ℕ × List ℕ) → Result (List StopTimeRow) LoadFault) (before after : ℕ) (r : Result (Vec Visit Global) LoadFault) (e : LoadFault) → IsErrAnd r (λ x. x ≡ e) → Reads contents told before after (Err e) → ReadsArranged trips stops contents told before after r
+visits_passed trips stops contents told before after (Ok x) e p h = absurd p
+visits_passed trips stops contents told before after (Err y) e p h = rw p h
 
 -- a plan that was built, or want of memory
 pub built : (contents : Option (List (List ℕ × List ℕ))) (t : Timetable) (count : ℕ) (r : Result Timetable LoadFault) → IsBuilt t r → Reads contents (λ _. Ok t) count count r

@@ -5,7 +5,9 @@ use Rattle.std.specs.Str.{is_utf8}
 use Rattle.std.proofs.lemmas.Bool.Decides.{nat_tests}
 use Rattle.answer_defs.specs.Steps.{◌>>=◌}
 use Rattle.gtfs_rows.specs.Tables.{Columns, ◌⊕◌, table, cell_value, required, optional, weekday, exceptions, calendar, routes, trips, stop_times}
-use Rattle.gtfs_rows.specs.Values.{id_text, any_text, number, or_empty, within, digits, date, clock_time}
+use Rattle.text_defs.specs.Numbers.{digits, number as digits_number, within}
+use Rattle.text_defs.specs.Times.{time_in}
+use Rattle.gtfs_rows.specs.Values.{id_text, any_text, number, or_empty, date}
 use Rattle.gtfs_rows.specs.declared.column.Column.{Column}
 use Rattle.gtfs_rows.specs.declared.column.Column.TheVariants as column
 use Rattle.gtfs_rows.specs.declared.fault.RowFault.{RowFault}
@@ -42,7 +44,7 @@ judged_ok {A} form row column cell x e = by (is_utf8 cell) (form cell) refl e
     by false o is h = absurd cc
 
 number_ok : (low high : ℕ) (bytes : List ℕ) (x : ℕ) → number low high bytes ≡ Some x → x ≤ high
-unfolding number
+unfolding number digits_number
 number_ok low high bytes x e = by (digits 1 10 bytes) e
   where
     in_range : (v : ℕ) (a b : Bool) → nat_le v high ≡ b → (if a && b then Some v else None) ≡ Some x → x ≤ high
@@ -112,8 +114,8 @@ pickup_types =
     let a = required column.TripId id_text in
     let b = required column.StopId id_text in
     let d = required column.StopSequence (number 0 4294967295) in
-    let e = required column.ArrivalTime (or_empty clock_time) in
-    let h = required column.DepartureTime (or_empty clock_time) in
+    let e = required column.ArrivalTime (or_empty time_in) in
+    let h = required column.DepartureTime (or_empty time_in) in
     let f = optional column.PickupType (or_empty (number 0 3)) in
     table_within _ (a ⊕ (b ⊕ (d ⊕ (e ⊕ (h ⊕ f))))) (λ v. Unit {0} × (Unit {0} × (Unit {0} × (Unit {0} × (Unit {0} × AtMost 3 v.1.1.1.1.1))))) (λ row. AtMost 3 row.pickup_type)
     (both_within a (b ⊕ (d ⊕ (e ⊕ (h ⊕ f)))) (λ _. Unit {0}) (λ v. Unit {0} × (Unit {0} × (Unit {0} × (Unit {0} × AtMost 3 v.1.1.1.1)))) (any_within a)

@@ -4,7 +4,12 @@ pub mod Faults
 pub mod Places
 pub mod Reading
 pub mod Grouping
+pub mod PairLemmas
+pub mod Stretches
+pub mod TwinLemmas
+pub mod ArrangeLemmas
 pub mod VisitLemmas
+pub mod GatherLemmas
 pub mod Chain
 pub mod Laws
 pub mod ServiceLemmas

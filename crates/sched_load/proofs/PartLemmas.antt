@@ -34,10 +34,13 @@ use Rattle.load_defs.specs.Services.{active_days, calendar_of, exceptions_of, fl
 use Rattle.load_defs.specs.Times.{Times, all_times}
 use Rattle.load_defs.proofs.Listing.{find_keyed}
 use Rattle.sched_load.specs.declared.visits.Visit.{Visit}
-use Rattle.sched_load.specs.Built.{AreSmall, ListsFit, agency_in, listed_places, route_in}
-use Rattle.sched_load.specs.Course.{FitsPlace, given_of, place_in}
+use Rattle.sched_load.specs.Built.{AreSmall, ListsFit, agency_in, places_of_trip, route_in}
+use Rattle.sched_load.specs.Course.{FitsPlace, place_in, places_in}
+use Rattle.std.specs.Prelude.{slice_index_or}
+use Rattle.std.proofs.lemmas.Option.{get_or_from_slice_get, slice_get_within, slice_get-get_or}
+use Rattle.std.proofs.Common.{get_or}
 use Rattle.sched_load.specs.Days.{EachSmall, active_by, runs_by}
-use Rattle.sched_load.specs.Groups.{exception_of, visits_of}
+use Rattle.sched_load.specs.Groups.{exception_of}
 use Rattle.sched_load.specs.Groups as groups
 use Rattle.sched_load.specs.Listed.{group_of, most_rows, visit_of}
 use Rattle.sched_load.specs.Tables.{IsConsistent}
@@ -48,7 +51,12 @@ use Rattle.sched_load.proofs.Keyed.{keyed_short, listed_map, listed_short}
 use Rattle.sched_load.proofs.Laws.{file_few, file_within}
 use Rattle.sched_load.proofs.Numbered.{ids_rise}
 use Rattle.sched_load.proofs.Sound.{Each, Fits, filter_each, keyed_each}
-use Rattle.sched_load.proofs.TripLemmas.{given_rows, group_listed}
+use Rattle.std.specs.Prelude.{All}
+use Rattle.std.proofs.lemmas.List.Sorted.{All-permutation, length_permutation}
+use Rattle.load_defs.specs.References.{unknown_in_stop_time}
+use Rattle.sched_load.specs.Visits.{AreArranged}
+use Rattle.sched_load.proofs.TripLemmas.{given_rows}
+use Rattle.sched_load.proofs.VisitLemmas.{trip_visits}
 
 -- the ids of agencies
 pub agency_ids_are : (rows : List AgencyRow) → map (λ row. row.agency_id) (by_id (λ row. row.agency_id) rows) ≡ by_id (λ id. id) (map (λ row. row.agency_id) rows)
@@ -74,23 +82,32 @@ pub agency_is : (d : Dataset) (id : List ℕ) → agency_in d.agencies id ≡ ag
 agency_is d id = ap (λ n. if bytes_eq id [] then (if length d.agencies == 1 then Some 0 else None) else n) (same_number d.agencies id)
 
 -- the places of a trip
-zip_visits : (d : Dataset) (rows : List StopTimeRow) (ts : List Times) → map place_in (zip (map (visit_of d.stops) rows) ts) ≡ map (place_of d) (zip rows ts)
+zip_visits : (d : Dataset) (rows : List StopTimeRow) (ts : List Times) → map place_in (zip (map (visit_of d.trips d.stops) rows) ts) ≡ map (place_of d) (zip rows ts)
 zip_visits d [] ts = refl
 zip_visits d (row ∷ rows) [] = refl
 zip_visits d (row ∷ rows) (t ∷ ts) = ap (λ rest. place_of d (row, t) ∷ rest) (zip_visits d rows ts)
 
-places_one : (d : Dataset) (id : List ℕ) → listed_places (group_of (λ row. row.trip_id) (λ visit. visit.sequence) (visit_of d.stops) d.stop_times id) ≡ places_with d (stop_times_of d.stop_times id)
-places_one d id =
-    ap (λ (vs : List Visit). map place_in (zip vs (all_times (given_of vs)))) (group_listed d.stops d.stop_times id)
-    ∙ ap (λ ts. map place_in (zip (map (visit_of d.stops) (stop_times_of d.stop_times id)) (all_times ts))) (given_rows d.stops (stop_times_of d.stop_times id))
-    ∙ zip_visits d (stop_times_of d.stop_times id) (all_times (given_times (stop_times_of d.stop_times id)))
+places_one : (d : Dataset) (rows : List StopTimeRow) → places_in (map (visit_of d.trips d.stops) rows) ≡ places_with d rows
+places_one d rows =
+    ap (λ ts. map place_in (zip (map (visit_of d.trips d.stops) rows) (all_times ts))) (given_rows d.trips d.stops rows)
+    ∙ zip_visits d rows (all_times (given_times rows))
 
-map_alike : {A B C : Type 0} (f : B → C) (g : A → B) (h : A → C) (xs : List A) → ((x : A) → f (g x) ≡ h x) → map f (map g xs) ≡ map h xs
-map_alike f g h [] same = refl
-map_alike f g h (x ∷ xs) same = ap (λ y. y ∷ map f (map g xs)) (same x) ∙ ap (λ ys. h x ∷ ys) (map_alike f g h xs same)
+range_map : {X Y : Type 0} (f : ℕ → Y) (h : X → Y) (a : ℕ) (xs : List X) → ((i : ℕ) (x : X) → slice_get xs i ≡ Some x → f (a + i) ≡ h x) → map f (range_with_len a (length xs)) ≡ map h xs
+range_map f h a [] same = refl
+range_map f h a (x ∷ xs) same =
+    let here : a + 0 ≡ a = omega arith in
+    ap (λ y. y ∷ map f (range_with_len (a + 1) (length xs))) (sym (ap f here) ∙ same 0 x refl)
+    ∙ ap (λ ys. h x ∷ ys) (range_map f h (a + 1) xs (λ i z at. let next : a + 1 + i ≡ a + suc i = omega arith in ap f next ∙ same (suc i) z at))
 
-pub places_are : (d : Dataset) → map listed_places (visits_of d.trips d.stops d.stop_times) ≡ map (λ trip. places_with d (stop_times_of d.stop_times trip.trip_id)) (trip_rows d)
-places_are d = map_alike listed_places (λ (trip : TripRow). group_of (λ row. row.trip_id) (λ visit. visit.sequence) (visit_of d.stops) d.stop_times trip.trip_id) (λ (trip : TripRow). places_with d (stop_times_of d.stop_times trip.trip_id)) (trip_rows d) (λ trip. places_one d trip.trip_id)
+pub places_are : (d : Dataset) (visits : List Visit) → ((i : ℕ) (row : StopTimeRow) → slice_get d.stop_times i ≡ Some row → unknown_in_stop_time d.trips d.stops row ≡ None) → AreArranged (map (visit_of d.trips d.stops) d.stop_times) visits
+    → map (places_of_trip visits) (range_with_len 0 (length (trip_rows d))) ≡ map (λ trip. places_with d (stop_times_of d.stop_times trip.trip_id)) (trip_rows d)
+places_are d visits known arranged =
+    range_map (places_of_trip visits) (λ (trip : TripRow). places_with d (stop_times_of d.stop_times trip.trip_id)) 0 (trip_rows d)
+    (λ i trip at.
+    let here : 0 + i ≡ i = omega arith in
+    ap (places_of_trip visits) here
+    ∙ ap places_in (trip_visits d.trips d.stops d.stop_times visits known arranged trip.trip_id i (own_number (λ (t : TripRow). t.trip_id) (trip_rows d) (ids_rise (λ (t : TripRow). t.trip_id) d.trips) i trip at))
+    ∙ places_one d (stop_times_of d.stop_times trip.trip_id))
 
 -- the days of a service
 find_alike : {X : Type 0} (p q : X → Bool) (xs : List X) → ((x : X) → p x ≡ q x) → find p xs ≡ find q xs
@@ -129,7 +146,7 @@ active_are calendar rows first days [] = refl
 active_are calendar rows first days (id ∷ ids) = ap (λ x. x ∷ map (active_by calendar first days) (zip ids (groups.exceptions_of ids rows))) (active_one calendar rows first days id) ∙ ap (λ xs. active_days calendar rows first days id ∷ xs) (active_are calendar rows first days ids)
 
 -- groups of stop times are small
-filter_short : {X : Type 0} (p : X → Bool) (xs : List X) → length (filter p xs) ≤ length xs
+pub filter_short : {X : Type 0} (p : X → Bool) (xs : List X) → length (filter p xs) ≤ length xs
 filter_short p [] = omega arith
 filter_short p (x ∷ xs) = by (p x) (filter_short p xs)
   where
@@ -144,23 +161,24 @@ pickup_small (Some n) h = h
 map_each : {A B : Type 0} (P : A → Type 0) (Q : B → Type 0) (f : A → B) (xs : List A) → ((x : A) → P x → Q (f x)) → Each P xs → Each Q (map f xs)
 map_each P Q f xs g h = λ i y at. let m = mapped_at f xs i y at in subst Q m.2 (g m.0 (h i m.0 m.1))
 
-pub groups_small : (d : Dataset) → IsConsistent d → AreSmall (visits_of d.trips d.stops d.stop_times)
-groups_small d c = record {
-  few = λ i group at.
-      let m = mapped_at (λ (trip : TripRow). group_of (λ row. row.trip_id) (λ visit. visit.sequence) (visit_of d.stops) d.stop_times trip.trip_id) (trip_rows d) i group at in
-      let rows = filter (λ (row : StopTimeRow). bytes_eq row.trip_id (m.0).trip_id) d.stop_times in
-      let a = keyed_short nat_cmp (λ (visit : Visit). visit.sequence) (map (visit_of d.stops) rows) in
-      let b = length-map rows (visit_of d.stops) in
-      let e = filter_short (λ (row : StopTimeRow). bytes_eq row.trip_id (m.0).trip_id) d.stop_times in
-      let f = file_few true file.StopTimes stop_times c.stop_times_of.0 d.stop_times c.stop_times_of.1 in
-      subst (λ g. length g ≤ most_rows) m.2 (omega (arith, a, b, e, f));
-  pickups = λ i j group entry at is.
-      let m = mapped_at (λ (trip : TripRow). group_of (λ row. row.trip_id) (λ visit. visit.sequence) (visit_of d.stops) d.stop_times trip.trip_id) (trip_rows d) i group at in
-      let rows = filter (λ (row : StopTimeRow). bytes_eq row.trip_id (m.0).trip_id) d.stop_times in
-      keyed_each nat_cmp (λ (visit : Visit). visit.sequence) (λ (visit : Visit). visit.pickup ≤ 3) (map (visit_of d.stops) rows)
-      (map_each (λ (row : StopTimeRow). AtMost 3 row.pickup_type) (λ (visit : Visit). visit.pickup ≤ 3) (visit_of d.stops) rows (λ row h. pickup_small row.pickup_type h)
-      (filter_each (λ row. AtMost 3 row.pickup_type) (λ (row : StopTimeRow). bytes_eq row.trip_id (m.0).trip_id) d.stop_times (file_within true file.StopTimes stop_times (λ row. AtMost 3 row.pickup_type) pickup_types c.stop_times_of.0 d.stop_times c.stop_times_of.1)))
-      j entry (subst (λ g. slice_get g j ≡ Some entry) (sym m.2) is);
+all_each : {X : Type 0} (P : X → Type 0) (xs : List X) → All P xs → (i : ℕ) (x : X) → slice_get xs i ≡ Some x → P x
+all_each P xs h i x at = subst P (get_or_from_slice_get xs i x x at) (h i x (slice_get_within xs i x at))
+
+each_all : {X : Type 0} (P : X → Type 0) (xs : List X) → ((i : ℕ) (x : X) → slice_get xs i ≡ Some x → P x) → All P xs
+each_all P xs h = λ k d l. h k (get_or xs k d) (slice_get-get_or xs k d l)
+
+pub visits_small : (d : Dataset) (visits : List Visit) → IsConsistent d → AreArranged (map (visit_of d.trips d.stops) d.stop_times) visits → AreSmall visits
+visits_small d visits c arranged = record {
+  few =
+      let same = length_permutation (map (visit_of d.trips d.stops) d.stop_times) visits arranged.same in
+      let long = length-map d.stop_times (visit_of d.trips d.stops) in
+      let rows = file_few true file.StopTimes stop_times c.stop_times_of.0 d.stop_times c.stop_times_of.1 in
+      omega (arith, same, long, rows);
+  pickups = all_each (λ (visit : Visit). visit.pickup ≤ 3) visits
+      (All-permutation (λ (visit : Visit). visit.pickup ≤ 3) (map (visit_of d.trips d.stops) d.stop_times) visits arranged.same
+      (each_all (λ (visit : Visit). visit.pickup ≤ 3) (map (visit_of d.trips d.stops) d.stop_times)
+      (map_each (λ (row : StopTimeRow). AtMost 3 row.pickup_type) (λ (visit : Visit). visit.pickup ≤ 3) (visit_of d.trips d.stops) d.stop_times (λ row h. pickup_small row.pickup_type h)
+      (file_within true file.StopTimes stop_times (λ row. AtMost 3 row.pickup_type) pickup_types c.stop_times_of.0 d.stop_times c.stop_times_of.1))));
 }
 
 map_same : {A B : Type 0} (f g : A → B) (xs : List A) → ((x : A) → f x ≡ g x) → map f xs ≡ map g xs

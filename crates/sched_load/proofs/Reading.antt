@@ -1,7 +1,8 @@
 -- What a step's answer says of the whole.
 use Rattle.std.proofs.Common.{◌≡◌, ℕ, ◌≤◌, Bool, List, refl, sym, ap, ◌∙◌, arith}
 use Rattle.std.specs.Prelude.{Option, Some, None, IfSome, Result, Ok, Err, Vec, length, nat_lt, true, false, if◌then◌else◌, ⊤}
-use Rattle.gtfs_rows.specs.Files.{Answers, rows_of}
+use Rattle.answer_defs.specs.Defined.{IsCause}
+use Rattle.gtfs_rows.specs.Files.{cause_of, rows_of}
 use Rattle.gtfs_rows.specs.Tables.{Columns}
 use Rattle.gtfs_rows.specs.declared.fault.RowFault.{RowFault}
 use Rattle.gtfs_rows.specs.declared.fault.RowFault.TheVariants as rows
@@ -29,7 +30,7 @@ refused_row required name columns bytes left e is h told = ap (file_rows require
 
 -- a file that was read has the fault that its reader gave
 pub read_fault : {R : Type 0} (contents : Option (List (List ℕ × List ℕ))) (at : List (List ℕ × List ℕ) → Option (List ℕ)) (required : Bool) (name : File) (columns : Columns R) (before after : ℕ) (left : List ℕ) (e : RowFault)
-    → (length left ≤ longest_file) × IfSome contents (λ fs. at fs ≡ Some left) → Answers (rows_of columns left) (Err e) → before ≤ after
+    → (length left ≤ longest_file) × IfSome contents (λ fs. at fs ≡ Some left) → IsCause (rows_of columns left) (cause_of e) → before ≤ after
     → Reads contents (λ fs. file_rows required name columns (at fs)) before after (Err (fault_of name e))
 read_fault None at required name columns before after left (rows.MissingColumn column) h told count = record { loads = tt; cause = (count, tt); plain = tt }
 read_fault None at required name columns before after left (rows.BadValue row column) h told count = record { loads = tt; cause = (count, tt); plain = tt }
@@ -41,3 +42,10 @@ read_fault (Some fs) at required name columns before after left (rows.BadValue r
 read_fault (Some fs) at required name columns before after left (rows.NotText row column) h told count = record { loads = refused_row required name columns (at fs) left (rows.NotText row column) h.1 h.0 told; cause = (count, tt); plain = tt }
 read_fault (Some fs) at required name columns before after left rows.TooMany h told count = record { loads = refused_row required name columns (at fs) left rows.TooMany h.1 h.0 told; cause = (count, tt); plain = tt }
 read_fault (Some fs) at required name columns before after left rows.NoMemory h told count = record { loads = tt; cause = (count, tt); plain = tt }
+
+-- a file that was read has the rows that its reader gave
+pub read_whole : {R : Type 0} (contents : Option (List (List ℕ × List ℕ))) (at : List (List ℕ × List ℕ) → Option (List ℕ)) (required : Bool) (name : File) (columns : Columns R) (before after : ℕ) (left : List ℕ) (xs : List R)
+    → (length left ≤ longest_file) × IfSome contents (λ fs. at fs ≡ Some left) → rows_of columns left ≡ Ok xs → before ≤ after
+    → Reads contents (λ fs. file_rows required name columns (at fs)) before after (Ok xs)
+read_whole None at required name columns before after left xs h told count = record { loads = tt; cause = count; plain = tt }
+read_whole (Some fs) at required name columns before after left xs h told count = record { loads = ap (file_rows required name columns) h.1 ∙ rows_ok required name columns left xs h.0 told; cause = count; plain = tt }

@@ -18,8 +18,13 @@ use Rattle.load_defs.specs.References.{row_at}
 use Rattle.load_defs.specs.Times.{Times, are_times, times_of}
 use Rattle.sched_load.specs.declared.visits.Visit.{Visit}
 use Rattle.sched_load.specs.Course.{given_of}
-use Rattle.sched_load.specs.Groups.{visits_of}
-use Rattle.sched_load.specs.Listed.{entries_of, group_of, stay_of, times_seen, visit_of}
+use Rattle.load_defs.specs.declared.fault.File.TheVariants as file
+use Rattle.load_defs.specs.References.{unknown_in_stop_time}
+use Rattle.sched_load.specs.declared.tables.Tables.{Tables}
+use Rattle.sched_load.specs.Listed.{stay_of, times_seen, visit_of}
+use Rattle.sched_load.specs.Tables.{AreRead}
+use Rattle.sched_load.proofs.Sound.{refers}
+use Rattle.sched_load.proofs.VisitLemmas.{same_visit}
 use Rattle.sched_load.proofs.Faults.{faults_from, fault_at, fault_behind, no_fault}
 use Rattle.sched_load.proofs.Keyed.{listed_map}
 use Rattle.sched_load.proofs.Numbered.{has_by_number}
@@ -34,29 +39,13 @@ given_one None (Some d) = refl
 given_one None None = refl
 
 -- the given times of visits are those of their rows
-pub given_rows : (stops : List StopRow) (rows : List StopTimeRow) → given_of (map (visit_of stops) rows) ≡ given_times rows
-given_rows stops [] = refl
-given_rows stops (row ∷ rows) = ap (λ t. t ∷ given_of (map (visit_of stops) rows)) (given_one row.arrival_time row.departure_time) ∙ ap (λ ts. times_of row.arrival_time row.departure_time ∷ ts) (given_rows stops rows)
+pub given_rows : (trips : List TripRow) (stops : List StopRow) (rows : List StopTimeRow) → given_of (map (visit_of trips stops) rows) ≡ given_times rows
+given_rows trips stops [] = refl
+given_rows trips stops (row ∷ rows) = ap (λ t. t ∷ given_of (map (visit_of trips stops) rows)) (given_one row.arrival_time row.departure_time) ∙ ap (λ ts. times_of row.arrival_time row.departure_time ∷ ts) (given_rows trips stops rows)
 
--- the visits of a trip are those of its stop times
-pub group_listed : (stops : List StopRow) (rows : List StopTimeRow) (id : List ℕ) → map (λ entry. entry.1) (group_of (λ row. row.trip_id) (λ visit. visit.sequence) (visit_of stops) rows id) ≡ map (visit_of stops) (stop_times_of rows id)
-unfolding rows_by_key
-group_listed stops rows id = listed_map nat_cmp (λ (visit : Visit). visit.sequence) (visit_of stops) (filter (λ row. bytes_eq row.trip_id id) rows)
-
-map_at : {V : Type 0} (maps : List (BTreeMap ℕ V Global)) (n : ℕ) (m : BTreeMap ℕ V Global) (es : List (ℕ × V)) → slice_get (entries_of maps) n ≡ Some es → m ≡ get_or maps n m → m.entries ≡ es
-map_at [] n m es at is = absurd (none_some es at)
-map_at (x ∷ xs) zero m es at is = ap (λ y. y.entries) is ∙ same_Some _ _ at
-map_at (x ∷ xs) (suc n) m es at is = map_at xs n m es at is
-
-pub trip_visits : (trips : List TripRow) (stops : List StopRow) (rows : List StopTimeRow) (maps : List (BTreeMap ℕ Visit Global)) (id : List ℕ) (n : ℕ) (m : BTreeMap ℕ Visit Global)
-    → entries_of maps ≡ visits_of trips stops rows → number_of (λ trip. trip.trip_id) (by_id (λ trip. trip.trip_id) trips) id ≡ Some n → m ≡ get_or maps n m
-    → map (λ entry. entry.1) m.entries ≡ map (visit_of stops) (stop_times_of rows id)
-trip_visits trips stops rows maps id n m are number is =
-    let trip = number_leads (λ (trip : TripRow). trip.trip_id) (by_id (λ trip. trip.trip_id) trips) id n number in
-    let group = λ (trip : TripRow). group_of (λ (row : StopTimeRow). row.trip_id) (λ (visit : Visit). visit.sequence) (visit_of stops) rows trip.trip_id in
-    ap (map (λ (entry : ℕ × Visit). entry.1))
-    (map_at maps n m (group trip.row) (ap (λ es. slice_get es n) are ∙ slice_get-map group (by_id (λ trip. trip.trip_id) trips) n ∙ ap (option_map group) trip.at) is)
-    ∙ group_listed stops rows trip.row.trip_id ∙ ap (λ i. map (visit_of stops) (stop_times_of rows i)) trip.has
+-- each row that was read refers to known rows
+pub known_rows : (t : Tables) (rows : List StopTimeRow) → AreRead t rows → (i : ℕ) (row : StopTimeRow) → slice_get rows i ≡ Some row → unknown_in_stop_time t.trips t.stops row ≡ None
+known_rows t rows read = refers file.StopTimes (unknown_in_stop_time t.trips t.stops) same_visit rows read.sound.stop_times
 
 -- each trip has a number
 pub own_trip : (trips : List TripRow) (place : ℕ) (row : TripRow) → slice_get trips place ≡ Some row → (n : ℕ) × (number_of (λ trip. trip.trip_id) (by_id (λ trip. trip.trip_id) trips) row.trip_id ≡ Some n)

@@ -1,7 +1,11 @@
--- The rows of stop_times.txt, one after another.
-use Rattle.std.proofs.Common.{◌≡◌, ℕ, zero, suc, ◌+◌, ◌<◌, ◌≤◌, Bool, true, false, not, ◌&&◌, List, [], ◌∷◌, length, map, take, nat_eq, refl, sym, ap, ◌∙◌, subst, arith}
-use Rattle.std.specs.Prelude.{slice_get, Option, Some, None, is_some, unwrap_or, bytes_eq, Result, Err, Ok}
+-- The rows of stop_times.txt as visits, and the first fault of these.
+use Rattle.std.proofs.Common.{◌≡◌, ℕ, zero, suc, ◌+◌, ◌<◌, ◌≤◌, Bool, true, false, not, ◌&&◌, ◌||◌, ◌==◌, List, [], ◌∷◌, length, map, take, filter, cond, nat_eq, refl, sym, ap, ◌∙◌, subst, arith}
+use Rattle.std.specs.Prelude.{slice_get, Option, Some, None, is_some, unwrap_or, bytes_eq, Result, Err, Ok, option_map, IfSome}
 use Rattle.std.specs.List.{list_any, range_with_len}
+use Rattle.std.specs.Ordering.{nat_cmp}
+use Rattle.std.proofs.lemmas.Bool.Decides.{nat_tests}
+use Rattle.std.proofs.lemmas.List.{length-map, take-map}
+use Rattle.std.proofs.lemmas.Option.{none-some as none_some, same_Some, slice_get-map, slice_get_within}
 use Rattle.answer_defs.specs.Choices.{or_else}
 use Rattle.gtfs_rows.specs.declared.column.Column.{Column}
 use Rattle.gtfs_rows.specs.declared.column.Column.TheVariants as column
@@ -9,16 +13,23 @@ use Rattle.gtfs_rows.specs.declared.rows.StopRow.{StopRow}
 use Rattle.gtfs_rows.specs.declared.rows.TripRow.{TripRow}
 use Rattle.gtfs_rows.specs.declared.rows.StopTimeRow.{StopTimeRow}
 use Rattle.sched_types.specs.Timetable.{number_of}
+use Rattle.sched_types.proofs.TimetableLaws.{number_leads}
 use Rattle.load_defs.specs.declared.fault.File.TheVariants as file
 use Rattle.load_defs.specs.declared.fault.LoadFault.TheVariants as fault
-use Rattle.load_defs.specs.Numbers.{by_id}
+use Rattle.load_defs.specs.Numbers.{by_id, known_number, rows_by_key, stop_times_of}
 use Rattle.load_defs.specs.References.{unknown_in_stop_time, unless_known, has_id, consistent_stop_times, row_at}
 use Rattle.sched_load.specs.declared.visits.Visit.{Visit}
-use Rattle.sched_load.specs.Groups.{visits_of}
-use Rattle.sched_load.specs.Listed.{PutsNew, visit_of}
-use Rattle.sched_load.proofs.Faults.{Judged, judged_unknown, judged_twin, judged_more}
-use Rattle.sched_load.proofs.Grouping.{group_judged, groups_more}
-use Rattle.sched_load.proofs.Numbered.{has_by_number, ids_rise}
+use Rattle.sched_load.specs.Listed.{stay_of, visit_of}
+use Rattle.sched_load.specs.Visits.{EndsAt}
+use Rattle.sched_load.specs.Visits.{AreApart, AreArranged, AreGathered, FirstTwin, IsVisit, has_twin, is_twin_visit}
+use Rattle.sched_load.proofs.ArrangeLemmas.{own_of}
+use Rattle.sched_load.proofs.Faults.{Judged, judged_start, judged_unknown, judged_twin, judged_more, judged_all}
+use Rattle.sched_load.proofs.Grouping.{text_from, text_itself}
+use Rattle.sched_load.proofs.Keyed.{listed_map}
+use Rattle.sched_load.proofs.Numbered.{has_by_number, some_at}
+use Rattle.std.proofs.Math.Seq.{take-length}
+use Rattle.sched_load.proofs.PairLemmas.{true_false}
+use Rattle.sched_load.proofs.TwinLemmas.{any_on}
 
 pub no_groups : {X Y : Type 0} (xs : List X) (y : Y) → map (λ _. y) (range_with_len 0 (length xs)) ≡ map (λ _. y) xs
 no_groups xs y = from 0 xs
@@ -30,49 +41,192 @@ no_groups xs y = from 0 xs
 abbrev pub same_visit : StopTimeRow → StopTimeRow → Bool
 same_visit a b = bytes_eq a.trip_id b.trip_id && nat_eq a.stop_sequence b.stop_sequence
 
-module _ (trips : List TripRow) (stops : List StopRow) (rows : List StopTimeRow) (n : ℕ) (row : StopTimeRow) where
-  abbrev pub trip_number : Option ℕ
-  trip_number = number_of (λ trip. trip.trip_id) (by_id (λ trip. trip.trip_id) trips) row.trip_id
+some_there : {A : Type 0} (o : Option A) → is_some o ≡ true → (x : A) × (o ≡ Some x)
+some_there None e = absurd (true_false (sym e))
+some_there (Some x) e = (x, refl)
 
-  abbrev pub stop_number : Option ℕ
-  stop_number = number_of (λ stop. stop.stop_id) (by_id (λ stop. stop.stop_id) stops) row.stop_id
+same_take : {X : Type 0} (k n : ℕ) (xs : List X) → k ≤ n → take k (take n xs) ≡ take k xs
+same_take zero n xs h = refl
+same_take (suc k) zero xs h = absurd (omega (arith, h))
+same_take (suc k) (suc n) [] h = refl
+same_take (suc k) (suc n) (x ∷ xs) h = ap (λ ys. x ∷ ys) (same_take k n xs (omega (arith, h)))
 
-  judged_of : (t s : Bool) → has_id (λ trip. trip.trip_id) trips row.trip_id ≡ t → has_id (λ stop. stop.stop_id) stops row.stop_id ≡ s → unknown_in_stop_time trips stops row ≡ or_else (unless_known column.TripId t) (unless_known column.StopId s)
-  judged_of t s e f =
-      ap (λ b. or_else (unless_known column.TripId b) (unless_known column.StopId (has_id (λ stop. stop.stop_id) stops row.stop_id))) e
-      ∙ ap (λ b. or_else (unless_known column.TripId t) (unless_known column.StopId b)) f
+pub taken_at : {X : Type 0} (k n : ℕ) (xs : List X) → k < n → slice_get (take n xs) k ≡ slice_get xs k
+taken_at k zero xs h = absurd (omega (arith, h))
+taken_at k (suc n) [] h = refl
+taken_at zero (suc n) (x ∷ xs) h = refl
+taken_at (suc k) (suc n) (x ∷ xs) h = taken_at k n xs (omega (arith, h))
 
-  trip_there : (b : Bool) → is_some trip_number ≡ b → has_id (λ trip. trip.trip_id) trips row.trip_id ≡ b
-  trip_there b e = sym (has_by_number (λ (trip : TripRow). trip.trip_id) row.trip_id trips) ∙ e
+any_mapped : {X Y : Type 0} (test : Y → Bool) (f : X → Y) (xs : List X) → list_any test (map f xs) ≡ list_any (λ x. test (f x)) xs
+any_mapped test f [] = refl
+any_mapped test f (x ∷ xs) = ap (λ b. test (f x) || b) (any_mapped test f xs)
 
-  stop_there : (b : Bool) → is_some stop_number ≡ b → has_id (λ stop. stop.stop_id) stops row.stop_id ≡ b
-  stop_there b e = sym (has_by_number (λ (stop : StopRow). stop.stop_id) row.stop_id stops) ∙ e
+module _ (trips : List TripRow) (stops : List StopRow) where
+  abbrev pub trip_number : List ℕ → Option ℕ
+  trip_number id = number_of (λ trip. trip.trip_id) (by_id (λ trip. trip.trip_id) trips) id
 
-  known : (t s : ℕ) → trip_number ≡ Some t → stop_number ≡ Some s → unknown_in_stop_time trips stops row ≡ None
-  known t s e f = judged_of true true (trip_there true (ap is_some e)) (stop_there true (ap is_some f))
+  abbrev pub stop_number : List ℕ → Option ℕ
+  stop_number id = number_of (λ stop. stop.stop_id) (by_id (λ stop. stop.stop_id) stops) id
 
-  pub no_trip : Judged file.StopTimes (unknown_in_stop_time trips stops) same_visit rows n → slice_get rows n ≡ Some row → trip_number ≡ None → consistent_stop_times trips stops rows ≡ Err (fault.UnknownRef file.StopTimes (row_at n) column.TripId)
-  no_trip j at e = judged_unknown file.StopTimes (unknown_in_stop_time trips stops) same_visit rows n row column.TripId j at (judged_of false (has_id (λ stop. stop.stop_id) stops row.stop_id) (trip_there false (ap is_some e)) refl)
+  module _ (row : StopTimeRow) where
+    judged_of : (t s : Bool) → has_id (λ trip. trip.trip_id) trips row.trip_id ≡ t → has_id (λ stop. stop.stop_id) stops row.stop_id ≡ s → unknown_in_stop_time trips stops row ≡ or_else (unless_known column.TripId t) (unless_known column.StopId s)
+    judged_of t s e f =
+        ap (λ b. or_else (unless_known column.TripId b) (unless_known column.StopId (has_id (λ stop. stop.stop_id) stops row.stop_id))) e
+        ∙ ap (λ b. or_else (unless_known column.TripId t) (unless_known column.StopId b)) f
 
-  pub no_stop : (t : ℕ) → Judged file.StopTimes (unknown_in_stop_time trips stops) same_visit rows n → slice_get rows n ≡ Some row → trip_number ≡ Some t → stop_number ≡ None → consistent_stop_times trips stops rows ≡ Err (fault.UnknownRef file.StopTimes (row_at n) column.StopId)
-  no_stop t j at e f = judged_unknown file.StopTimes (unknown_in_stop_time trips stops) same_visit rows n row column.StopId j at (judged_of true false (trip_there true (ap is_some e)) (stop_there false (ap is_some f)))
+    trip_there : (b : Bool) → is_some (trip_number row.trip_id) ≡ b → has_id (λ trip. trip.trip_id) trips row.trip_id ≡ b
+    trip_there b e = sym (has_by_number (λ (trip : TripRow). trip.trip_id) row.trip_id trips) ∙ e
 
-  pub visit_twin : (t s : ℕ) (before after : List (List (ℕ × Visit))) (visit : Visit) (fresh : Bool) → Judged file.StopTimes (unknown_in_stop_time trips stops) same_visit rows n → slice_get rows n ≡ Some row → trip_number ≡ Some t → stop_number ≡ Some s
-      → before ≡ visits_of trips stops (take n rows) → visit ≡ visit_of stops row → PutsNew before after t row.stop_sequence visit fresh → fresh ≡ false → consistent_stop_times trips stops rows ≡ Err (fault.Duplicate file.StopTimes (row_at n))
-  visit_twin t s before after visit fresh j at e f b v puts old =
-      judged_twin file.StopTimes (unknown_in_stop_time trips stops) same_visit rows n row j at (known t s e f)
-      (group_judged (λ r. r.trip_id) (λ v. v.sequence) (visit_of stops) (λ trip. trip.trip_id) (by_id (λ trip. trip.trip_id) trips) (ids_rise (λ trip. trip.trip_id) trips) rows n row at t e after fresh
-      (subst (λ x. PutsNew x after t row.stop_sequence (visit_of stops row) fresh) b (subst (λ x. PutsNew before after t row.stop_sequence x fresh) v puts)) ∙ ap not old)
+    stop_there : (b : Bool) → is_some (stop_number row.stop_id) ≡ b → has_id (λ stop. stop.stop_id) stops row.stop_id ≡ b
+    stop_there b e = sym (has_by_number (λ (stop : StopRow). stop.stop_id) row.stop_id stops) ∙ e
 
-  pub visits_more : (t s : ℕ) (before after : List (List (ℕ × Visit))) (visit : Visit) (fresh : Bool) → Judged file.StopTimes (unknown_in_stop_time trips stops) same_visit rows n → slice_get rows n ≡ Some row → trip_number ≡ Some t → stop_number ≡ Some s
-      → before ≡ visits_of trips stops (take n rows) → visit ≡ visit_of stops row → PutsNew before after t row.stop_sequence visit fresh → fresh ≡ true
-      → Judged file.StopTimes (unknown_in_stop_time trips stops) same_visit rows (n + 1) × (after ≡ visits_of trips stops (take (n + 1) rows))
-  visits_more t s before after visit fresh j at e f b v puts new =
-      let turned = subst (λ x. PutsNew x after t row.stop_sequence (visit_of stops row) fresh) b (subst (λ x. PutsNew before after t row.stop_sequence x fresh) v puts) in (
-        judged_more file.StopTimes (unknown_in_stop_time trips stops) same_visit rows n row j at (known t s e f)
-            (group_judged (λ r. r.trip_id) (λ v. v.sequence) (visit_of stops) (λ trip. trip.trip_id) (by_id (λ trip. trip.trip_id) trips) (ids_rise (λ trip. trip.trip_id) trips) rows n row at t e after fresh turned ∙ ap not new),
-        groups_more (λ r. r.trip_id) (λ v. v.sequence) (visit_of stops) (λ trip. trip.trip_id) (by_id (λ trip. trip.trip_id) trips) (ids_rise (λ trip. trip.trip_id) trips) rows n row at t e after fresh turned new,
-      )
+    pub known_row : (t s : ℕ) → trip_number row.trip_id ≡ Some t → stop_number row.stop_id ≡ Some s → unknown_in_stop_time trips stops row ≡ None
+    known_row t s e f = judged_of true true (trip_there true (ap is_some e)) (stop_there true (ap is_some f))
 
-  pub visit_is : (s stop : ℕ) (visit : Visit) → stop_number ≡ Some s → visit ≡ record (visit_of stops row) { stop = s } → visit ≡ visit_of stops row
-  visit_is s stop visit f e = e ∙ ap (λ o. record (visit_of stops row) { stop = unwrap_or o 0 }) (sym f)
+    pub no_trip : trip_number row.trip_id ≡ None → unknown_in_stop_time trips stops row ≡ Some column.TripId
+    no_trip e = judged_of false (has_id (λ stop. stop.stop_id) stops row.stop_id) (trip_there false (ap is_some e)) refl
+
+    pub no_stop : (t : ℕ) → trip_number row.trip_id ≡ Some t → stop_number row.stop_id ≡ None → unknown_in_stop_time trips stops row ≡ Some column.StopId
+    no_stop t e f = judged_of true false (trip_there true (ap is_some e)) (stop_there false (ap is_some f))
+
+    -- the trip of a row that refers to known rows
+    pub trip_known : unknown_in_stop_time trips stops row ≡ None → (t : ℕ) × (trip_number row.trip_id ≡ Some t)
+    trip_known h = some_there (trip_number row.trip_id) (by (is_some (trip_number row.trip_id)) refl)
+      where
+        by : (b : Bool) → is_some (trip_number row.trip_id) ≡ b → b ≡ true
+        by true e = refl
+        by false e = absurd (none_some column.TripId (sym h ∙ judged_of false (has_id (λ stop. stop.stop_id) stops row.stop_id) (trip_there false e) refl))
+
+    -- the visit of a row whose numbers were found
+    pub visit_is : (t s : ℕ) (visit : Visit) → trip_number row.trip_id ≡ Some t → stop_number row.stop_id ≡ Some s
+        → visit ≡ record { trip = t; stop = s; sequence = row.stop_sequence; stay = stay_of row.arrival_time row.departure_time; pickup = unwrap_or row.pickup_type 0 } → IsVisit trips stops row (Ok visit)
+    visit_is t s visit e f is = (
+      is ∙ ap (λ o. record { trip = unwrap_or o 0; stop = s; sequence = row.stop_sequence; stay = stay_of row.arrival_time row.departure_time; pickup = unwrap_or row.pickup_type 0 }) (sym e)
+          ∙ ap (λ o. record { trip = unwrap_or (trip_number row.trip_id) 0; stop = unwrap_or o 0; sequence = row.stop_sequence; stay = stay_of row.arrival_time row.departure_time; pickup = unwrap_or row.pickup_type 0 }) (sym f),
+      known_row t s e f,
+    )
+
+  -- two known ids are one where their numbers are
+  same_number : (one other : List ℕ) (t u : ℕ) → trip_number one ≡ Some t → trip_number other ≡ Some u → (t == u) ≡ bytes_eq one other
+  same_number one other t u e f = by (bytes_eq one other) refl
+    where
+      by : (b : Bool) → bytes_eq one other ≡ b → (t == u) ≡ b
+      by true is = let same : t ≡ u = same_Some _ _ (sym e ∙ ap trip_number (text_from one other is) ∙ f) in grind (arith, nat_tests, same)
+      by false is = apart (t == u) refl
+        where
+          apart : (c : Bool) → (t == u) ≡ c → c ≡ false
+          apart false same = refl
+          apart true same =
+              let number : t ≡ u = grind (arith, nat_tests, same) in
+              let own = number_leads (λ (trip : TripRow). trip.trip_id) (by_id (λ trip. trip.trip_id) trips) one t e in
+              let that = number_leads (λ (trip : TripRow). trip.trip_id) (by_id (λ trip. trip.trip_id) trips) other u f in
+              let row : own.row ≡ that.row = same_Some _ _ (sym own.at ∙ ap (slice_get (by_id (λ trip. trip.trip_id) trips)) number ∙ that.at) in
+              let text : one ≡ other = sym own.has ∙ ap (λ (trip : TripRow). trip.trip_id) row ∙ that.has in
+              absurd (true_false (sym (text_itself one) ∙ ap (bytes_eq one) text ∙ is))
+
+  numbered : (id : List ℕ) (t : ℕ) → trip_number id ≡ Some t → known_number (λ trip. trip.trip_id) (by_id (λ trip. trip.trip_id) trips) id ≡ t
+  numbered id t e = ap (λ o. unwrap_or o 0) e
+
+  twins_are : (a b : StopTimeRow) → unknown_in_stop_time trips stops a ≡ None → unknown_in_stop_time trips stops b ≡ None → is_twin_visit (visit_of trips stops a) (visit_of trips stops b) ≡ same_visit a b
+  twins_are a b h g =
+      let t = trip_known a h in
+      let u = trip_known b g in
+      ap (λ c. c && nat_eq a.stop_sequence b.stop_sequence)
+      (ap (λ n. n == known_number (λ trip. trip.trip_id) (by_id (λ trip. trip.trip_id) trips) b.trip_id) (numbered a.trip_id t.0 t.1) ∙ ap (λ n. t.0 == n) (numbered b.trip_id u.0 u.1) ∙ same_number a.trip_id b.trip_id t.0 u.0 t.1 u.1)
+
+  module _ (rows : List StopTimeRow) (visits : List Visit) (unknown : Option Column) (g : AreGathered trips stops rows visits unknown) where
+    visit_at : (k : ℕ) (row : StopTimeRow) → k < length visits → slice_get rows k ≡ Some row → slice_get visits k ≡ Some (visit_of trips stops row)
+    visit_at k row h at =
+        ap (λ vs. slice_get vs k) g.visits_of ∙ slice_get-map (visit_of trips stops) (take (length visits) rows) k ∙ ap (option_map (visit_of trips stops)) (taken_at k (length visits) rows h ∙ at)
+
+    twin_rows : (k : ℕ) (row : StopTimeRow) → k < length visits → slice_get rows k ≡ Some row → has_twin visits k (visit_of trips stops row) ≡ list_any (λ e. same_visit e row) (take k rows)
+    twin_rows k row h at =
+        ap (λ vs. list_any (λ v. is_twin_visit v (visit_of trips stops row)) (take k vs)) g.visits_of
+        ∙ ap (list_any (λ v. is_twin_visit v (visit_of trips stops row))) (take-map (visit_of trips stops) k (take (length visits) rows) ∙ ap (map (visit_of trips stops)) (same_take k (length visits) rows (omega (arith, h))))
+        ∙ any_mapped (λ v. is_twin_visit v (visit_of trips stops row)) (visit_of trips stops) (take k rows)
+        ∙ any_on (λ e. is_twin_visit (visit_of trips stops e) (visit_of trips stops row)) (λ e. same_visit e row) k rows
+        (λ i e l a. twins_are e row (g.known i e (omega (arith, l, h)) a) (g.known k row h at))
+
+    pub row_there : (k : ℕ) → k < length visits → (row : StopTimeRow) × (slice_get rows k ≡ Some row)
+    row_there k h = by (slice_get rows k) refl
+      where
+        by : (o : Option StopTimeRow) → slice_get rows k ≡ o → (row : StopTimeRow) × (slice_get rows k ≡ Some row)
+        by (Some row) at = (row, at)
+        by None at =
+            let there = some_at visits k h in
+            absurd (none_some there.0
+            (sym (ap (λ vs. slice_get vs k) g.visits_of ∙ slice_get-map (visit_of trips stops) (take (length visits) rows) k ∙ ap (option_map (visit_of trips stops)) (taken_at k (length visits) rows h ∙ at)) ∙ there.1))
+
+    judged_to : (m : ℕ) → m ≤ length visits → AreApart visits m → Judged file.StopTimes (unknown_in_stop_time trips stops) same_visit rows m
+    judged_to zero h apart = judged_start file.StopTimes (unknown_in_stop_time trips stops) same_visit rows
+    judged_to (suc m) h apart =
+        let within : m < length visits = omega (arith, h) in
+        let row = row_there m within in
+        let one : m + 1 ≡ suc m = omega arith in
+        subst (Judged file.StopTimes (unknown_in_stop_time trips stops) same_visit rows) one
+        (judged_more file.StopTimes (unknown_in_stop_time trips stops) same_visit rows m row.0
+        (judged_to m (omega (arith, h)) (record { apart = λ k w l. apart.apart k w (omega (arith, l)) })) row.1 (g.known m row.0 within row.1)
+        (sym (twin_rows m row.0 within row.1) ∙ apart.apart m (visit_of trips stops row.0) (omega arith) (visit_at m row.0 within row.1)))
+
+    -- the row of the first twin
+    pub twin_told : (m : ℕ) → FirstTwin visits (Some m) → consistent_stop_times trips stops rows ≡ Err (fault.Duplicate file.StopTimes (row_at m))
+    twin_told m (apart, found) =
+        let within = slice_get_within visits m found.0 found.1 in
+        let row = row_there m within in
+        let is : visit_of trips stops row.0 ≡ found.0 = same_Some _ _ (sym (visit_at m row.0 within row.1) ∙ found.1) in
+        judged_twin file.StopTimes (unknown_in_stop_time trips stops) same_visit rows m row.0 (judged_to m (omega (arith, within)) apart) row.1 (g.known m row.0 within row.1)
+        (sym (twin_rows m row.0 within row.1) ∙ ap (has_twin visits m) is ∙ found.2)
+
+    -- the first row that refers to nothing
+    pub unknown_told : (c : Column) → unknown ≡ Some c → AreApart visits (length visits) → consistent_stop_times trips stops rows ≡ Err (fault.UnknownRef file.StopTimes (row_at (length visits)) c)
+    unknown_told c e apart =
+        let end = subst (EndsAt trips stops rows (length visits)) e g.end in
+        judged_unknown file.StopTimes (unknown_in_stop_time trips stops) same_visit rows (length visits) end.0 c (judged_to (length visits) (omega arith) apart) end.1 end.2
+
+    -- no row is at fault
+    pub all_known : unknown ≡ None → AreApart visits (length visits) → (consistent_stop_times trips stops rows ≡ Ok rows) × (visits ≡ map (visit_of trips stops) rows)
+    all_known e apart =
+        let end = subst (EndsAt trips stops rows (length visits)) e g.end in (
+          judged_all file.StopTimes (unknown_in_stop_time trips stops) same_visit rows (length visits) (omega (arith, end)) (judged_to (length visits) (omega arith) apart),
+          g.visits_of ∙ ap (λ n. map (visit_of trips stops) (take n rows)) end ∙ ap (map (visit_of trips stops)) (take-length rows),
+        )
+
+  -- the visits of a trip are those of its stop times
+  pub trip_visits : (rows : List StopTimeRow) (visits : List Visit) → ((i : ℕ) (row : StopTimeRow) → slice_get rows i ≡ Some row → unknown_in_stop_time trips stops row ≡ None) → AreArranged (map (visit_of trips stops) rows) visits
+      → (id : List ℕ) (n : ℕ) → trip_number id ≡ Some n → own_of n visits ≡ map (visit_of trips stops) (stop_times_of rows id)
+  trip_visits rows visits known arranged id n number =
+      arranged.own n
+      ∙ ap (rows_by_key nat_cmp (λ (v : Visit). v.sequence)) (own_mapped rows ∙ ap (map (visit_of trips stops)) (own_same rows known))
+      ∙ listed_map nat_cmp (λ (v : Visit). v.sequence) (visit_of trips stops) (filter (λ row. bytes_eq row.trip_id id) rows)
+    where
+      own_mapped : (rs : List StopTimeRow) → own_of n (map (visit_of trips stops) rs) ≡ map (visit_of trips stops) (filter (λ r. (visit_of trips stops r).trip == n) rs)
+      own_mapped [] = refl
+      own_mapped (r ∷ rs) = by ((visit_of trips stops r).trip == n) (own_mapped rs)
+        where
+          by : (b : Bool) → own_of n (map (visit_of trips stops) rs) ≡ map (visit_of trips stops) (filter (λ r. (visit_of trips stops r).trip == n) rs)
+              → cond b (visit_of trips stops r ∷ own_of n (map (visit_of trips stops) rs)) (own_of n (map (visit_of trips stops) rs)) ≡ map (visit_of trips stops) (cond b (r ∷ filter (λ r. (visit_of trips stops r).trip == n) rs) (filter (λ r. (visit_of trips stops r).trip == n) rs))
+          by true e = ap (λ vs. visit_of trips stops r ∷ vs) e
+          by false e = e
+
+      own_same : (rs : List StopTimeRow) → ((i : ℕ) (row : StopTimeRow) → slice_get rs i ≡ Some row → unknown_in_stop_time trips stops row ≡ None) → filter (λ r. (visit_of trips stops r).trip == n) rs ≡ filter (λ r. bytes_eq r.trip_id id) rs
+      own_same [] h = refl
+      own_same (r ∷ rs) h =
+          let t = trip_known r (h 0 r refl) in
+          ap (λ b. cond b (r ∷ filter (λ s. (visit_of trips stops s).trip == n) rs) (filter (λ s. (visit_of trips stops s).trip == n) rs)) (ap (λ m. m == n) (numbered r.trip_id t.0 t.1) ∙ same_number r.trip_id id t.0 n t.1 number)
+          ∙ ap (λ ss. cond (bytes_eq r.trip_id id) (r ∷ ss) ss) (own_same rs (λ i s. h (suc i) s))
+
+taken_short : {X : Type 0} (n : ℕ) (xs : List X) → length (take n xs) ≤ length xs
+taken_short zero xs = omega arith
+taken_short (suc n) [] = omega arith
+taken_short (suc n) (x ∷ xs) = let h = taken_short n xs in omega (arith, h)
+
+-- no more visits are gathered than there are rows, and fewer where a row refers to nothing
+pub gathered_few : (trips : List TripRow) (stops : List StopRow) (rows : List StopTimeRow) (visits : List Visit) (unknown : Option Column) → AreGathered trips stops rows visits unknown → length visits ≤ length rows
+gathered_few trips stops rows visits unknown g =
+    let long : length visits ≡ length (take (length visits) rows) = ap length g.visits_of ∙ length-map (take (length visits) rows) (visit_of trips stops) in
+    let short = taken_short (length visits) rows in
+    omega (arith, long, short)
+
+pub gathered_room : (trips : List TripRow) (stops : List StopRow) (rows : List StopTimeRow) (visits : List Visit) (unknown : Option Column) (most : ℕ) → AreGathered trips stops rows visits unknown → length rows ≤ most → IfSome unknown (λ _. length visits < most)
+gathered_room trips stops rows visits None most g h = tt
+gathered_room trips stops rows visits (Some c) most g h = let within = slice_get_within rows (length visits) (g.end).0 (g.end).1 in omega (arith, within, h)

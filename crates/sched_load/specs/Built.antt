@@ -1,5 +1,5 @@
 -- What the loader makes of the rows that it read.
-use Rattle.std.specs.Prelude.{◌≡◌, ℕ, ◌≤◌, ◌==◌, bytes_eq, List, [], length, map, slice_get, Option, Some, None, if◌then◌else◌, Result, Ok, Err}
+use Rattle.std.specs.Prelude.{◌≡◌, ℕ, ◌≤◌, ◌==◌, bytes_eq, List, [], length, filter, map, slice_get, Option, Some, None, if◌then◌else◌, Result, Ok, Err}
 use Rattle.gtfs_rows.specs.declared.rows.AgencyRow.{AgencyRow}
 use Rattle.gtfs_rows.specs.declared.rows.StopRow.{StopRow}
 use Rattle.gtfs_rows.specs.declared.rows.RouteRow.{RouteRow}
@@ -56,14 +56,14 @@ trip_in routes services row = record {
   direction = row.direction_id;
 }
 
--- each group is no longer than a file, and its pickup_types are in range
-pub record AreSmall (groups : List (List (ℕ × Visit))) : Type 0 where
-  pub few : (i : ℕ) (group : List (ℕ × Visit)) → slice_get groups i ≡ Some group → length group ≤ most_rows
-  pub pickups : (i j : ℕ) (group : List (ℕ × Visit)) (entry : ℕ × Visit) → slice_get groups i ≡ Some group → slice_get group j ≡ Some entry → entry.1.pickup ≤ 3
+-- there are no more visits than a file has rows, and their pickup_types are in range
+pub record AreSmall (visits : List Visit) : Type 0 where
+  pub few : length visits ≤ most_rows
+  pub pickups : (i : ℕ) (visit : Visit) → slice_get visits i ≡ Some visit → visit.pickup ≤ 3
 
--- the places of a group
-abbrev pub listed_places : List (ℕ × Visit) → List Place
-listed_places group = places_in (map (λ entry. entry.1) group)
+-- the places of a trip
+abbrev pub places_of_trip : List Visit → ℕ → List Place
+places_of_trip visits trip = places_in (filter (λ visit. visit.trip == trip) visits)
 
 -- the times of all places are 32 bits
 abbrev pub ListsFit : List (List Place) → Type 0

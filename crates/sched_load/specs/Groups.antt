@@ -18,11 +18,6 @@ abbrev pub Groups : {R V : Type 0} → Result (List R) LoadFault → List R → 
 Groups told rows groups (Ok maps) = (told ≡ Ok rows) × (entries_of maps.items ≡ groups)
 Groups told rows groups (Err e) = RefusesAlone told e
 
--- the visits of each trip by rising stop_sequence
-abbrev pub visits_of : List TripRow → List StopRow → List StopTimeRow → List (List (ℕ × Visit))
-visits_of trips stops rows =
-    map (λ trip. group_of (λ row. row.trip_id) (λ visit. visit.sequence) (visit_of stops) rows trip.trip_id) (by_id (λ trip. trip.trip_id) trips)
-
 -- a row of calendar_dates.txt
 abbrev pub exception_of : ExceptionRow → Exception
 exception_of row = record { date = row.date; kind = row.exception_type }

@@ -1,6 +1,9 @@
 pub mod Answer
 pub mod Listed
 pub mod Groups
+pub mod Gathering
+pub mod Visits
+pub mod Arranged
 pub mod Services
 pub mod Parents
 pub mod Course
@@ -8,3 +11,4 @@ pub mod Days
 pub mod Built
 pub mod Tables
 pub mod Window
+pub mod InOrder

@@ -8,6 +8,7 @@ use Rattle.std.specs.Ordering.{nat_cmp}
 use Rattle.gtfs_rows.specs.Tables.{Columns}
 use Rattle.gtfs_rows.specs.declared.rows.StopTimeRow.{StopTimeRow}
 use Rattle.gtfs_rows.specs.declared.rows.StopRow.{StopRow}
+use Rattle.gtfs_rows.specs.declared.rows.TripRow.{TripRow}
 use Rattle.load_defs.specs.declared.fault.File.{File}
 use Rattle.load_defs.specs.declared.fault.LoadFault.{LoadFault}
 use Rattle.load_defs.specs.Files.{required_rows, optional_rows}
@@ -54,9 +55,10 @@ abbrev pub times_seen : Option Stay → Option Times
 times_seen None = None
 times_seen (Some stay) = Some (record { arrival = stay.arrival; departure = stay.departure })
 
--- a row of stop_times.txt, of which the stop is given by its number
-abbrev pub visit_of : List StopRow → StopTimeRow → Visit
-visit_of stops row = record {
+-- a row of stop_times.txt, of which the trip and the stop are given by their numbers
+abbrev pub visit_of : List TripRow → List StopRow → StopTimeRow → Visit
+visit_of trips stops row = record {
+  trip = known_number (λ trip. trip.trip_id) (by_id (λ trip. trip.trip_id) trips) row.trip_id;
   stop = known_number (λ stop. stop.stop_id) (by_id (λ stop. stop.stop_id) stops) row.stop_id;
   sequence = row.stop_sequence;
   stay = stay_of row.arrival_time row.departure_time;

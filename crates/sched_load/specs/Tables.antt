@@ -2,6 +2,7 @@
 use Rattle.std.specs.Prelude.{◌≡◌, ℕ, Bool, true, false, List, map, slice_get, Option, Some, Result, Ok, Err}
 use Rattle.gtfs_rows.specs.Tables.{Columns, agency, stops, routes, trips, stop_times, calendar, exceptions}
 use Rattle.gtfs_rows.specs.declared.rows.ExceptionRow.{ExceptionRow}
+use Rattle.gtfs_rows.specs.declared.rows.StopTimeRow.{StopTimeRow}
 use Rattle.service_day.specs.declared.services.Exception.{Exception}
 use Rattle.load_defs.specs.declared.fault.File.{File}
 use Rattle.load_defs.specs.declared.fault.File.TheVariants as file
@@ -9,12 +10,14 @@ use Rattle.load_defs.specs.declared.fault.LoadFault.{LoadFault}
 use Rattle.load_defs.specs.Numbers.{Dataset, service_ids}
 use Rattle.load_defs.specs.References.{consistent_agencies, consistent_stops, consistent_routes, consistent_trips, consistent_stop_times, consistent_calendar, consistent_exceptions}
 use Rattle.sched_load.specs.declared.tables.Tables.{Tables}
-use Rattle.sched_load.specs.Listed.{entries_of, file_rows}
-use Rattle.sched_load.specs.Groups.{visits_of, exceptions_of}
+use Rattle.sched_load.specs.Answer.{Reads}
+use Rattle.sched_load.specs.Listed.{entries_of, file_rows, visit_of}
+use Rattle.sched_load.specs.Visits.{AreArranged}
+use Rattle.sched_load.specs.Groups.{exceptions_of}
 
--- the rows, file by file
-abbrev pub dataset_of : Tables → Dataset
-dataset_of t = record { agencies = t.agencies; stops = t.stops; routes = t.routes; trips = t.trips; stop_times = t.stop_times.items; calendar = t.calendar; exceptions = t.exceptions.items }
+-- the rows, file by file, of which those of stop_times.txt are not kept
+abbrev pub dataset_of : Tables → List StopTimeRow → Dataset
+dataset_of t rows = record { agencies = t.agencies; stops = t.stops; routes = t.routes; trips = t.trips; stop_times = rows; calendar = t.calendar; exceptions = t.exceptions.items }
 
 -- rows are those of a file
 abbrev pub AreOf : {R : Type 0} → Bool → File → Columns R → List R → Type 0
@@ -37,14 +40,19 @@ pub record IsConsistent (d : Dataset) : Type 0 where
   pub calendar : consistent_calendar d.calendar ≡ Ok d.calendar
   pub exceptions : consistent_exceptions d.exceptions ≡ Ok d.exceptions
 
--- the rows are consistent, and the groups are theirs
-pub record AreRead (t : Tables) : Type 0 where
-  pub sound : IsConsistent (dataset_of t)
-  pub visits : entries_of t.visits.items ≡ visits_of t.trips t.stops t.stop_times.items
-  pub services : t.services.items ≡ service_ids (dataset_of t)
+-- the rows are consistent, and the visits and groups are theirs
+pub record AreRead (t : Tables) (rows : List StopTimeRow) : Type 0 where
+  pub sound : IsConsistent (dataset_of t rows)
+  pub visits : AreArranged (map (visit_of t.trips t.stops) rows) t.visits.items
+  pub services : t.services.items ≡ service_ids (dataset_of t rows)
   pub exceptions : entries_of t.active.items ≡ exceptions_of t.services.items t.exceptions.items
 
--- the rows that were read, or the fault
-abbrev pub dataset_read : Result Tables LoadFault → Result Dataset LoadFault
-dataset_read (Ok t) = Ok (dataset_of t)
-dataset_read (Err e) = Err e
+-- the tables are those of some rows of stop_times.txt
+abbrev pub WereRead : Tables → Type 0
+WereRead t = (rows : List StopTimeRow) × AreRead t rows
+
+-- what is read of the files, or the first fault
+abbrev pub ReadsTables : Option (List (List ℕ × List ℕ)) → (List (List ℕ × List ℕ) → Result Dataset LoadFault) → ℕ → ℕ → Result Tables LoadFault → Type 0
+ReadsTables contents told before after (Ok t) =
+    (rows : List StopTimeRow) × AreRead t rows × Reads contents told before after (Ok (dataset_of t rows))
+ReadsTables contents told before after (Err e) = Reads contents told before after (Err e)

@@ -1,28 +1,31 @@
 //! A plan of the rows that were read.
 
-ghost use Rattle.std.specs.Prelude.{◌≡◌, ◌≤◌, ◌<◌, ◌^◌, ◌+◌, ℕ, IsTrue, IfOk, IfSome, Some, length, map, slice_get, [], bytes_eq, unwrap_or};
+ghost use Rattle.std.specs.Prelude.{◌≡◌, ◌≤◌, ◌<◌, ◌^◌, ◌+◌, List, IsTrue, IfOk, IfSome, Some, length, map, slice_get, [], bytes_eq, unwrap_or};
 ghost use Rattle.std.specs.List.{range_with_len};
 ghost use Rattle.text_defs.specs.Dates.{is_day, date_plus};
 ghost use Rattle.service_day.specs.Zone.{base_of};
 ghost use Rattle.sched_types.specs.Parts.{table_of};
 ghost use Rattle.sched_types.specs.Timetable.{IsTimetable, RisesById, number_of};
 ghost use Rattle.load_defs.specs.Numbers.{by_id, timetable_of};
-ghost use Rattle.sched_load.specs.Built.{IsBuilt, IsInOrder, AreSmall, ListsFit, agency_in, listed_places, route_in, stop_in, trip_in};
-ghost use Rattle.sched_load.specs.Listed.{entries_of, most_rows};
+ghost use Rattle.sched_load.specs.Built.{IsBuilt, AreSmall, ListsFit, agency_in, places_of_trip, route_in, stop_in, trip_in};
+ghost use Rattle.sched_load.specs.Listed.{most_rows};
 ghost use Rattle.sched_load.specs.Tables.{AreRead, dataset_of};
+ghost use Rattle.sched_load.specs.InOrder.{WereInOrder};
+ghost use Rattle.std.specs.List.Sorted.{IsNonDecreasingBy};
+ghost use Rattle.gtfs_rows.specs.declared.rows.StopTimeRow.{StopTimeRow};
+ghost use Rattle.sched_load.specs.declared.visits.Visit.{Visit};
 
 use crate::days::{active_lists, bases_of};
 use crate::services::service_number;
 use crate::table::Table;
 use crate::tables::Tables;
-use crate::times::{list_visits, places_of};
-use crate::visits::Visit;
+use crate::times::places_of;
+use crate::visits::{Visit, visits_of};
 use gtfs_rows::{AgencyRow, RouteRow, StopRow, TripRow};
 use load_defs::LoadFault;
 use sched_types::{Place, Plan, PlanName, PlanParts, Route, Stop, Trip};
 use service_day::Zone;
 use std::alloc::{AllocError, Global};
-use std::collections::BTreeMap;
 
 /// The agency_ids, rising.
 fn agency_ids(alloc: Global, agencies: &Table<AgencyRow>) -> Result<Vec<PlanName>, AllocError>
@@ -166,20 +169,21 @@ fn trips_of(
     Ok(list)
 }
 
-/// The places of the trips, of which the visits are given.
+/// The places of so many trips, of which the visits are given trip by trip.
 fn places_lists(
     alloc: Global,
-    visits: &[BTreeMap<u32, Visit>],
+    visits: &[Visit],
+    trips: usize,
 ) -> Result<Vec<Vec<Place>>, AllocError>
-    requires { AreSmall (entries_of visits.now) }
-    ensures value { IfOk result (λ lists. map (λ v. v.items) lists.items ≡ map listed_places (entries_of visits.now)) }
+    requires small { AreSmall visits.now }
+    requires by_trip { IsNonDecreasingBy (λ (visit : Visit). visit.trip) visits.now }
+    requires few { trips ≤ most_rows }
+    ensures value { IfOk result (λ lists. map (λ v. v.items) lists.items ≡ map (places_of_trip visits.now) (range_with_len 0 trips)) }
     ensures fits { IfOk result (λ lists. ListsFit (map (λ v. v.items) lists.items)) }
 {
-    let mut lists = Vec::with_capacity(alloc, visits.len())?;
-    let mut list = Vec::new(alloc);
-    for trip in visits {
-        list_visits(trip, &mut list)?;
-        lists.push(places_of(alloc, &list)?)?;
+    let mut lists = Vec::with_capacity(alloc, trips)?;
+    for trip in 0..trips {
+        lists.push(places_of(alloc, visits_of(visits, trip as u32))?)?;
     }
     Ok(lists)
 }
@@ -192,13 +196,12 @@ fn parts_of(
     days: u32,
     tables: &Tables,
 ) -> Result<PlanParts, AllocError>
-    requires read { AreRead tables.now }
-    requires times { IsInOrder (dataset_of tables.now) }
+    requires read { WereInOrder tables.now }
     requires valid { IsTrue (is_day first) }
     requires early { 19700201 ≤ first }
     requires late { first ≤ 29991231 }
     requires few { days ≤ 400 }
-    ensures table { IfOk result (λ parts. table_of parts ≡ timetable_of zone.now first days (dataset_of tables.now)) }
+    ensures table { (rows : List StopTimeRow) → AreRead tables.now rows → IfOk result (λ parts. table_of parts ≡ timetable_of zone.now first days (dataset_of tables.now rows)) }
     ensures sound { IfOk result (λ parts. IsTimetable (table_of parts)) }
 {
     let services = tables.services.as_slice();
@@ -206,7 +209,7 @@ fn parts_of(
     let stops = stops_of(alloc, &tables.stops)?;
     let routes = routes_of(alloc, &tables.routes, &tables.agencies)?;
     let trips = trips_of(alloc, &tables.trips, &tables.routes, services)?;
-    let places = places_lists(alloc, tables.visits.as_slice())?;
+    let places = places_lists(alloc, tables.visits.as_slice(), tables.trips.len())?;
     let active = active_lists(
         alloc,
         services,
@@ -236,13 +239,12 @@ pub(crate) fn build_plan(
     days: u32,
     tables: &Tables,
 ) -> Result<Plan, LoadFault>
-    requires read { AreRead tables.now }
-    requires times { IsInOrder (dataset_of tables.now) }
+    requires read { WereInOrder tables.now }
     requires valid { IsTrue (is_day first) }
     requires early { 19700201 ≤ first }
     requires late { first ≤ 29991231 }
     requires few { days ≤ 400 }
-    ensures { IsBuilt (timetable_of zone.now first days (dataset_of tables.now)) result }
+    ensures { (rows : List StopTimeRow) → AreRead tables.now rows → IsBuilt (timetable_of zone.now first days (dataset_of tables.now rows)) result }
 {
     let parts = parts_of(alloc, zone, first, days, tables)?;
     Ok(Plan::build(alloc, parts)?)

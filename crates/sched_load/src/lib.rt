@@ -21,6 +21,7 @@ mod days;
 mod files;
 #[cfg(test)]
 mod form_tests;
+mod gather;
 mod groups;
 mod judges;
 mod loading;

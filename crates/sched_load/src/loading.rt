@@ -49,6 +49,6 @@ pub fn load<F: Files>(
 {
     let zone = zone_of(conf.zone.as_str())?;
     let tables = read_tables(alloc, files, folder)?;
-    check_times(alloc, &tables)?;
+    check_times(&tables)?;
     build_plan(alloc, &zone, conf.first, conf.days, &tables)
 }

@@ -1,12 +1,12 @@
 //! What the loader asks of the rows of a file, whichever file it is.
 
 ghost use Rattle.std.specs.Prelude.{◌≡◌, ℕ, List, Bool};
-ghost use Rattle.gtfs_rows.specs.Files.{Answers, rows_given, rows_of};
+ghost use Rattle.answer_defs.specs.Defined.{AsDefined};
+ghost use Rattle.gtfs_rows.specs.Files.{cause_of, items_of, rows_of};
 
 use gtfs_rows::{
-    AgencyRow, CalendarRow, ExceptionRow, RouteRow, RowFault, StopRow, StopTimeRow, TripRow,
-    read_agencies, read_calendar, read_exceptions, read_routes, read_stop_times, read_stops,
-    read_trips,
+    AgencyRow, CalendarRow, ExceptionRow, RouteRow, RowFault, StopRow, TripRow,
+    read_agencies, read_calendar, read_exceptions, read_routes, read_stops, read_trips,
 };
 use load_defs::File;
 use std::alloc::Global;
@@ -33,7 +33,7 @@ pub(crate) trait FileRow: Drop {
 
     /// The rows of the file with these bytes.
     fn read(alloc: Global, bytes: &[u8]) -> Result<Vec<Self>, RowFault>
-        ensures { Answers (rows_of columns bytes.now) (rows_given result) };
+        ensures { AsDefined items_of cause_of (rows_of columns bytes.now) result };
 }
 
 /// A row that has an id of its own.
@@ -170,30 +170,6 @@ impl IdRow for TripRow {
 
     fn id(&self) -> &str {
         self.trip_id.as_str()
-    }
-}
-
-impl FileRow for StopTimeRow {
-    ghost use Rattle.gtfs_rows.specs.Tables.{stop_times};
-    ghost use Rattle.load_defs.specs.declared.fault.File.TheVariants as file;
-    ghost use Rattle.std.specs.Prelude.{true};
-
-    ghost columns = { stop_times };
-
-    ghost name = { file.StopTimes };
-
-    ghost required = { true };
-
-    fn file() -> File {
-        File::StopTimes
-    }
-
-    fn is_required() -> bool {
-        true
-    }
-
-    fn read(alloc: Global, bytes: &[u8]) -> Result<Vec<StopTimeRow>, RowFault> {
-        read_stop_times(alloc, bytes)
     }
 }
 

@@ -78,6 +78,17 @@ impl<R: IdRow> Table<R> {
         None
     }
 
+    /// The same, where the row with that id often is that of the number `near`.
+    pub(crate) fn number_near(&self, near: usize, id: &str) -> Option<usize>
+        ensures value { result ≡ number_of R.id_of (by_id R.id_of self.now) id.now }
+        ensures within { IfSome result (λ number. number < length (by_id R.id_of self.now)) }
+    {
+        if near < self.len() && self.row(near).id() == id {
+            return Some(near);
+        }
+        self.number_of(id)
+    }
+
     /// Whether a row has that id.
     pub(crate) fn has(&self, id: &str) -> bool
         ensures { result ≡ has_id R.id_of self.now id.now }

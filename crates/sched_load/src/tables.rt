@@ -4,41 +4,41 @@ ghost use Rattle.std.specs.Prelude.{◌≡◌, ◌≤◌, ℕ, List, Option, IfO
 ghost use Rattle.hub_outside.specs.Files.{file_at};
 ghost use Rattle.load_defs.specs.Files.{path_of};
 ghost use Rattle.load_defs.specs.Loading.{dataset_in};
-ghost use Rattle.load_defs.specs.References.{consistent, consistent_stops, has_id, with_parents};
+ghost use Rattle.load_defs.specs.References.{consistent, consistent_stop_times, consistent_stops, has_id, with_parents};
 ghost use Rattle.sched_load.specs.Answer.{Reads, and_next};
 ghost use Rattle.sched_load.specs.Listed.{file_rows, most_rows, same_id};
 ghost use Rattle.sched_load.specs.Parents.{Checks};
-ghost use Rattle.sched_load.specs.Tables.{AreRead, dataset_read};
-ghost use Rattle.gtfs_rows.specs.Tables.{stops};
+ghost use Rattle.sched_load.specs.Tables.{ReadsTables};
+ghost use Rattle.sched_load.specs.Arranged.{ReadsArranged};
+ghost use Rattle.gtfs_rows.specs.Tables.{stop_times, stops};
 ghost use Rattle.load_defs.specs.declared.fault.File.TheVariants as file;
 
-use crate::files::read_rows;
+use crate::files::{read_rows, read_visits};
 use crate::judges::{Judge, KnownAgencies, KnownRoutes, NoReference};
 use crate::order::{order_of, row_number};
 use crate::rows::IdRow;
 use crate::services::{group_exceptions, service_ids};
 use crate::table::Table;
-use crate::visits::{Visit, group_visits};
+use crate::visits::{Visit, arrange};
 use gtfs_rows::{
-    AgencyRow, CalendarRow, Column, ExceptionRow, RouteRow, StopRow, StopTimeRow, TripRow,
+    AgencyRow, CalendarRow, Column, ExceptionRow, RouteRow, StopRow, TripRow,
 };
-use hub_outside::{Buf, Files};
+use hub_outside::Files;
 use load_defs::{File, LoadFault};
 use sched_types::PlanName;
 use service_day::Exception;
 use std::alloc::Global;
 use std::collections::BTreeMap;
 
-/// The rows of the seven files, with those of stop_times.txt and calendar_dates.txt in their groups.
+/// What is kept of the rows of the seven files: those of stop_times.txt are kept as visits alone.
 #[derive(Drop)]
 pub(crate) struct Tables {
     pub(crate) agencies: Table<AgencyRow>,
     pub(crate) stops: Table<StopRow>,
     pub(crate) routes: Table<RouteRow>,
     pub(crate) trips: Table<TripRow>,
-    pub(crate) stop_times: Vec<StopTimeRow>,
-    /// For each trip by rising ids its stop times by rising stop_sequence.
-    pub(crate) visits: Vec<BTreeMap<u32, Visit>>,
+    /// The stop times trip by trip, those of a trip by rising stop_sequence.
+    pub(crate) visits: Vec<Visit>,
     pub(crate) calendar: Table<CalendarRow>,
     pub(crate) exceptions: Vec<ExceptionRow>,
     /// The ids of the services, rising.
@@ -52,7 +52,6 @@ fn read_table<F: Files, R: IdRow, J: Judge<R>>(
     alloc: Global,
     files: &mut F,
     folder: &str,
-    buffer: &mut Buf,
     judge: &J,
 ) -> Result<Table<R>, LoadFault>
     ensures reads { Reads (F.contents files.old) (λ fs. and_next (file_rows R.required R.name R.columns (file_at fs (path_of folder.now R.name))) (consistent R.name (J.unknown_of judge.now) (same_id R.id_of))) (F.faults files.old) (F.faults files.new) result }
@@ -61,7 +60,7 @@ fn read_table<F: Files, R: IdRow, J: Judge<R>>(
     ensures few { IfOk result (λ rows. length rows ≤ most_rows) }
     ensures same { F.contents files.new ≡ F.contents files.old }
 {
-    let rows: Vec<R> = read_rows(alloc, files, folder, buffer)?;
+    let rows: Vec<R> = read_rows(alloc, files, folder)?;
     let order = order_of(alloc, rows.as_slice(), judge)?;
     Ok(Table::new(rows, order))
 }
@@ -96,7 +95,6 @@ fn read_stops<F: Files>(
     alloc: Global,
     files: &mut F,
     folder: &str,
-    buffer: &mut Buf,
 ) -> Result<Table<StopRow>, LoadFault>
     ensures reads { Reads (F.contents files.old) (λ fs. and_next (file_rows true file.Stops stops (file_at fs (path_of folder.now file.Stops))) consistent_stops) (F.faults files.old) (F.faults files.new) result }
     ensures seen { IfOk result (λ rows. (bytes : Option (List ℕ)) × (file_rows true file.Stops stops bytes ≡ Ok rows)) }
@@ -104,9 +102,27 @@ fn read_stops<F: Files>(
     ensures few { IfOk result (λ rows. length rows ≤ most_rows) }
     ensures same { F.contents files.new ≡ F.contents files.old }
 {
-    let stops: Table<StopRow> = read_table(alloc, files, folder, buffer, &NoReference)?;
+    let stops: Table<StopRow> = read_table(alloc, files, folder, &NoReference)?;
     check_parents(&stops)?;
     Ok(stops)
+}
+
+/// The visits of stop_times.txt, trip by trip, or its first fault.
+fn arranged_visits<F: Files>(
+    alloc: Global,
+    files: &mut F,
+    folder: &str,
+    trips: &Table<TripRow>,
+    stops: &Table<StopRow>,
+) -> Result<Vec<Visit>, LoadFault>
+    requires trips { length trips.now ≤ most_rows }
+    requires stops { length stops.now ≤ most_rows }
+    ensures reads { ReadsArranged trips.now stops.now (F.contents files.old) (λ fs. and_next (file_rows true file.StopTimes stop_times (file_at fs (path_of folder.now file.StopTimes))) (consistent_stop_times trips.now stops.now)) (F.faults files.old) (F.faults files.new) result }
+    ensures same { F.contents files.new ≡ F.contents files.old }
+{
+    let gathered = read_visits(alloc, files, folder, trips, stops)?;
+    let visits = arrange(alloc, gathered, trips.len())?;
+    Ok(visits)
 }
 
 /// The rows of the seven files of the folder, or the first fault, file by file.
@@ -115,24 +131,20 @@ pub(crate) fn read_tables<F: Files>(
     files: &mut F,
     folder: &str,
 ) -> Result<Tables, LoadFault>
-    ensures reads { Reads (F.contents files.old) (λ fs. dataset_in fs folder.now) (F.faults files.old) (F.faults files.new) (dataset_read result) }
-    ensures read { IfOk result AreRead }
+    ensures reads { ReadsTables (F.contents files.old) (λ fs. dataset_in fs folder.now) (F.faults files.old) (F.faults files.new) result }
     ensures same { F.contents files.new ≡ F.contents files.old }
 {
-    let mut buffer = Buf::new(alloc);
-    let buffer = &mut buffer;
-    let agencies: Table<AgencyRow> = read_table(alloc, files, folder, buffer, &NoReference)?;
-    let stops = read_stops(alloc, files, folder, buffer)?;
+    let agencies: Table<AgencyRow> = read_table(alloc, files, folder, &NoReference)?;
+    let stops = read_stops(alloc, files, folder)?;
     let known = KnownAgencies {
         agencies: &agencies,
     };
-    let routes: Table<RouteRow> = read_table(alloc, files, folder, buffer, &known)?;
+    let routes: Table<RouteRow> = read_table(alloc, files, folder, &known)?;
     let known = KnownRoutes { routes: &routes };
-    let trips: Table<TripRow> = read_table(alloc, files, folder, buffer, &known)?;
-    let stop_times: Vec<StopTimeRow> = read_rows(alloc, files, folder, buffer)?;
-    let visits = group_visits(alloc, stop_times.as_slice(), &trips, &stops)?;
-    let calendar: Table<CalendarRow> = read_table(alloc, files, folder, buffer, &NoReference)?;
-    let exceptions: Vec<ExceptionRow> = read_rows(alloc, files, folder, buffer)?;
+    let trips: Table<TripRow> = read_table(alloc, files, folder, &known)?;
+    let visits = arranged_visits(alloc, files, folder, &trips, &stops)?;
+    let calendar: Table<CalendarRow> = read_table(alloc, files, folder, &NoReference)?;
+    let exceptions: Vec<ExceptionRow> = read_rows(alloc, files, folder)?;
     let services = service_ids(alloc, trips.rows(), calendar.rows(), &exceptions)?;
     let active = group_exceptions(alloc, &exceptions, &services)?;
     Ok(Tables {
@@ -140,7 +152,6 @@ pub(crate) fn read_tables<F: Files>(
         stops,
         routes,
         trips,
-        stop_times,
         visits,
         calendar,
         exceptions,

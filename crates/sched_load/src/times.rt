@@ -12,7 +12,6 @@ ghost use Rattle.sched_load.specs.declared.visits.Visit.{Visit};
 use crate::visits::{Stay, Visit};
 use sched_types::Place;
 use std::alloc::{AllocError, Global};
-use std::collections::BTreeMap;
 
 /// The next timed place.
 #[derive(Clone, Copy)]
@@ -32,20 +31,6 @@ pub(crate) struct Course {
     behind: u32,
     /// The next timed place, once it was looked for.
     ahead: Option<Option<Ahead>>,
-}
-
-/// The visits of a trip by rising stop_sequence, in place of those that stood there.
-pub(crate) fn list_visits(
-    visits: &BTreeMap<u32, Visit>,
-    list: &mut Vec<Visit>,
-) -> Result<(), AllocError>
-    ensures { OnOk result (list.new.items ≡ map (λ entry. entry.1) visits.now.entries) }
-{
-    list.clear();
-    for (_, visit) in visits {
-        list.push(*visit)?;
-    }
-    Ok(())
 }
 
 /// Whether no place is left before it is reached, nor reached before the timed place in front of it is left.

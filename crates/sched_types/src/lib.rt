@@ -7,14 +7,13 @@
 //! true of every timetable, as that ids rise and that each number leads to a row, is
 //! `IsTimetable`, which `Plan::sound` hands to whoever asks.
 //!
-//! It stands on `service_day`, for the dates of the window's days, and on nothing else of this
-//! repository. Look-ups take no memory.
+//! It stands on `texts` and `text_defs`, for short texts and the dates of the window's days, and on
+//! `service_day`. Look-ups take no memory.
 #![tactic(auto)]
 
 mod children;
 mod dates;
 mod departures;
-mod names;
 mod numbers;
 mod plan;
 mod plans;
@@ -22,8 +21,8 @@ mod rows;
 #[cfg(test)]
 mod tests;
 
-pub use names::PlanName;
 pub use plan::Plan;
 pub use plans::{NamedFeed, NamedPlan, Plans};
 pub use rows::{Counts, Place, PlanParts, Route, Run, Stop, Trip};
 pub use std::alloc::AllocError as NoMemory;
+pub use texts::ShortText as PlanName;

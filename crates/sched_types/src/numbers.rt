@@ -2,7 +2,7 @@
 ghost use Rattle.std.specs.Prelude.{◌≡◌, ℕ, ◌^◌, ◌<◌, length, List, IfSome};
 ghost use Rattle.sched_types.specs.Timetable.{RisesById, number_of};
 
-use crate::names::PlanName;
+use texts::ShortText as PlanName;
 use crate::rows::{Route, Stop, Trip};
 
 /// A row that has an id.

@@ -11,7 +11,7 @@ ghost use Rattle.sched_types.specs.Parts.{table_of};
 use crate::children::children_lists;
 use crate::dates::dates_from;
 use crate::departures::{Departure, by_departure, departing};
-use crate::names::PlanName;
+use texts::ShortText as PlanName;
 use crate::numbers::number_by_id;
 use crate::rows::{Counts, Place, PlanParts, Route, Run, Stop, Trip};
 use texts::{day_number, is_valid_date};

@@ -2,22 +2,27 @@
 ghost use Rattle.std.specs.Prelude.{◌≡◌};
 ghost use Rattle.sched_types.specs.Schedules.{Schedules, AreSchedules};
 
-use crate::names::PlanName;
+use texts::ShortText as PlanName;
 use crate::plan::Plan;
 use std::marker::Model;
 
 /// A timetable, with its name and the prefix that its ids get where feeds are combined.
 #[derive(Drop)]
 pub struct NamedPlan {
+    /// Its name, 1 to 32 of a to z, 0 to 9 and `_`.
     pub name: PlanName,
+    /// What stands before its ids where feeds are combined; it may be empty.
     pub prefix: PlanName,
+    /// The timetable.
     pub plan: Plan,
 }
 
 /// A feed of realtime messages, with its name and the number of its timetable.
 #[derive(Debug, Drop)]
 pub struct NamedFeed {
+    /// Its name, of the same form.
     pub name: PlanName,
+    /// The number of its timetable, from 0 in the order in which they were given.
     pub plan: u32,
 }
 

@@ -1,10 +1,12 @@
 //! The rows of a timetable, which refer to one another by their numbers.
-use crate::names::PlanName;
+use texts::ShortText as PlanName;
 
 /// A row of stops.txt: a stop, platform, station, entrance, node or boarding area.
 #[derive(Debug, Drop)]
 pub struct Stop {
+    /// Its `stop_id`.
     pub id: PlanName,
+    /// Its `stop_name`, which may be empty.
     pub name: PlanName,
     /// The number of the stop that it names as `parent_station`.
     pub parent: Option<u32>,
@@ -13,8 +15,9 @@ pub struct Stop {
 /// A row of routes.txt.
 #[derive(Debug, Drop)]
 pub struct Route {
+    /// Its `route_id`.
     pub id: PlanName,
-    /// The number of its agency.
+    /// The number of its agency, if it is known.
     pub agency: Option<u32>,
     /// Its `route_short_name`.
     pub short: PlanName,
@@ -27,11 +30,13 @@ pub struct Route {
 /// A row of trips.txt.
 #[derive(Debug, Drop)]
 pub struct Trip {
+    /// Its `trip_id`.
     pub id: PlanName,
     /// The number of its route.
     pub route: u32,
     /// The number of its service.
     pub service: u32,
+    /// Its `trip_headsign`, which may be empty.
     pub headsign: PlanName,
     /// Its `direction_id`, 0 or 1.
     pub direction: Option<u32>,
@@ -45,7 +50,9 @@ pub struct Place {
     pub stop: u32,
     /// Its `stop_sequence`.
     pub sequence: u32,
+    /// When it is reached, in seconds.
     pub arrival: u32,
+    /// When it is left, in seconds.
     pub departure: u32,
     /// Its `pickup_type`, 0 to 3.
     pub pickup: u8,
@@ -54,7 +61,9 @@ pub struct Place {
 /// A trip on a day of the window, by their numbers.
 #[derive(Clone, Copy, Debug, PartialEq, Eq)]
 pub struct Run {
+    /// The number of the trip, in byte order of the ids.
     pub trip: u32,
+    /// The number of the day, 0 for the window's first.
     pub day: u32,
 }
 
@@ -63,8 +72,11 @@ pub struct Run {
 pub struct PlanParts {
     /// The ids of the agencies.
     pub agencies: Vec<PlanName>,
+    /// The stops.
     pub stops: Vec<Stop>,
+    /// The routes.
     pub routes: Vec<Route>,
+    /// The trips.
     pub trips: Vec<Trip>,
     /// For each trip its places, in order of `stop_sequence`.
     pub places: Vec<Vec<Place>>,
@@ -80,11 +92,16 @@ pub struct PlanParts {
 /// How many rows of each file a timetable has, and how many days its window has.
 #[derive(Clone, Copy, Debug, PartialEq, Eq)]
 pub struct Counts {
+    /// The rows of agency.txt.
     pub agencies: u32,
+    /// The rows of stops.txt.
     pub stops: u32,
+    /// The rows of routes.txt.
     pub routes: u32,
+    /// The rows of trips.txt.
     pub trips: u32,
     /// The rows of stop_times.txt.
     pub times: u32,
+    /// The days of the window.
     pub days: u32,
 }

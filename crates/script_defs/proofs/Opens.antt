@@ -65,11 +65,17 @@ pub short_waits : (hub : Hub) (bytes : List ℕ) → line_within longest_line by
 unfolding waits
 short_waits hub bytes none few = let e : nat_lt (length bytes) longest_line ≡ true = grind (arith, nat_tests, few) in rw none e
 
--- a message for a feed that is declared waits until its payload and the byte behind it are there
-pub message_waits : (hub : Hub) (bytes more line rest name : List ℕ) (feed n : ℕ) → line_within longest_line bytes ≡ Some (line, rest)
-    → head_of line ≡ Some (Message name n) → position_from (bytes_eq name) 0 hub.names ≡ Some feed → length (rest ++ more) ≤ n
-    → waits hub (bytes ++ more) ≡ true
+-- what waits behind the line in front waits by what that line says
+pub waits_by_line : (hub : Hub) (bytes more line rest : List ℕ) (head : Head)
+    → line_within longest_line bytes ≡ Some (line, rest) → head_of line ≡ Some head
+    → waits hub (bytes ++ more) ≡ payload_waits hub head (rest ++ more)
 unfolding waits
-message_waits hub bytes more line rest name feed n there head found few =
-    let e : nat_le (length (rest ++ more)) n ≡ true = grind (arith, nat_tests, few) in
-    rw (line_more longest_line bytes more line rest there, head, found, e) refl
+waits_by_line hub bytes more line rest head there is =
+    rw (line_more longest_line bytes more line rest there, is) refl
+
+-- a message for a feed that is declared waits until its payload and the byte behind it are there
+pub payload_short : (hub : Hub) (name rest : List ℕ) (feed n : ℕ)
+    → position_from (bytes_eq name) 0 hub.names ≡ Some feed → length rest ≤ n
+    → payload_waits hub (Message name n) rest ≡ true
+payload_short hub name rest feed n found few =
+    let e : nat_le (length rest) n ≡ true = grind (arith, nat_tests, few) in rw (found, e) refl

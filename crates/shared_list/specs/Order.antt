@@ -45,7 +45,8 @@ pub record IsAt {X : Type 0} (key : X → List ℕ) (k : List ℕ) (xs : List X)
   pub behind : AllAbove k (entries key (drop (suc at) xs))
 
 -- the key stands in the part at this place, if it stands anywhere
-pub record IsHome {X : Type 0} (key : X → List ℕ) (k : List ℕ) (parts : List (List X)) (at : ℕ) : Type 0 where
+pub record IsHome {X : Type 0} (key : X
+    → List ℕ) (k : List ℕ) (parts : List (List X)) (at : ℕ) : Type 0 where
   pub within : at < length parts
   pub before : AllBelow k (joined key (take at parts))
   pub behind : AllAbove k (joined key (drop (suc at) parts))

@@ -13,6 +13,7 @@ items_of None = []
 items_of (Some rest) = rest.items
 
 -- what is true of the chunks of a list with so many items
-pub record AreChunks {X : Type 0} (key : X → List ℕ) (chunks : List (Arc (Vec X Global) Global)) (len : ℕ) : Type 0 where
+pub record AreChunks {X : Type 0} (key : X
+    → List ℕ) (chunks : List (Arc (Vec X Global) Global)) (len : ℕ) : Type 0 where
   pub parts : AreParts key (parts_of chunks)
   pub counted : len ≡ length (joined key (parts_of chunks))

@@ -7,16 +7,24 @@ use Rattle.wire_defs.specs.Reading.{groups_at, varint_at, span_at, tag_at, paylo
 use Rattle.wire_defs.specs.Writing.{groups, varint, payload_bytes, field_bytes}
 
 -- field 1 with the value 150 is 08 96 01
-pub field_150 : fields_of (0x08 ∷ 0x96 ∷ 0x01 ∷ []) ≡ Ok (record { number = 1; payload = Varint 150; raw = 0x08 ∷ 0x96 ∷ 0x01 ∷ [] } ∷ [])
+pub field_150 : fields_of (0x08 ∷ 0x96 ∷ 0x01 ∷ [])
+    ≡ Ok (record { number = 1; payload = Varint 150; raw = 0x08 ∷ 0x96 ∷ 0x01 ∷ [] } ∷ [])
 unfolding fields_of fields_within field_at field_with group_at behind_end payload_at tag_at span_at varint_at groups_at
 field_150 = refl
 
-pub written_150 : field_bytes (record { number = 1; payload = Varint 150 }) ≡ 0x08 ∷ 0x96 ∷ 0x01 ∷ []
+pub written_150 : field_bytes (record { number = 1; payload = Varint 150 }) ≡ 0x08 ∷ 0x96 ∷ 0x01
+    ∷ []
 unfolding field_bytes payload_bytes varint groups
 written_150 = refl
 
 -- field 2 with the text "testing" is 12 07 and the text
-pub field_testing : fields_of (0x12 ∷ 0x07 ∷ 0x74 ∷ 0x65 ∷ 0x73 ∷ 0x74 ∷ 0x69 ∷ 0x6e ∷ 0x67 ∷ []) ≡ Ok (record { number = 2; payload = Span (0x74 ∷ 0x65 ∷ 0x73 ∷ 0x74 ∷ 0x69 ∷ 0x6e ∷ 0x67 ∷ []); raw = 0x12 ∷ 0x07 ∷ 0x74 ∷ 0x65 ∷ 0x73 ∷ 0x74 ∷ 0x69 ∷ 0x6e ∷ 0x67 ∷ [] } ∷ [])
+pub field_testing : fields_of (0x12 ∷ 0x07 ∷ 0x74 ∷ 0x65 ∷ 0x73 ∷ 0x74 ∷ 0x69 ∷ 0x6e ∷ 0x67 ∷ [])
+    ≡ Ok (record {
+      number = 2;
+      payload = Span (0x74 ∷ 0x65 ∷ 0x73 ∷ 0x74 ∷ 0x69 ∷ 0x6e ∷ 0x67
+          ∷ []);
+      raw = 0x12 ∷ 0x07 ∷ 0x74 ∷ 0x65 ∷ 0x73 ∷ 0x74 ∷ 0x69 ∷ 0x6e ∷ 0x67 ∷ [];
+    } ∷ [])
 unfolding fields_of fields_within field_at field_with group_at behind_end payload_at tag_at span_at varint_at groups_at
 field_testing = refl
 
@@ -31,12 +39,14 @@ unfolding fields_of fields_within field_at field_with group_at behind_end payloa
 zero_tag = refl
 
 -- eleven bytes are no varint
-pub overlong : varint_at (0x80 ∷ 0x80 ∷ 0x80 ∷ 0x80 ∷ 0x80 ∷ 0x80 ∷ 0x80 ∷ 0x80 ∷ 0x80 ∷ 0x80 ∷ 0x00 ∷ []) ≡ Err Overlong
+pub overlong : varint_at (0x80 ∷ 0x80 ∷ 0x80 ∷ 0x80 ∷ 0x80 ∷ 0x80 ∷ 0x80 ∷ 0x80 ∷ 0x80 ∷ 0x80
+    ∷ 0x00 ∷ []) ≡ Err Overlong
 unfolding varint_at groups_at
 overlong = refl
 
 -- a group of the number 9 with a varint in it
-pub group_of_one : fields_of (0x4b ∷ 0x08 ∷ 0x01 ∷ 0x4c ∷ []) ≡ Ok (record { number = 9; payload = Group; raw = 0x4b ∷ 0x08 ∷ 0x01 ∷ 0x4c ∷ [] } ∷ [])
+pub group_of_one : fields_of (0x4b ∷ 0x08 ∷ 0x01 ∷ 0x4c ∷ [])
+    ≡ Ok (record { number = 9; payload = Group; raw = 0x4b ∷ 0x08 ∷ 0x01 ∷ 0x4c ∷ [] } ∷ [])
 unfolding fields_of fields_within field_at field_with group_at behind_end payload_at tag_at span_at varint_at groups_at
 group_of_one = refl
 

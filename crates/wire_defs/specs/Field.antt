@@ -1,8 +1,9 @@
--- The fields of a message, and what hinders reading one (Protocol Buffers, "Encoding", "Message Structure").
+-- The fields of a message, and what hinders reading one (Protocol Buffers, "Encoding", "Message
+-- Structure").
 use Rattle.std.specs.Prelude.{ℕ, List, ◌*◌, ◌+◌}
 
--- what a field carries: a varint (wire type 0), eight bytes (1), a run of bytes (2), a group of fields (3, up to an
--- end tag of wire type 4), four bytes (5)
+-- what a field carries: a varint (wire type 0), eight bytes (1), a run of bytes (2), a group of
+-- fields (3, up to an end tag of wire type 4), four bytes (5)
 pub data Payload : Type 0 where
   Varint : ℕ → Payload
   Eight : ℕ → Payload
@@ -16,8 +17,8 @@ pub record Field : Type 0 where
   pub payload : Payload
   pub raw : List ℕ
 
--- why no field can be read: the bytes end within it, a varint goes past ten bytes, its tag names no field, or a
--- group ends that isn't the one that is open, or begins too deep
+-- why no field can be read: the bytes end within it, a varint goes past ten bytes, its tag names no
+-- field, or a group ends that isn't the one that is open, or begins too deep
 pub data Fault : Type 0 where
   Cut : Fault
   Overlong : Fault
@@ -40,6 +41,7 @@ tag_of number payload = number * 8 + wire_type payload
 abbrev pub end_tag_of : ℕ → ℕ
 end_tag_of number = number * 8 + 4
 
--- how deep groups may nest: a group at the outer level has depth 1. Protocol Buffers sets no limit of its own.
+-- how deep groups may nest: a group at the outer level has depth 1. Protocol Buffers sets no limit
+-- of its own.
 abbrev pub deepest_group : ℕ
 deepest_group = 64

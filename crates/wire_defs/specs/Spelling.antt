@@ -1,4 +1,5 @@
--- Which bytes spell a varint, a field and a list of fields, as a grammar (Protocol Buffers, "Encoding").
+-- Which bytes spell a varint, a field and a list of fields, as a grammar (Protocol Buffers,
+-- "Encoding").
 use Rattle.std.specs.Prelude.{◌≡◌, ℕ, zero, suc, ◌+◌, ◌*◌, ◌%◌, ◌^◌, ◌<◌, ◌≤◌, List, [], ◌∷◌, ◌++◌, length, slice_index}
 use Rattle.std.specs.List.{flat_map, AllByRecursion}
 use Rattle.std.specs.Int.{w32, w64, to_le_bytes}
@@ -13,7 +14,8 @@ AreBytes bytes = (i : ℕ) → slice_index bytes i < 256
 abbrev pub IsGroups : List ℕ → ℕ → Type 0
 IsGroups [] n = ⊥
 IsGroups (b ∷ []) n = (b < 128) × (n ≡ b)
-IsGroups (b ∷ c ∷ bs) n = (128 ≤ b) × (b < 256) × (high : ℕ) × (n + 128 ≡ b + 128 * high) × IsGroups (c ∷ bs) high
+IsGroups (b ∷ c ∷ bs) n = (128 ≤ b) × (b < 256) × (high : ℕ) × (n + 128 ≡ b + 128 * high)
+    × IsGroups (c ∷ bs) high
 
 -- one to ten bytes, whose groups count modulo 2 ^ 64
 pub record IsVarint (spelling : List ℕ) (value : ℕ) : Type 0 where
@@ -26,7 +28,8 @@ pub record IsVarint (spelling : List ℕ) (value : ℕ) : Type 0 where
 abbrev pub IsPayload : (ℕ → List ℕ → Type 0) → ℕ → List ℕ → Payload → Type 0
 IsPayload group number bytes (Varint n) = IsVarint bytes n
 IsPayload group number bytes (Eight n) = (n < 2 ^ 64) × (bytes ≡ to_le_bytes w64 n)
-IsPayload group number bytes (Span content) = (size : List ℕ) × IsVarint size (length content) × (bytes ≡ size ++ content)
+IsPayload group number bytes (Span content) = (size : List ℕ) × IsVarint size (length content)
+    × (bytes ≡ size ++ content)
 IsPayload group number bytes (Four n) = (n < 2 ^ 32) × (bytes ≡ to_le_bytes w32 n)
 IsPayload group number bytes Group = group number bytes
 
@@ -48,7 +51,8 @@ pub record IsEnded (IsOne : Field → Type 0) (number : ℕ) (bytes : List ℕ) 
   pub tagged : IsVarint ending (end_tag_of number)
   pub whole : bytes ≡ flat_map (λ field. field.raw) fields ++ ending
 
--- the bytes of a group of that number behind its start tag, in which this many levels of groups are open at most
+-- the bytes of a group of that number behind its start tag, in which this many levels of groups are
+-- open at most
 abbrev pub IsGroup : ℕ → ℕ → List ℕ → Type 0
 IsGroup zero number bytes = ⊥
 IsGroup (suc deeper) number bytes = IsEnded (IsFieldWith (IsGroup deeper)) number bytes

@@ -1,4 +1,4 @@
-use Rattle.feed_read.proofs.Faults.{fails_whole, reads_passed}
+use Rattle.field_read.proofs.Faults.{fails_whole, reads_passed}
 use Rattle.feed_read.proofs.Wholes.{reads_single, value_fault}
 use Rattle.feed_read.proofs.message.read_one.Goals as goal
 

@@ -1,6 +1,6 @@
 use Rattle.std.proofs.Common.{◌∙◌, sym, ap}
 use Rattle.std.specs.Prelude.{Ok}
-use Rattle.feed_read.proofs.Faults.{fails_whole, reads_passed}
+use Rattle.field_read.proofs.Faults.{fails_whole, reads_passed}
 use Rattle.feed_read.proofs.Numbers.{values_passed, values_met, values_stop, values_end}
 use Rattle.feed_read.proofs.nested.all.Goals as goal
 use Rattle.feed_read.proofs.nested.all.Goals.{in-Some+in_ok-read_one+in_ok-push, in_default}

@@ -1,4 +1,4 @@
-use Rattle.feed_read.proofs.Faults.{fails_whole, reads_passed}
+use Rattle.field_read.proofs.Faults.{fails_whole, reads_passed}
 use Rattle.feed_read.proofs.Wholes.{absent, present, merged_absent, merged_stops, merged_fault, merged_read}
 use Rattle.feed_read.proofs.nested.embedded.Goals as goal
 

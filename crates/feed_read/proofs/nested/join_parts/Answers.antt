@@ -1,5 +1,5 @@
 use Rattle.std.proofs.Common.{◌∙◌, sym}
-use Rattle.feed_read.proofs.Faults.{fails_whole, grows_passed}
+use Rattle.field_read.proofs.Faults.{fails_whole, grows_passed}
 use Rattle.feed_read.proofs.Joins.{joined_passed, joined_met, joined_stops, joined_end}
 use Rattle.feed_read.proofs.nested.join_parts.Goals as goal
 use Rattle.feed_read.proofs.nested.join_parts.Goals.{in-Some+in_ok-add_parts, in_default}

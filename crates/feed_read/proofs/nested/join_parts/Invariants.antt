@@ -1,7 +1,7 @@
 use Rattle.std.proofs.Common.{◌≡◌, drop}
 use Rattle.feed_defs.specs.Rows.{occurrences_of, span_in, fields_of_all}
 use Rattle.pb_wire.specs.Parts.{parts_seen}
-use Rattle.feed_read.specs.Grows.{with_more}
+use Rattle.field_read.specs.Grows.{with_more}
 use Rattle.feed_read.proofs.nested.join_parts.Given as goal
 
 abbrev pub invariant-loop-part : goal.invariant-loop-part

@@ -1,6 +1,6 @@
 use Rattle.std.proofs.Common.{◌∙◌, sym, ap}
 use Rattle.std.specs.Prelude.{Ok}
-use Rattle.feed_read.proofs.Faults.{fails_whole, reads_passed}
+use Rattle.field_read.proofs.Faults.{fails_whole, reads_passed}
 use Rattle.feed_read.proofs.Numbers.{counted, counted_more, numbered_passed, numbered_met, numbered_stops, numbered_end}
 use Rattle.feed_read.proofs.nested.numbered.Goals as goal
 use Rattle.feed_read.proofs.nested.numbered.Goals.{in-Some+in_ok-read_placed+in_ok-push, in_default}

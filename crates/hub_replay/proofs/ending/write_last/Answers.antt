@@ -2,7 +2,7 @@ use Rattle.std.proofs.Common.{refl, sym, arith, inr, subst, length, ◌+◌, ◌
 use Rattle.std.specs.Io.KnownBytes.{Appends}
 use Rattle.std.proofs.KnownBytes.{Appends-trans}
 use Rattle.std.proofs.Math.Seq.{take-append-add}
-use Rattle.hub_replay.proofs.Outcomes.{rose_later}
+use Rattle.hub_outside.proofs.Rising.{rose_later}
 use Rattle.hub_replay.proofs.ending.write_last.Goals as goal
 
 pub returns-in-Err-write_all : goal.returns-in-Err-write_all

@@ -15,13 +15,14 @@ pub returns-in-End-clause-step : goal.returns-in-End-clause-step
 returns-in-End-clause-step g c =
     let stays = c.in-End.ensures.refills.0 in
     leave_here (Refused c.args.run.now.place) (at c.args.run.now) [] c.args.run.now.said.items [] c.flush.new.said.items _ _ _ _ stays.read c.in-Ok.ensures.bytes (sym (append-nil c.args.run.now.said.items))
-    (sym c.in-Ok.ensures.emptied) (omega arith) (end_refused (at c.args.run.now) (g.S.Source.left c.read_more.new.input) c.read_more.new.self.allowed c.requires stays.allowed c.in-End.ensures.refills.1)
+    (sym c.in-Ok.ensures.emptied) (omega arith) (end_refused (at c.args.run.now) (g.S.Source.left c.read_more.new.input) c.read_more.new.self.allowed c.requires.record stays.allowed c.in-End.ensures.refills.1)
 
 pub returns-in-Failed-clause-step : goal.returns-in-Failed-clause-step
 returns-in-Failed-clause-step g c =
     let stays = c.in-Failed.ensures.refills in
     leave_here InputFault (at c.args.run.now) [] c.args.run.now.said.items [] c.flush.new.said.items _ _ _ _ stays.read c.in-Ok.ensures.bytes (sym (append-nil c.args.run.now.said.items)) (sym c.in-Ok.ensures.emptied)
-    (omega arith) (nothing_told (at c.args.run.now) [] (g.S.Source.left c.read_more.new.input) (none_in_hand (at c.args.run.now) c.requires))
+    (omega arith) (nothing_told (at c.args.run.now) [] (g.S.Source.left c.read_more.new.input) (none_in_hand (at c.args.run.now) c.requires.record)
+    (rw (append-nil c.args.run.now.window.held) c.requires.waits))
 
 pub returns-in-NoMemory-clause-step : goal.returns-in-NoMemory-clause-step
 returns-in-NoMemory-clause-step g c =

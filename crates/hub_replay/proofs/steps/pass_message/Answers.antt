@@ -23,7 +23,8 @@ returns-in-Failed-clause-step g c =
     let lacks = c.in-Failed.ensures.skips in
     leave_here InputFault (at c.args.run.now) lacks.more c.args.run.now.said.items [] c.flush.new.said.items _ _ _ _ lacks.read c.in-Ok.ensures.bytes (sym (append-nil c.args.run.now.said.items))
     (sym c.in-Ok.ensures.emptied) (omega (arith, lacks.allowed))
-    (nothing_told (at c.args.run.now) lacks.more (g.S.Source.left c.skip.new.input) (long_told (at c.args.run.now) c.args.end c.args.size lacks.more c.requires.record lacks.short))
+    (nothing_told (at c.args.run.now) lacks.more (g.S.Source.left c.skip.new.input) (long_told (at c.args.run.now) c.args.end c.args.size lacks.more c.requires.record lacks.short)
+    (c.requires.waits lacks.more lacks.short))
 
 pub returns-in-NoMemory-clause-step : goal.returns-in-NoMemory-clause-step
 returns-in-NoMemory-clause-step g c =

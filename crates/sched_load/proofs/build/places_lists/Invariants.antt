@@ -1,10 +1,10 @@
-use Rattle.std.proofs.Common.{◌≡◌, map, take}
-use Rattle.sched_load.specs.Built.{ListsFit, listed_places}
-use Rattle.sched_load.specs.Listed.{entries_of}
+use Rattle.std.proofs.Common.{◌≡◌, map}
+use Rattle.std.specs.List.{range_with_len}
+use Rattle.sched_load.specs.Built.{ListsFit, places_of_trip}
 use Rattle.sched_load.proofs.build.places_lists.Given as goal
 
 abbrev pub invariant-loop-trip : goal.invariant-loop-trip
 invariant-loop-trip l = record {
-  lists : map (λ v. v.items) l.lists.items ≡ map listed_places (take l.trip-index (entries_of l.visits));
+  lists : map (λ v. v.items) l.lists.items ≡ map (places_of_trip l.visits) (range_with_len 0 l.trip);
   fits : ListsFit (map (λ v. v.items) l.lists.items);
 }

@@ -9,7 +9,14 @@ use Rattle.load_defs.specs.Times.{are_times}
 use Rattle.sched_load.specs.Course.{given_of}
 use Rattle.sched_load.specs.Tables.{dataset_of}
 use Rattle.sched_load.proofs.Laws.{file_few}
-use Rattle.sched_load.proofs.TripLemmas.{all_times_fine, bad_times, given_rows, in_order_more, own_trip, trip_visits}
+use Rattle.sched_load.proofs.TripLemmas.{all_times_fine, bad_times, given_rows, in_order_more, in_order_start, known_rows, own_trip}
+use Rattle.sched_load.proofs.VisitLemmas.{trip_visits}
+use Rattle.std.specs.List.Sorted.{IsNonDecreasingBy}
+use Rattle.std.specs.Cmp.Lexicographic.{slice_cmp}
+use Rattle.std.specs.Ordering.{nat_cmp}
+use Rattle.gtfs_rows.specs.declared.rows.TripRow.{TripRow}
+use Rattle.sched_load.specs.declared.visits.Visit.{Visit}
+use Rattle.sched_load.proofs.Keyed.{listed_short}
 use Rattle.sched_load.proofs.check.check_times.Goals as goal
 
 pub unreachable-requires : goal.unreachable-requires
@@ -24,26 +31,42 @@ row_number-requires c =
     let seen = c.rows-row-items.result.now in
     let at = subst (λ xs. slice_get xs c.loop-place.place ≡ Some c.row-item.result) c.rows-row-items.ensures (slice_get_read seen (length seen) c.loop-place.place c.row-item.result refl c.loop-place-test.true c.row-item.is) in
     let within = slice_get_within c.args.tables.now.trips c.loop-place.place c.row-item.result at in
-    let few = file_few true file.Trips trips c.requires.sound.trips_of.0 c.args.tables.now.trips c.requires.sound.trips_of.1 in
+    let few = file_few true file.Trips trips c.requires.1.sound.trips_of.0 c.args.tables.now.trips c.requires.1.sound.trips_of.1 in
     omega (arith, within, few)
 
+pub visits_of-requires : goal.visits_of-requires
+visits_of-requires c = subst (IsNonDecreasingBy (λ (v : Visit). v.trip)) (sym c.as_slice.ensures.value) c.requires.1.visits.by_trip
+
+pub overflow_cast-trip : goal.overflow_cast-trip
+overflow_cast-trip c =
+    let t = c.args.tables.now in
+    let short = listed_short (slice_cmp nat_cmp) (λ (row : TripRow). row.trip_id) t.trips in
+    let within = c.in-Some.ensures.within in
+    let few = file_few true file.Trips trips c.requires.1.sound.trips_of.0 t.trips c.requires.1.sound.trips_of.1 in
+    omega (arith, short, within, few)
+
 pub returns-then-not-are_times : goal.returns-then-not-are_times
-returns-then-not-are_times c =
+returns-then-not-are_times c = λ rows read.
     let seen = c.rows-row-items.result.now in
     let at = subst (λ xs. slice_get xs c.loop-place.place ≡ Some c.row-item.result) c.rows-row-items.ensures (slice_get_read seen (length seen) c.loop-place.place c.row-item.result refl c.loop-place-test.true c.row-item.is) in
     let t = c.args.tables.now in
     let number = ap (number_of (λ trip. trip.trip_id) (by_id (λ trip. trip.trip_id) t.trips)) (sym c.as_str.ensures) ∙ sym c.number_of.ensures.value ∙ c.in-Some.is in
-    let fine = ap are_times (sym (ap given_of (c.deref.ensures.value ∙ c.in_ok-list_visits.ensures ∙ trip_visits t.trips t.stops t.stop_times.items t.visits.items c.row-item.result.trip_id c.in-Some.trip c.index.result.now c.requires.visits number c.index.ensures) ∙ given_rows t.stops (stop_times_of t.stop_times.items c.row-item.result.trip_id))) ∙ sym c.are_times.ensures in
-    rw c.row_number.ensures (bad_times (dataset_of t) c.loop-place.place c.row-item.result c.loop-place.invariant at (fine ∙ c.if-not-are_times.true))
+    let own = rw c.as_slice.ensures.value at c.visits_of.ensures in
+    let fine = ap are_times (sym (ap given_of (own ∙ trip_visits t.trips t.stops rows t.visits.items (known_rows t rows read) read.visits c.row-item.result.trip_id c.in-Some.trip number) ∙ given_rows t.trips t.stops (stop_times_of rows c.row-item.result.trip_id))) ∙ sym c.are_times.ensures in
+    rw c.row_number.ensures (bad_times (dataset_of t rows) c.loop-place.place c.row-item.result (c.loop-place.invariant rows read) at (fine ∙ c.if-not-are_times.true))
 
 pub loop-place-preserved : goal.loop-place-preserved
-loop-place-preserved c =
+loop-place-preserved c = λ rows read.
     let seen = c.rows-row-items.result.now in
     let at = subst (λ xs. slice_get xs c.loop-place.place ≡ Some c.row-item.result) c.rows-row-items.ensures (slice_get_read seen (length seen) c.loop-place.place c.row-item.result refl c.loop-place-test.true c.row-item.is) in
     let t = c.args.tables.now in
     let number = ap (number_of (λ trip. trip.trip_id) (by_id (λ trip. trip.trip_id) t.trips)) (sym c.as_str.ensures) ∙ sym c.number_of.ensures.value ∙ c.in-Some.is in
-    let fine = ap are_times (sym (ap given_of (c.deref.ensures.value ∙ c.in_ok-list_visits.ensures ∙ trip_visits t.trips t.stops t.stop_times.items t.visits.items c.row-item.result.trip_id c.in-Some.trip c.index.result.now c.requires.visits number c.index.ensures) ∙ given_rows t.stops (stop_times_of t.stop_times.items c.row-item.result.trip_id))) ∙ sym c.are_times.ensures in
-    in_order_more (dataset_of t) c.loop-place.place c.row-item.result c.loop-place.invariant at (fine ∙ c.if-not-are_times.false)
+    let own = rw c.as_slice.ensures.value at c.visits_of.ensures in
+    let fine = ap are_times (sym (ap given_of (own ∙ trip_visits t.trips t.stops rows t.visits.items (known_rows t rows read) read.visits c.row-item.result.trip_id c.in-Some.trip number) ∙ given_rows t.trips t.stops (stop_times_of rows c.row-item.result.trip_id))) ∙ sym c.are_times.ensures in
+    in_order_more (dataset_of t rows) c.loop-place.place c.row-item.result (c.loop-place.invariant rows read) at (fine ∙ c.if-not-are_times.false)
+
+pub loop-place-init : goal.loop-place-init
+loop-place-init c = λ rows read. in_order_start (dataset_of c.args.tables.now rows)
 
 pub returns : goal.returns
-returns c = all_times_fine (dataset_of c.args.tables.now) c.loop-place.place c.loop-place.invariant (subst (λ xs. length xs ≤ c.loop-place.place) c.rows-row-items.ensures c.loop-place-test.false)
+returns c = λ rows read. all_times_fine (dataset_of c.args.tables.now rows) c.loop-place.place (c.loop-place.invariant rows read) (subst (λ xs. length xs ≤ c.loop-place.place) c.rows-row-items.ensures c.loop-place-test.false)

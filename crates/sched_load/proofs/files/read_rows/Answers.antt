@@ -1,5 +1,6 @@
 use Rattle.std.proofs.Common.{◌≡◌, Some, Err, subst}
-use Rattle.gtfs_rows.specs.Files.{Answers, rows_of}
+use Rattle.answer_defs.specs.Defined.{IsCause}
+use Rattle.gtfs_rows.specs.Files.{cause_of, rows_of}
 use Rattle.hub_outside.specs.Files.{file_at}
 use Rattle.load_defs.specs.Files.{path_of}
 use Rattle.sched_load.proofs.Laws.{file_few}
@@ -21,4 +22,4 @@ returns-in-Read-clause-reads g c =
     let r = g.R.FileRow in
     rw (c.rows_fault.ensures, c.file-in-Err.ensures)
     (read_fault (g.F.Files.contents c.args.files.now) (λ fs. file_at fs (path_of c.args.folder.now r.name)) r.required r.name r.columns _ _ c.read_file.new.into.bytes c.in-Err.fault
-    (rw (c.as_str.ensures.value, c.in_ok-path.ensures, c.file.ensures) at c.in-Read.ensures.answer) (subst (λ bytes. Answers (rows_of r.columns bytes) (Err c.in-Err.fault)) c.as_slice.ensures c.in-Err.ensures) c.in-Read.ensures.cause)
+    (rw (c.as_str.ensures.value, c.in_ok-path.ensures, c.file.ensures) at c.in-Read.ensures.answer) (subst (λ bytes. IsCause (rows_of r.columns bytes) (cause_of c.in-Err.fault)) c.as_slice.ensures c.in-Err.ensures) c.in-Read.ensures.cause)

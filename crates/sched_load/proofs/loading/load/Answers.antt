@@ -19,26 +19,34 @@ returns-in_err-tables-clause-loads g c = (passed _ _ _ _ _ _ c.from_residual-in_
 pub returns-in_err-check_times-clause-loads : goal.returns-in_err-check_times-clause-loads
 returns-in_err-check_times-clause-loads g c = (passed _ _ _ _ _ _ c.from_residual-in_err-check_times.ensures.1 (told_same (g.F.Files.contents c.args.files.now) (λ fs. zone_of c.args.conf.now.zone >>= (λ rule. dataset_in fs c.args.folder.now >>= (λ rows. with_times rows >>= (λ d. Ok (timetable_of rule c.args.conf.now.first c.args.conf.now.days d))))) (λ fs. timetable fs c.args.folder.now c.args.conf.now) _ _ _ (timetable_is c.args.folder.now c.args.conf.now)
     (step_done (g.F.Files.contents c.args.files.now) (λ fs. zone_of c.args.conf.now.zone) (λ fs rule. dataset_in fs c.args.folder.now >>= (λ rows. with_times rows >>= (λ d. Ok (timetable_of rule c.args.conf.now.first c.args.conf.now.days d)))) (g.F.Files.contents c.args.files.now) _ _ _ c.in_ok-zone.zone _ refl (step_value (g.F.Files.contents c.args.files.now) (zone_of c.args.conf.now.zone) _ c.in_ok-zone.zone (rw c.as_str.ensures at c.in_ok-zone.ensures))
-    (step_done (g.F.Files.contents c.args.files.now) (λ fs. dataset_in fs c.args.folder.now) (λ fs. (λ rows. with_times rows >>= (λ d. Ok (timetable_of c.in_ok-zone.zone c.args.conf.now.first c.args.conf.now.days d)))) (g.F.Files.contents c.read_tables.new.files) _ _ _ (dataset_of c.in_ok-tables.tables) _ c.read_tables.ensures.same c.in_ok-tables.ensures.reads
-    (step_fails (g.F.Files.contents c.read_tables.new.files) (λ fs. with_times (dataset_of c.in_ok-tables.tables)) (λ fs d. Ok (timetable_of c.in_ok-zone.zone c.args.conf.now.first c.args.conf.now.days d)) _ _ _ (step_alone (g.F.Files.contents c.read_tables.new.files) (with_times (dataset_of c.in_ok-tables.tables)) _ c.in_err-check_times.field-0.0 c.in_err-check_times.ensures)))))).loads
+    (step_done (g.F.Files.contents c.args.files.now) (λ fs. dataset_in fs c.args.folder.now) (λ fs. (λ rows. with_times rows >>= (λ d. Ok (timetable_of c.in_ok-zone.zone c.args.conf.now.first c.args.conf.now.days d)))) (g.F.Files.contents c.read_tables.new.files) _ _ _ (dataset_of c.in_ok-tables.tables c.in_ok-tables.ensures.reads.0) _ c.read_tables.ensures.same c.in_ok-tables.ensures.reads.2
+    (step_fails (g.F.Files.contents c.read_tables.new.files) (λ fs. with_times (dataset_of c.in_ok-tables.tables c.in_ok-tables.ensures.reads.0)) (λ fs d. Ok (timetable_of c.in_ok-zone.zone c.args.conf.now.first c.args.conf.now.days d)) _ _ _ (step_alone (g.F.Files.contents c.read_tables.new.files) (with_times (dataset_of c.in_ok-tables.tables c.in_ok-tables.ensures.reads.0)) _ c.in_err-check_times.field-0.0 (c.in_err-check_times.ensures c.in_ok-tables.ensures.reads.0 c.in_ok-tables.ensures.reads.1))))))).loads
 
 pub returns-clause-loads : goal.returns-clause-loads
 returns-clause-loads g c = (told_same (g.F.Files.contents c.args.files.now) (λ fs. zone_of c.args.conf.now.zone >>= (λ rule. dataset_in fs c.args.folder.now >>= (λ rows. with_times rows >>= (λ d. Ok (timetable_of rule c.args.conf.now.first c.args.conf.now.days d))))) (λ fs. timetable fs c.args.folder.now c.args.conf.now) _ _ _ (timetable_is c.args.folder.now c.args.conf.now)
     (step_done (g.F.Files.contents c.args.files.now) (λ fs. zone_of c.args.conf.now.zone) (λ fs rule. dataset_in fs c.args.folder.now >>= (λ rows. with_times rows >>= (λ d. Ok (timetable_of rule c.args.conf.now.first c.args.conf.now.days d)))) (g.F.Files.contents c.args.files.now) _ _ _ c.in_ok-zone.zone _ refl (step_value (g.F.Files.contents c.args.files.now) (zone_of c.args.conf.now.zone) _ c.in_ok-zone.zone (rw c.as_str.ensures at c.in_ok-zone.ensures))
-    (step_done (g.F.Files.contents c.args.files.now) (λ fs. dataset_in fs c.args.folder.now) (λ fs. (λ rows. with_times rows >>= (λ d. Ok (timetable_of c.in_ok-zone.zone c.args.conf.now.first c.args.conf.now.days d)))) (g.F.Files.contents c.read_tables.new.files) _ _ _ (dataset_of c.in_ok-tables.tables) _ c.read_tables.ensures.same c.in_ok-tables.ensures.reads
-    (step_done (g.F.Files.contents c.read_tables.new.files) (λ fs. with_times (dataset_of c.in_ok-tables.tables)) (λ fs d. Ok (timetable_of c.in_ok-zone.zone c.args.conf.now.first c.args.conf.now.days d)) (g.F.Files.contents c.read_tables.new.files) _ _ _ (dataset_of c.in_ok-tables.tables) _ refl (step_value (g.F.Files.contents c.read_tables.new.files) (with_times (dataset_of c.in_ok-tables.tables)) _ (dataset_of c.in_ok-tables.tables) c.in_ok-check_times.ensures)
-    (built (g.F.Files.contents c.read_tables.new.files) (timetable_of c.in_ok-zone.zone c.args.conf.now.first c.args.conf.now.days (dataset_of c.in_ok-tables.tables)) _ c.build_plan.result c.build_plan.ensures))))).loads
+    (step_done (g.F.Files.contents c.args.files.now) (λ fs. dataset_in fs c.args.folder.now) (λ fs. (λ rows. with_times rows >>= (λ d. Ok (timetable_of c.in_ok-zone.zone c.args.conf.now.first c.args.conf.now.days d)))) (g.F.Files.contents c.read_tables.new.files) _ _ _ (dataset_of c.in_ok-tables.tables c.in_ok-tables.ensures.reads.0) _ c.read_tables.ensures.same c.in_ok-tables.ensures.reads.2
+    (step_done (g.F.Files.contents c.read_tables.new.files) (λ fs. with_times (dataset_of c.in_ok-tables.tables c.in_ok-tables.ensures.reads.0)) (λ fs d. Ok (timetable_of c.in_ok-zone.zone c.args.conf.now.first c.args.conf.now.days d)) (g.F.Files.contents c.read_tables.new.files) _ _ _ (dataset_of c.in_ok-tables.tables c.in_ok-tables.ensures.reads.0) _ refl (step_value (g.F.Files.contents c.read_tables.new.files) (with_times (dataset_of c.in_ok-tables.tables c.in_ok-tables.ensures.reads.0)) _ (dataset_of c.in_ok-tables.tables c.in_ok-tables.ensures.reads.0) (c.in_ok-check_times.ensures c.in_ok-tables.ensures.reads.0 c.in_ok-tables.ensures.reads.1))
+    (built (g.F.Files.contents c.read_tables.new.files) (timetable_of c.in_ok-zone.zone c.args.conf.now.first c.args.conf.now.days (dataset_of c.in_ok-tables.tables c.in_ok-tables.ensures.reads.0)) _ c.build_plan.result (c.build_plan.ensures c.in_ok-tables.ensures.reads.0 c.in_ok-tables.ensures.reads.1)))))).loads
 
 pub returns-clause-cause : goal.returns-clause-cause
 returns-clause-cause g c = (told_same (g.F.Files.contents c.args.files.now) (λ fs. zone_of c.args.conf.now.zone >>= (λ rule. dataset_in fs c.args.folder.now >>= (λ rows. with_times rows >>= (λ d. Ok (timetable_of rule c.args.conf.now.first c.args.conf.now.days d))))) (λ fs. timetable fs c.args.folder.now c.args.conf.now) _ _ _ (timetable_is c.args.folder.now c.args.conf.now)
     (step_done (g.F.Files.contents c.args.files.now) (λ fs. zone_of c.args.conf.now.zone) (λ fs rule. dataset_in fs c.args.folder.now >>= (λ rows. with_times rows >>= (λ d. Ok (timetable_of rule c.args.conf.now.first c.args.conf.now.days d)))) (g.F.Files.contents c.args.files.now) _ _ _ c.in_ok-zone.zone _ refl (step_value (g.F.Files.contents c.args.files.now) (zone_of c.args.conf.now.zone) _ c.in_ok-zone.zone (rw c.as_str.ensures at c.in_ok-zone.ensures))
-    (step_done (g.F.Files.contents c.args.files.now) (λ fs. dataset_in fs c.args.folder.now) (λ fs. (λ rows. with_times rows >>= (λ d. Ok (timetable_of c.in_ok-zone.zone c.args.conf.now.first c.args.conf.now.days d)))) (g.F.Files.contents c.read_tables.new.files) _ _ _ (dataset_of c.in_ok-tables.tables) _ c.read_tables.ensures.same c.in_ok-tables.ensures.reads
-    (step_done (g.F.Files.contents c.read_tables.new.files) (λ fs. with_times (dataset_of c.in_ok-tables.tables)) (λ fs d. Ok (timetable_of c.in_ok-zone.zone c.args.conf.now.first c.args.conf.now.days d)) (g.F.Files.contents c.read_tables.new.files) _ _ _ (dataset_of c.in_ok-tables.tables) _ refl (step_value (g.F.Files.contents c.read_tables.new.files) (with_times (dataset_of c.in_ok-tables.tables)) _ (dataset_of c.in_ok-tables.tables) c.in_ok-check_times.ensures)
-    (built (g.F.Files.contents c.read_tables.new.files) (timetable_of c.in_ok-zone.zone c.args.conf.now.first c.args.conf.now.days (dataset_of c.in_ok-tables.tables)) _ c.build_plan.result c.build_plan.ensures))))).cause
+    (step_done (g.F.Files.contents c.args.files.now) (λ fs. dataset_in fs c.args.folder.now) (λ fs. (λ rows. with_times rows >>= (λ d. Ok (timetable_of c.in_ok-zone.zone c.args.conf.now.first c.args.conf.now.days d)))) (g.F.Files.contents c.read_tables.new.files) _ _ _ (dataset_of c.in_ok-tables.tables c.in_ok-tables.ensures.reads.0) _ c.read_tables.ensures.same c.in_ok-tables.ensures.reads.2
+    (step_done (g.F.Files.contents c.read_tables.new.files) (λ fs. with_times (dataset_of c.in_ok-tables.tables c.in_ok-tables.ensures.reads.0)) (λ fs d. Ok (timetable_of c.in_ok-zone.zone c.args.conf.now.first c.args.conf.now.days d)) (g.F.Files.contents c.read_tables.new.files) _ _ _ (dataset_of c.in_ok-tables.tables c.in_ok-tables.ensures.reads.0) _ refl (step_value (g.F.Files.contents c.read_tables.new.files) (with_times (dataset_of c.in_ok-tables.tables c.in_ok-tables.ensures.reads.0)) _ (dataset_of c.in_ok-tables.tables c.in_ok-tables.ensures.reads.0) (c.in_ok-check_times.ensures c.in_ok-tables.ensures.reads.0 c.in_ok-tables.ensures.reads.1))
+    (built (g.F.Files.contents c.read_tables.new.files) (timetable_of c.in_ok-zone.zone c.args.conf.now.first c.args.conf.now.days (dataset_of c.in_ok-tables.tables c.in_ok-tables.ensures.reads.0)) _ c.build_plan.result (c.build_plan.ensures c.in_ok-tables.ensures.reads.0 c.in_ok-tables.ensures.reads.1)))))).cause
 
 pub returns-clause-plain : goal.returns-clause-plain
 returns-clause-plain g c = (told_same (g.F.Files.contents c.args.files.now) (λ fs. zone_of c.args.conf.now.zone >>= (λ rule. dataset_in fs c.args.folder.now >>= (λ rows. with_times rows >>= (λ d. Ok (timetable_of rule c.args.conf.now.first c.args.conf.now.days d))))) (λ fs. timetable fs c.args.folder.now c.args.conf.now) _ _ _ (timetable_is c.args.folder.now c.args.conf.now)
     (step_done (g.F.Files.contents c.args.files.now) (λ fs. zone_of c.args.conf.now.zone) (λ fs rule. dataset_in fs c.args.folder.now >>= (λ rows. with_times rows >>= (λ d. Ok (timetable_of rule c.args.conf.now.first c.args.conf.now.days d)))) (g.F.Files.contents c.args.files.now) _ _ _ c.in_ok-zone.zone _ refl (step_value (g.F.Files.contents c.args.files.now) (zone_of c.args.conf.now.zone) _ c.in_ok-zone.zone (rw c.as_str.ensures at c.in_ok-zone.ensures))
-    (step_done (g.F.Files.contents c.args.files.now) (λ fs. dataset_in fs c.args.folder.now) (λ fs. (λ rows. with_times rows >>= (λ d. Ok (timetable_of c.in_ok-zone.zone c.args.conf.now.first c.args.conf.now.days d)))) (g.F.Files.contents c.read_tables.new.files) _ _ _ (dataset_of c.in_ok-tables.tables) _ c.read_tables.ensures.same c.in_ok-tables.ensures.reads
-    (step_done (g.F.Files.contents c.read_tables.new.files) (λ fs. with_times (dataset_of c.in_ok-tables.tables)) (λ fs d. Ok (timetable_of c.in_ok-zone.zone c.args.conf.now.first c.args.conf.now.days d)) (g.F.Files.contents c.read_tables.new.files) _ _ _ (dataset_of c.in_ok-tables.tables) _ refl (step_value (g.F.Files.contents c.read_tables.new.files) (with_times (dataset_of c.in_ok-tables.tables)) _ (dataset_of c.in_ok-tables.tables) c.in_ok-check_times.ensures)
-    (built (g.F.Files.contents c.read_tables.new.files) (timetable_of c.in_ok-zone.zone c.args.conf.now.first c.args.conf.now.days (dataset_of c.in_ok-tables.tables)) _ c.build_plan.result c.build_plan.ensures))))).plain
+    (step_done (g.F.Files.contents c.args.files.now) (λ fs. dataset_in fs c.args.folder.now) (λ fs. (λ rows. with_times rows >>= (λ d. Ok (timetable_of c.in_ok-zone.zone c.args.conf.now.first c.args.conf.now.days d)))) (g.F.Files.contents c.read_tables.new.files) _ _ _ (dataset_of c.in_ok-tables.tables c.in_ok-tables.ensures.reads.0) _ c.read_tables.ensures.same c.in_ok-tables.ensures.reads.2
+    (step_done (g.F.Files.contents c.read_tables.new.files) (λ fs. with_times (dataset_of c.in_ok-tables.tables c.in_ok-tables.ensures.reads.0)) (λ fs d. Ok (timetable_of c.in_ok-zone.zone c.args.conf.now.first c.args.conf.now.days d)) (g.F.Files.contents c.read_tables.new.files) _ _ _ (dataset_of c.in_ok-tables.tables c.in_ok-tables.ensures.reads.0) _ refl (step_value (g.F.Files.contents c.read_tables.new.files) (with_times (dataset_of c.in_ok-tables.tables c.in_ok-tables.ensures.reads.0)) _ (dataset_of c.in_ok-tables.tables c.in_ok-tables.ensures.reads.0) (c.in_ok-check_times.ensures c.in_ok-tables.ensures.reads.0 c.in_ok-tables.ensures.reads.1))
+    (built (g.F.Files.contents c.read_tables.new.files) (timetable_of c.in_ok-zone.zone c.args.conf.now.first c.args.conf.now.days (dataset_of c.in_ok-tables.tables c.in_ok-tables.ensures.reads.0)) _ c.build_plan.result (c.build_plan.ensures c.in_ok-tables.ensures.reads.0 c.in_ok-tables.ensures.reads.1)))))).plain
+
+pub check_times-requires : goal.check_times-requires
+check_times-requires g c = (c.in_ok-tables.ensures.reads.0, c.in_ok-tables.ensures.reads.1)
+
+pub build_plan-requires-clause-read : goal.build_plan-requires-clause-read
+build_plan-requires-clause-read g c =
+    let reads = c.in_ok-tables.ensures.reads in
+    (reads.0, reads.1, c.in_ok-check_times.ensures reads.0 reads.1)

@@ -7,7 +7,7 @@ use Rattle.sched_load.proofs.times.places_of.Goals as goal
 
 pub loop-i-preserved : goal.loop-i-preserved
 loop-i-preserved c =
-    let none : Visit = record { stop = 0; sequence = 0; stay = None; pickup = 0 } in
+    let none : Visit = record { trip = 0; stop = 0; sequence = 0; stay = None; pickup = 0 } in
     let visits = c.args.visits.now in
     let visit = get_or visits c.loop-i.i none in
     fills_more visits c.loop-i.i c.loop-i.course c.step.result.0 c.loop-i.places.items c.push.new.self.items visit c.step.result.1 c.place_at.result c.loop-i.invariant

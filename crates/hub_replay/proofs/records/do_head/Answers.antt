@@ -1,5 +1,0 @@
-use Rattle.std.proofs.Common.{refl, ◌++◌, drop}
-use Rattle.hub_replay.proofs.records.do_head.Goals as goal
-
-pub returns-in-End : goal.returns-in-End
-returns-in-End c = record { says = refl; rest = λ more. drop c.args.behind c.args.bytes.now ++ more; is = λ more. rw c.in-End.is refl }
