@@ -1,6 +1,6 @@
 -- What is written of the message of a hub's views is the combined feed.
 use Rattle.std.proofs.Common.{◌≡◌, ◌<◌, ℕ, List, [], ◌++◌, length, get_or, slice_get, sym, ap, ◌∙◌}
-use Rattle.std.specs.Prelude.{Some, unwrap_or}
+use Rattle.std.specs.Prelude.{unwrap_or}
 use Rattle.std.specs.Option.{option_map}
 use Rattle.std.proofs.lemmas.Option.{slice_get-get_or}
 use Rattle.rt_types.specs.declared.message.FeedMessage.{FeedMessage}
@@ -29,7 +29,7 @@ unfolding feed_bytes
 bytes_are kept schedules plans feeds views plan named prefix m before after whole its_plans its_feeds its_views within is message empty written =
     let all : plans ≡ kept.plans.plans = its_plans ∙ ap (λ s. s.plans) whole in
     let ids : prefix ≡ prefix_of kept.plans plan =
-        prefix_is kept.plans.plans plan named prefix within (is ∙ ap (λ xs. (get_or xs plan named).prefix) all) in
+    prefix_is kept.plans.plans plan named prefix within (is ∙ ap (λ xs. (get_or xs plan named).prefix) all) in
     written ∙ ap (λ bytes. bytes ++ write m) empty
     ∙ ap write
     (message

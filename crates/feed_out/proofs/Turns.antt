@@ -1,18 +1,13 @@
 -- The newest stamp of the feeds that are left, and what is left of a table.
-use Rattle.std.proofs.Common.{◌≡◌, ◌<◌, ℕ, suc, ◌+◌, Bool, true, false, cond, nat_eq, List, [], ◌∷◌, ◌++◌, map, drop, length, get_or, max, refl, sym, ap, ◌∙◌, append_assoc, append-nil, add-one, drop-cons, arith}
-use Rattle.std.specs.Prelude.{fold, if◌then◌else◌}
-use Rattle.std.specs.List.{flat_map}
-use Rattle.std.proofs.lemmas.List.{get_or-map, get_or_default}
+use Rattle.std.proofs.Common.{◌≡◌, ℕ, List, [], ◌∷◌, ◌++◌, map, max, refl, sym, ap, ◌∙◌, append-nil}
+use Rattle.std.specs.Prelude.{fold}
 use Rattle.rt_types.specs.declared.message.Entity.{Entity}
 use Rattle.feed_defs.specs.declared.history.Stored.{Stored}
-use Rattle.feed_defs.specs.Combined.{entity_under_feed}
 use Rattle.feed_defs.specs.History.{Change}
-use Rattle.feed_defs.specs.Renamed.{renamed_entity}
 use Rattle.sched_types.specs.declared.plans.NamedFeed.{NamedFeed}
-use Rattle.board_defs.specs.Feed.{feeds_of, combined_entity, combined_entities}
 use Rattle.board_defs.specs.Fold.{FeedFold}
 use Rattle.board_defs.specs.Views.{FeedKept}
-use Rattle.feed_out.specs.Feeds.{told_of, later_of, added_of}
+use Rattle.feed_out.specs.Feeds.{told_of}
 
 abbrev later : ℕ → NamedFeed × FeedFold → ℕ
 later newest one = max newest one.1.stamp

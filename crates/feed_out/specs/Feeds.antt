@@ -1,8 +1,5 @@
 -- What the views of feeds say, as the combined feed takes it.
 use Rattle.std.specs.Prelude.{ℕ, ◌==◌, if◌then◌else◌, List, [], map, max}
-use Rattle.std.specs.Arc.{arc_value}
-use Rattle.std.specs.declared.alloc.Global.{Global}
-use Rattle.std.specs.declared.sync.Arc.{Arc}
 use Rattle.rt_types.specs.declared.message.Entity.{Entity}
 use Rattle.sched_types.specs.declared.plans.NamedFeed.{NamedFeed}
 use Rattle.board_defs.specs.Feed.{feeds_of, combined_entities}

@@ -7,8 +7,8 @@
 //! It stands on `board_core` for what the feeds hold, and on `feed_write` for the bytes.
 #![tactic(auto)]
 
-mod message;
 mod entities;
+mod message;
 
 pub use message::combined;
 pub use std::alloc::AllocError as NoMemory;

@@ -9,6 +9,6 @@ pub returns-clause-stands : goal.returns-clause-stands
 returns-clause-stands c =
     λ h stands.
     let is : arc_value c.in_ok-new.field-0 ≡ hub_after c.args.feed c.args.message c.args.self.now =
-        c.in_ok-new.ensures.ok ∙ c.in_ok-next.ensures ∙ ap (hub_after c.args.feed c.args.message) (c.deref.ensures ∙ c.self.view_is) in
+    c.in_ok-new.ensures.ok ∙ c.in_ok-next.ensures ∙ ap (hub_after c.args.feed c.args.message) (c.deref.ensures ∙ c.self.view_is) in
     subst (StandsFor (h ++ record { feed = c.args.feed; message = c.args.message } ∷ [])) (sym is)
     (stands_more h c.args.self.now c.args.feed c.args.message stands c.requires.feed)
