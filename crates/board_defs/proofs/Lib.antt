@@ -3,3 +3,5 @@ pub mod CityBoards
 pub mod LineBoards
 pub mod Feeds
 pub mod ViewLaws
+pub mod KeyOrder
+pub mod DateOrder

@@ -1,6 +1,7 @@
 -- The combined feed of a schedule: what its feeds hold, in one message.
-use Rattle.std.specs.Prelude.{ℕ, ◌==◌, if◌then◌else◌, List, [], ◌∷◌, ◌++◌, map, max, fold, Some, codes}
+use Rattle.std.specs.Prelude.{ℕ, ◌==◌, if◌then◌else◌, List, [], ◌∷◌, ◌++◌, map, max, fold, slice_get, Some, unwrap_or, codes}
 use Rattle.std.specs.List.{flat_map}
+use Rattle.std.specs.Option.{option_map}
 use Rattle.rt_types.specs.declared.enums.Incrementality.TheVariants.{FullDataset}
 use Rattle.rt_types.specs.declared.message.Entity.{Entity}
 use Rattle.rt_types.specs.declared.message.FeedMessage.{FeedMessage}
@@ -9,6 +10,7 @@ use Rattle.feed_defs.specs.History.{Change}
 use Rattle.feed_defs.specs.Renamed.{renamed_entity}
 use Rattle.feed_defs.specs.Table.{write}
 use Rattle.sched_types.specs.declared.plans.NamedFeed.{NamedFeed}
+use Rattle.sched_types.specs.Schedules.{Schedules}
 use Rattle.board_defs.specs.Fold.{FeedFold}
 
 -- the feeds of a schedule, with what each says
@@ -43,6 +45,14 @@ feed_message prefix feeds = record {
   unknown = [];
 }
 
--- its bytes
+-- the prefix of a schedule; none past the last
+abbrev pub prefix_of : Schedules → ℕ → List ℕ
+prefix_of schedules plan = unwrap_or (option_map (λ named. named.prefix) (slice_get schedules.plans plan)) []
+
+-- the bytes of the message
 unfoldable pub feed_bytes : List ℕ → ℕ → List NamedFeed → List FeedFold → List ℕ
 feed_bytes prefix plan feeds folds = write (feed_message prefix (feeds_of plan feeds folds))
+
+-- the combined feed of a schedule, of what all feeds say
+abbrev pub combined_feed : Schedules → ℕ → List FeedFold → List ℕ
+combined_feed schedules plan folds = feed_bytes (prefix_of schedules plan) plan schedules.feeds folds

@@ -45,6 +45,10 @@ feed_after m kept = record { fold = fold_after m kept.fold }
 abbrev pub feed_at : HubKept → ℕ → FeedKept
 feed_at kept feed = slice_index_or kept.feeds feed nothing_kept
 
+-- what each feed says
+abbrev pub folds_of : HubKept → List FeedFold
+folds_of kept = map (λ feed. feed.fold) kept.feeds
+
 -- a hub that accepted nothing
 abbrev pub hub_first : Schedules → HubKept
 hub_first plans = record {
@@ -74,5 +78,5 @@ pub record IsHub (kept : HubKept) : Type 0 where
 
 -- a view of a hub stands for what a history of accepted messages adds up to
 pub record StandsFor (history : List Entry) (kept : HubKept) : Type 0 where
-  pub feeds : map (λ feed. feed.fold) kept.feeds ≡ fold_of (length kept.plans.feeds) history
+  pub feeds : folds_of kept ≡ fold_of (length kept.plans.feeds) history
   pub entries : kept.entries ≡ length history

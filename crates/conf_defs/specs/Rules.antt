@@ -1,11 +1,11 @@
 -- The keys of a configuration's tables, what each may hold, and what stands for one that is absent.
 use Rattle.std.specs.Prelude.{ℕ, List, [], ◌∷◌, codes}
-use Rattle.hub_config.specs.declared.fault.TableName.{TableName}
-use Rattle.hub_config.specs.declared.fault.TableName.TheVariants.{Top, Schedule, Feed}
-use Rattle.hub_config.specs.declared.rule.Key.{Key}
-use Rattle.hub_config.specs.declared.rule.Key.TheVariants.{Readers, Listen, Connections, Schedules, Feeds, ScheduleName, Folder, Zone, First, Days, Prefix, FeedName, FeedSchedule, Kind, Place}
-use Rattle.hub_config.specs.declared.rule.Holds.{Holds}
-use Rattle.hub_config.specs.declared.rule.Holds.TheVariants.{Number, Date, AnyText, ShortText, NewSchedule, NewFeed, KnownSchedule, Port, Tables}
+use Rattle.conf_defs.specs.declared.fault.TableName.{TableName}
+use Rattle.conf_defs.specs.declared.fault.TableName.TheVariants.{Top, Schedule, Feed}
+use Rattle.conf_defs.specs.declared.rule.Key.{Key}
+use Rattle.conf_defs.specs.declared.rule.Key.TheVariants.{Readers, Listen, Connections, Schedules, Feeds, ScheduleName, Folder, Zone, First, Days, Prefix, FeedName, FeedSchedule, Kind, Place}
+use Rattle.conf_defs.specs.declared.rule.Holds.{Holds}
+use Rattle.conf_defs.specs.declared.rule.Holds.TheVariants.{Number, Date, AnyText, ShortText, NewSchedule, NewFeed, KnownSchedule, Port, Tables}
 
 -- what stands for a key that is absent
 pub data Default : Type 0 where

@@ -1,0 +1,26 @@
+-- What the views of feeds say, as the combined feed takes it.
+use Rattle.std.specs.Prelude.{ℕ, ◌==◌, if◌then◌else◌, List, [], map, max}
+use Rattle.std.specs.Arc.{arc_value}
+use Rattle.std.specs.declared.alloc.Global.{Global}
+use Rattle.std.specs.declared.sync.Arc.{Arc}
+use Rattle.rt_types.specs.declared.message.Entity.{Entity}
+use Rattle.sched_types.specs.declared.plans.NamedFeed.{NamedFeed}
+use Rattle.board_defs.specs.Feed.{feeds_of, combined_entities}
+use Rattle.board_defs.specs.Fold.{FeedFold}
+use Rattle.board_defs.specs.Views.{FeedKept}
+
+-- what each feed says
+abbrev pub told : List FeedKept → List FeedFold
+told kept = map (λ feed. feed.fold) kept
+
+-- the feeds of a schedule with what each says
+abbrev pub told_of : ℕ → List NamedFeed → List FeedKept → List (NamedFeed × FeedFold)
+told_of plan feeds kept = feeds_of plan feeds (told kept)
+
+-- the later stamp, where the feed is one of the schedule
+abbrev pub later_of : ℕ → ℕ → NamedFeed → FeedFold → ℕ
+later_of plan newest feed fold = if feed.plan == plan then max newest fold.stamp else newest
+
+-- what the feed adds to the combined feed of the schedule
+abbrev pub added_of : List ℕ → ℕ → NamedFeed → FeedFold → List Entity
+added_of prefix plan feed fold = if feed.plan == plan then combined_entities prefix (feed, fold) else []

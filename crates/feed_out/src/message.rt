@@ -1,0 +1,84 @@
+//! The message, and its bytes.
+
+ghost use Rattle.std.specs.Prelude.{◌≡◌, ◌<◌, List, length, map, IfOk};
+ghost use Rattle.std.specs.Arc.{arc_value};
+ghost use Rattle.feed_defs.specs.declared.history.Entry.{Entry};
+ghost use Rattle.board_defs.specs.Feed.{newest_of, prefix_of, feed_message, combined_feed};
+ghost use Rattle.board_defs.specs.Fold.{fold_of};
+ghost use Rattle.board_defs.specs.Views.{StandsFor, folds_of};
+ghost use Rattle.feed_out.specs.Feeds.{told_of, later_of};
+
+use crate::NoMemory;
+use crate::entities::entities_of;
+use board_core::HubView;
+use feed_view::FeedView;
+use feed_write::write_message;
+use rt_types::{Bytes, Entities, FeedMessage, Header, Incrementality, Text};
+use sched_types::NamedFeed;
+use std::alloc::Global;
+use std::sync::Arc;
+
+/// The bytes of the combined feed of the schedule of that number (GTFS Realtime 2.0, FeedMessage), of what the
+/// hub's feeds hold; or want of memory.
+pub fn combined(alloc: Global, view: &HubView, plan: u32) -> Result<Vec<u8>, NoMemory>
+    requires { plan < length view.now.plans.plans }
+    ensures feed { IfOk result (λ bytes. bytes.items ≡ combined_feed view.now.plans plan (folds_of view.now)) }
+    ensures stands { (h : List Entry) → StandsFor h view.now → IfOk result (λ bytes. bytes.items
+        ≡ combined_feed view.now.plans plan (fold_of (length view.now.plans.feeds) h)) }
+{
+    view.sound();
+    let plans = view.plans();
+    let prefix = plans.plans()[plan as usize].prefix.as_str();
+    let message = message_of(alloc, prefix, plan, plans.feeds(), view.feeds())?;
+    let mut bytes = Vec::new(alloc);
+    write_message(&message, &mut bytes)?;
+    Ok(bytes)
+}
+
+/// The whole data set of the schedule's feeds, of which the views are given.
+fn message_of(
+    alloc: Global,
+    prefix: &str,
+    plan: u32,
+    feeds: &[NamedFeed],
+    views: &[Arc<FeedView>],
+) -> Result<FeedMessage, NoMemory>
+    requires { length views.now ≡ length feeds.now }
+    ensures { IfOk result (λ message. message
+        ≡ feed_message prefix.now (told_of plan feeds.now (map arc_value views.now))) }
+{
+    let entities = entities_of(alloc, prefix, plan, feeds, views)?;
+    Ok(FeedMessage {
+        header: Header {
+            version: Text::new(alloc, "2.0")?,
+            incrementality: Some(Incrementality::FullDataset),
+            timestamp: Some(newest(plan, feeds, views)),
+            unknown: Bytes::new(alloc, b"")?,
+        },
+        entity: Entities::new(entities),
+        unknown: Bytes::new(alloc, b"")?,
+    })
+}
+
+/// The greatest last stamp of the schedule's feeds, 0 if it has none.
+fn newest(plan: u32, feeds: &[NamedFeed], views: &[Arc<FeedView>]) -> u64
+    requires { length views.now ≡ length feeds.now }
+    ensures { result ≡ newest_of (told_of plan feeds.now (map arc_value views.now)) }
+{
+    let mut newest = 0;
+    for (i, feed) in feeds.iter().enumerate() {
+        newest = later(newest, plan, feed, &views[i]);
+    }
+    newest
+}
+
+/// The later of the stamp and the feed's last one, where the feed is one of the schedule.
+fn later(newest: u64, plan: u32, feed: &NamedFeed, view: &FeedView) -> u64
+    ensures { result ≡ later_of plan newest feed.now view.now.fold }
+{
+    if feed.plan == plan {
+        newest.max(view.stamp())
+    } else {
+        newest
+    }
+}

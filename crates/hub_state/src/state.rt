@@ -1,0 +1,139 @@
+//! The state, and its step.
+
+ghost use Rattle.std.specs.Prelude.{◌≡◌, ◌<◌, List, [], ◌∷◌, ◌++◌, length, IfOk, IsTrue};
+ghost use Rattle.std.specs.Arc.{arc_value};
+ghost use Rattle.feed_defs.specs.declared.history.Entry.{Entry};
+ghost use Rattle.feed_defs.specs.History.{stamp_of};
+ghost use Rattle.text_defs.specs.Moments.{is_stamp};
+ghost use Rattle.board_defs.specs.Views.{StandsFor, feed_at, feed_after, hub_first, hub_after};
+
+use crate::NoMemory;
+use board_core::HubView;
+use delay_rule::Steps;
+use feed_view::FeedView;
+use rt_types::FeedMessage;
+use sched_types::{Plan, Plans};
+use std::alloc::Global;
+use std::marker::{Brand, Model};
+use std::sync::Arc;
+use std::sync::ledger::{Blank, Ledger};
+
+/// The state of a hub. A contract sees it as the `HubKept` of its view.
+#[derive(Drop)]
+pub struct HubCore {
+    newest: Arc<HubView>,
+}
+
+impl Model for HubCore {
+    ghost use Rattle.board_defs.specs.Views.{HubKept};
+
+    ghost Value = { HubKept };
+
+    ghost view = { λ core. core.newest.value };
+}
+
+impl HubCore {
+    /// A hub with those timetables and feeds that accepted nothing; or want of memory.
+    pub fn new(alloc: Global, plans: Arc<Plans>) -> Result<HubCore, NoMemory>
+        ensures first { IfOk result (λ core. core ≡ hub_first (arc_value plans)) }
+        ensures stands { IfOk result (λ core. StandsFor [] core) }
+    {
+        let first = HubView::first(alloc, plans)?;
+        Ok(HubCore {
+            newest: Arc::new(alloc, first)?,
+        })
+    }
+
+    /// The view after one message more of the feed of that number, whose stamp is a moment behind that feed's
+    /// last one; or want of memory. The state stays as it is.
+    pub fn prepare(
+        &self,
+        alloc: Global,
+        feed: u32,
+        message: FeedMessage,
+    ) -> Result<Arc<HubView>, NoMemory>
+        requires feed { feed < length self.now.plans.feeds }
+        requires moment { IsTrue (is_stamp (stamp_of message)) }
+        requires newer { (feed_at self.now feed).fold.stamp < stamp_of message }
+        ensures after { IfOk result (λ next. arc_value next ≡ hub_after feed message self.now) }
+        ensures stands { (h : List Entry) → StandsFor h self.now → IfOk result (λ next.
+            StandsFor (h ++ record { feed = feed; message = message } ∷ []) (arc_value next)) }
+    {
+        let next = next_view(alloc, &self.newest, feed, message)?;
+        Ok(Arc::new(alloc, next)?)
+    }
+
+    /// Takes the view as the newest one. It takes no memory.
+    pub fn commit(&mut self, view: Arc<HubView>)
+        ensures { self.new ≡ arc_value view }
+    {
+        self.newest = view;
+    }
+
+    /// The newest view.
+    pub fn view(&self) -> &Arc<HubView>
+        ensures { arc_value result.now ≡ self.now }
+    {
+        &self.newest
+    }
+}
+
+/// The view after one message more of the feed.
+fn next_view(
+    alloc: Global,
+    view: &HubView,
+    feed: u32,
+    message: FeedMessage,
+) -> Result<HubView, NoMemory>
+    requires feed { feed < length view.now.plans.feeds }
+    requires moment { IsTrue (is_stamp (stamp_of message)) }
+    requires newer { (feed_at view.now feed).fold.stamp < stamp_of message }
+    ensures { IfOk result (λ next. next ≡ hub_after feed message view.now) }
+{
+    view.sound();
+    let plan = plan_of(view.plans(), feed);
+    let next = feed_after(alloc, plan, &view.feeds()[feed as usize], message)?;
+    view.with_feed(alloc, feed, next)
+}
+
+/// The timetable of the feed of that number.
+fn plan_of(plans: &Plans, feed: u32) -> &Plan
+    requires { feed < length plans.now.feeds }
+{
+    plans.sound();
+    let plan = plans.feeds()[feed as usize].plan;
+    &plans.plans()[plan as usize].plan
+}
+
+/// The view of a feed after one message more.
+fn feed_after(
+    alloc: Global,
+    plan: &Plan,
+    old: &FeedView,
+    message: FeedMessage,
+) -> Result<FeedView, NoMemory>
+    requires moment { IsTrue (is_stamp (stamp_of message)) }
+    requires newer { old.now.fold.stamp < stamp_of message }
+    ensures { IfOk result (λ next. next ≡ feed_after message old.now) }
+{
+    counted::<Brand>(alloc, plan, old, message, Blank::new(1))
+}
+
+/// The same, with a count of steps of its own.
+fn counted<L: Ledger>(
+    alloc: Global,
+    plan: &Plan,
+    old: &FeedView,
+    message: FeedMessage,
+    blank: Blank,
+) -> Result<FeedView, NoMemory>
+    requires moment { IsTrue (is_stamp (stamp_of message)) }
+    requires newer { old.now.fold.stamp < stamp_of message }
+    requires name { blank.name ≡ L.name }
+    requires parts { blank.parts ≡ L.parts }
+    requires some { 0 < blank.parts }
+    ensures { IfOk result (λ next. next ≡ feed_after message old.now) }
+{
+    let mut steps = Steps::<L>::new(blank);
+    FeedView::next(alloc, plan, old, message, &mut steps)
+}
