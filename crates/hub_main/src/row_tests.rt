@@ -5,6 +5,7 @@ use std::alloc::Global;
 use std::test::Fail;
 
 // What a script offers to the feed a, and what it prints together with the combined feed.
+#[derive(Drop)]
 struct Row {
     messages: &'static [&'static [u8]],
     told: &'static [u8],
