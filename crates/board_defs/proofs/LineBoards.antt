@@ -4,11 +4,10 @@ use Rattle.std.specs.Fmt.{digits}
 use Rattle.std.specs.List.{list_any}
 use Rattle.rt_types.specs.declared.enums.StopRelation.TheVariants.{Skipped, NoData}
 use Rattle.rt_types.specs.declared.trip_update.StopUpdate.{StopUpdate}
-use Rattle.text_defs.specs.Dates.{is_day, date_plus, next_day}
+use Rattle.text_defs.specs.Dates.{is_day, date_plus, next_day, date_in}
 use Rattle.delay_defs.specs.Delays.{states}
 use Rattle.delay_defs.specs.Line.{line}
 use Rattle.match_defs.specs.Matching.{match_of, by_near}
-use Rattle.match_defs.specs.Texts.{date_of}
 use Rattle.board_defs.specs.declared.row.RowState.{RowState}
 use Rattle.board_defs.specs.declared.row.RowState.TheVariants as state
 use Rattle.board_defs.specs.Choice.{Update, chosen}
@@ -42,11 +41,11 @@ goes_on : told_of (1 ∷ 6 ∷ 8 ∷ 9 ∷ []) (stop_update 3 (late 300) None �
     ∷ (8, state.Live, Some (pos 60), pos 1743314940)
     ∷ (9, state.Scheduled, None, pos 1743314940)
     ∷ []
-unfolding chosen match_of by_near date_of is_day date_plus next_day states run_rows digits
+unfolding chosen match_of by_near date_in is_day date_plus next_day states run_rows digits
 goes_on = refl
 
 -- a skipped place passes the delay on
 skipped : told_of (4 ∷ 5 ∷ []) (stop_update 3 (late 300) None ∷ stop_update 5 None (Some Skipped) ∷ stop_update 8 (late 60) None ∷ [])
     ≡ (4, state.Skipped, None, pos 1743314640) ∷ (5, state.Live, Some (pos 300), pos 1743315000) ∷ []
-unfolding chosen match_of by_near date_of is_day date_plus next_day states run_rows digits
+unfolding chosen match_of by_near date_in is_day date_plus next_day states run_rows digits
 skipped = refl

@@ -13,7 +13,9 @@ use Rattle.match_defs.specs.declared.found.Found.TheVariants as found
 use Rattle.match_defs.specs.declared.found.Near.{Near}
 use Rattle.match_defs.specs.declared.found.Why.{Why}
 use Rattle.match_defs.specs.declared.found.Why.TheVariants as why
-use Rattle.match_defs.specs.Texts.{text_given, date_of, time_of}
+use Rattle.match_defs.specs.Texts.{text_given}
+use Rattle.text_defs.specs.Dates.{date_in}
+use Rattle.text_defs.specs.Times.{time_in}
 
 -- a rule that applies decides, and else the later ones
 abbrev pub first_rule : Option Found → Found → Found
@@ -40,7 +42,7 @@ unless_date (Some date) = None
 
 abbrev pub rule_2_start_date : Option (List ℕ) → Option Found
 rule_2_start_date None = None
-rule_2_start_date (Some text) = unless_date (date_of text)
+rule_2_start_date (Some text) = unless_date (date_in text)
 
 -- 3. An ADDED trip is known by its trip_id.
 abbrev pub added_trip : Option (List ℕ) → Option Found
@@ -154,7 +156,8 @@ at_time t route direction date None = found.NoMatch why.BadText
 at_time t route direction date (Some departure) = on_day t route direction departure (day_with_date t date)
 
 abbrev pub rule_6_route_and_time : Timetable → Option (List ℕ) → Option ℕ → Option ℕ → Option (List ℕ) → Found
-rule_6_route_and_time t (Some route) (Some direction) (Some date) (Some time) = at_time t route direction date (time_of time)
+rule_6_route_and_time t (Some route) (Some direction) (Some date) (Some time) =
+    at_time t route direction date (time_in time)
 rule_6_route_and_time t _ _ _ _ = found.NoMatch why.NoTrip
 
 -- an absent relation is SCHEDULED
@@ -163,7 +166,7 @@ relation_of trip = unwrap_or trip.relation relation.Scheduled
 
 -- the date that a start_date writes, if it is given and writes one
 abbrev pub start_day : TripRef → Option ℕ
-start_day trip = option_and_then date_of (text_given trip.start_date)
+start_day trip = option_and_then date_in (text_given trip.start_date)
 
 -- what a trip descriptor is about at an instant
 unfoldable pub match_of : Timetable → TripRef → ℕ → Found

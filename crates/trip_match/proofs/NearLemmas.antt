@@ -57,7 +57,7 @@ module _ (base instant : ℤ) (small : IsSmall base) (positive : pos 0 ≤ℤ in
   -- the gap of a run, by its first and its last place
   pub near_is : (t : Timetable) (run : Run) (places : List Place) (none : Place) (r : ℤ) → places ≡ places_of t run.trip → 1 < length (places_of t run.trip) → slice_get t.bases run.day ≡ Some base → SFits w64 r
       → r ≡ seconds_outside (wrapped base +ℤ pos (get_or places 0 none).departure) (wrapped base +ℤ pos (get_or places (length places - 1) none).arrival) (wrapped instant)
-      → let near : Near = record { day = run.day; seconds_outside = wrapped r } in near ≡ near_at t run.trip instant run.day
+      → let near : Near = record { day = run.day; gap = wrapped r } in near ≡ near_at t run.trip instant run.day
   near_is t run places none r lists many bases fits told =
       let own = places_of t run.trip in
       let first : slice_get own 0 ≡ Some (get_or own 0 none) = slice_get-get_or own 0 none (omega arith) in
@@ -67,7 +67,7 @@ module _ (base instant : ℤ) (small : IsSmall base) (positive : pos 0 ≤ℤ in
       ∙ ap (λ b. seconds_outside (b +ℤ pos (get_or places 0 none).departure) (b +ℤ pos (get_or places (length places - 1) none).arrival) (wrapped instant)) (to_z-of_z w64 base base_fits)
       ∙ ap (seconds_outside (base +ℤ pos (get_or places 0 none).departure) (base +ℤ pos (get_or places (length places - 1) none).arrival)) (to_z-of_z w64 instant instant_fits)
       ∙ ap (λ (xs : List Place). seconds_outside (base +ℤ pos (get_or xs 0 none).departure) (base +ℤ pos (get_or xs (length xs - 1) none).arrival) instant) lists in
-      rw (first, last, bases) (ap (λ g. record { day = run.day; seconds_outside = g }) value)
+      rw (first, last, bases) (ap (λ g. record { day = run.day; gap = g }) value)
 
 -- ---- one day more
 

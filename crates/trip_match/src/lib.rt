@@ -9,13 +9,13 @@
 //! `rt_types` for trip descriptors.
 #![tactic(auto)]
 
+mod descriptor;
 mod ids;
 mod matching;
 mod near;
 mod routes;
 #[cfg(test)]
 mod tests;
-mod texts;
 
 pub use match_defs::{Found, Why};
 pub use matching::find;

@@ -5,12 +5,13 @@ ghost use Rattle.match_defs.specs.Matching.{first_rule, match_of, no_match, rule
 ghost use Rattle.match_defs.specs.Texts as text;
 ghost use Rattle.trip_match.specs.Reading.{IsRead};
 
+use crate::descriptor::given;
 use crate::ids::by_id;
 use crate::routes::by_departure;
-use crate::texts::{date_of, given};
 use match_defs::{Found, Why};
 use rt_types::{TripRef, TripRelation};
 use sched_types::Plan;
+use texts::read_date;
 
 /// Whether trips of that relation are about no run of a timetable.
 fn has_no_run(relation: TripRelation) -> bool
@@ -33,7 +34,7 @@ fn start_day(trip: &TripRef) -> Result<Option<u32>, Why>
     ensures { IsRead trip.now result }
 {
     match given(&trip.start_date) {
-        Some(date) => match date_of(date) {
+        Some(date) => match read_date(date.as_bytes()) {
             Some(date) => Ok(Some(date)),
             None => Err(Why::BadText),
         },

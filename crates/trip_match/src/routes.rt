@@ -4,11 +4,13 @@ ghost use Rattle.sched_types.specs.Timetable.{day_with_date};
 ghost use Rattle.match_defs.specs.Matching as rule;
 ghost use Rattle.match_defs.specs.Matching.{at_time, on_day, rule_6_route_and_time, trips_running};
 ghost use Rattle.match_defs.specs.Texts as text;
+ghost use Rattle.text_defs.specs.Times.{time_in};
 
-use crate::texts::{given, time_of};
+use crate::descriptor::given;
 use match_defs::{Found, Why};
 use rt_types::TripRef;
 use sched_types::{Plan, Run};
+use texts::read_time;
 
 /// The run on that day of the one of these trips that runs then.
 fn only(plan: &Plan, trips: &[u32], day: u32) -> Found
@@ -44,9 +46,9 @@ fn departing_on(plan: &Plan, route: &str, direction: u32, date: u32, departure: 
 
 /// The run of that route and direction that first departs on that date at the time that the text writes.
 fn departing_at(plan: &Plan, route: &str, direction: u32, date: u32, time: &str) -> Found
-    ensures { result ≡ at_time plan.now route.now direction date (text.time_of time.now) }
+    ensures { result ≡ at_time plan.now route.now direction date (time_in time.now) }
 {
-    match time_of(time) {
+    match read_time(time.as_bytes()) {
         Some(departure) => departing_on(plan, route, direction, date, departure),
         None => Found::NoMatch(Why::BadText),
     }
