@@ -8,9 +8,10 @@ ghost use Rattle.delay_rule.specs.Pass.{told_by};
 use delay_defs::StopState;
 use rt_types::{Event, StopRelation, StopUpdate};
 use sched_types::Place;
+use texts::LAST_MOMENT;
 
-/// The last second of the year 9999, in seconds since 1970.
-const LAST_INSTANT: i64 = 253_402_300_799;
+// The last moment, as a time of an event.
+const LAST_INSTANT: i64 = LAST_MOMENT as i64;
 
 /// Whether a time counts: from the first second of 1970 on, up to the end of the year 9999.
 fn is_instant(time: i64) -> bool

@@ -1,6 +1,6 @@
 -- The timetables and the feeds of one hub.
-use Rattle.std.specs.Prelude.{◌≡◌, ℕ, ◌<◌, ◌≤◌, Bool, ◌&&◌, ◌||◌, ◌==◌, nat_le, Some, List, length, slice_get, IsTrue}
-use Rattle.std.specs.List.{list_all}
+use Rattle.std.specs.Prelude.{◌≡◌, ℕ, ◌<◌, ◌≤◌, Some, List, length, slice_get, IsTrue}
+use Rattle.text_defs.specs.Names.{is_name}
 use Rattle.sched_types.specs.declared.plans.NamedPlan.{NamedPlan}
 use Rattle.sched_types.specs.declared.plans.NamedFeed.{NamedFeed}
 
@@ -8,14 +8,6 @@ use Rattle.sched_types.specs.declared.plans.NamedFeed.{NamedFeed}
 pub record Schedules : Type 0 where
   pub plans : List NamedPlan
   pub feeds : List NamedFeed
-
--- a to z, 0 to 9 or _
-abbrev pub is_name_byte : ℕ → Bool
-is_name_byte c = (nat_le 97 c && nat_le c 122) || (nat_le 48 c && nat_le c 57) || (c == 95)
-
--- 1 to 32 of a to z, 0 to 9 and _
-abbrev pub is_name : List ℕ → Bool
-is_name bytes = nat_le 1 (length bytes) && nat_le (length bytes) 32 && list_all is_name_byte bytes
 
 -- up to 8 timetables and up to 64 feeds of these, with names of that form, no two of which are one
 pub record AreSchedules (s : Schedules) : Type 0 where
