@@ -1,6 +1,6 @@
 -- Visits that are sorted by their trips are those of the definitions, trip by trip.
-use Rattle.std.proofs.Common.{◌≡◌, ℕ, zero, suc, ◌+◌, ◌<◌, ◌≤◌, Bool, true, false, ◌&&◌, ◌==◌, cond, List, [], ◌∷◌, length, map, filter, find, refl, sym, ap, ◌∙◌, subst, arith, inl, inr}
-use Rattle.std.specs.Prelude.{slice_get, Option, Some, None, MatchBool, IsPermutation}
+use Rattle.std.proofs.Common.{◌≡◌, ℕ, ◌<◌, ◌≤◌, Bool, true, false, ◌&&◌, ◌==◌, cond, List, [], ◌∷◌, length, filter, find, refl, sym, ap, ◌∙◌, subst, arith, inl, inr}
+use Rattle.std.specs.Prelude.{slice_get, Some, None, IsPermutation}
 use Rattle.std.specs.Bool.{OnTrue}
 use Rattle.std.specs.Ordering.{nat_cmp, eq_by_cmp}
 use Rattle.std.specs.declared.cmp.Ordering.TheVariants.{Less}
@@ -13,7 +13,7 @@ use Rattle.std.proofs.lemmas.Option.{slice_get_within}
 use Rattle.load_defs.specs.Numbers.{rows_by_key}
 use Rattle.load_defs.proofs.Listing.{Rises, listed-found}
 use Rattle.sched_load.specs.declared.visits.Visit.{Visit}
-use Rattle.sched_load.specs.Visits.{AreApart, AreArranged, IsSortedStably, IsSortedUnless, Pairs, RisesByTrip, has_twin, is_twin_visit}
+use Rattle.sched_load.specs.Visits.{AreApart, AreArranged, IsSortedStably, IsSortedUnless, Pairs, RisesByTrip, is_twin_visit}
 use Rattle.sched_load.proofs.PairLemmas.{filter_swap, filter_twice, find_first, first_in, kept_pairs, none_passes, one_kept, pairs_rise, pairs_weaker, true_false, two_kept}
 
 abbrev pub own_of : ℕ → List Visit → List Visit

@@ -1,5 +1,5 @@
 -- Steps that may fail, one after another.
-use Rattle.std.proofs.Common.{◌≡◌, ℕ, ◌+◌, ◌≤◌, List, refl, sym, ap, ◌∙◌, subst, arith}
+use Rattle.std.proofs.Common.{◌≡◌, ℕ, ◌≤◌, List, refl, sym, ap, subst, arith}
 use Rattle.std.specs.Prelude.{Option, Some, None, IfSome, Result, Ok, Err, IsErrAnd, ⊤}
 use Rattle.answer_defs.specs.Steps.{◌>>=◌}
 use Rattle.gtfs_rows.specs.declared.fault.RowFault.TheVariants as rows
@@ -20,7 +20,7 @@ use Rattle.gtfs_rows.specs.declared.rows.StopTimeRow.{StopTimeRow}
 use Rattle.sched_load.specs.declared.visits.Visit.{Visit}
 use Rattle.sched_load.specs.Arranged.{ReadsArranged}
 use Rattle.sched_load.specs.Tables.{ReadsTables}
-use Rattle.sched_load.specs.Answer.{Reads, Loads, Refuses, RefusesAlone, HasLoadCause, HasFaultCause, IsPlainAnswer, IsPlain}
+use Rattle.sched_load.specs.Answer.{Reads, Loads, Refuses, RefusesAlone, HasLoadCause, HasFaultCause, IsPlain}
 
 -- what is at fault in a step is at fault in the whole
 refuses_whole : {A B : Type 0} (one : Result A LoadFault) (whole : Result B LoadFault) (e : LoadFault) → ((f : LoadFault) → one ≡ Err f → whole ≡ Err f) → Refuses one e → Refuses whole e

@@ -1,6 +1,6 @@
 -- What the columns of a file say of each row.
-use Rattle.std.proofs.Common.{◌≡◌, ℕ, ◌≤◌, Bool, true, false, ◌&&◌, List, [], ◌∷◌, refl, sym, ap, subst, arith, nat_le}
-use Rattle.std.specs.Prelude.{Option, Some, None, ok_or, option_and_then, option_map, Result, Ok, Err, if◌then◌else◌}
+use Rattle.std.proofs.Common.{◌≡◌, ℕ, ◌≤◌, Bool, true, false, ◌&&◌, List, [], ◌∷◌, refl, ap, subst, arith, nat_le}
+use Rattle.std.specs.Prelude.{Option, Some, None, ok_or, option_and_then, option_map, Ok, Err, if◌then◌else◌}
 use Rattle.std.specs.Str.{is_utf8}
 use Rattle.std.proofs.lemmas.Bool.Decides.{nat_tests}
 use Rattle.answer_defs.specs.Steps.{◌>>=◌}
@@ -10,13 +10,7 @@ use Rattle.text_defs.specs.Times.{time_in}
 use Rattle.gtfs_rows.specs.Values.{id_text, any_text, number, or_empty, date}
 use Rattle.gtfs_rows.specs.declared.column.Column.{Column}
 use Rattle.gtfs_rows.specs.declared.column.Column.TheVariants as column
-use Rattle.gtfs_rows.specs.declared.fault.RowFault.{RowFault}
 use Rattle.gtfs_rows.specs.declared.fault.RowFault.TheVariants as fault
-use Rattle.gtfs_rows.specs.declared.rows.ExceptionRow.{ExceptionRow}
-use Rattle.gtfs_rows.specs.declared.rows.CalendarRow.{CalendarRow}
-use Rattle.gtfs_rows.specs.declared.rows.RouteRow.{RouteRow}
-use Rattle.gtfs_rows.specs.declared.rows.TripRow.{TripRow}
-use Rattle.gtfs_rows.specs.declared.rows.StopTimeRow.{StopTimeRow}
 use Rattle.load_defs.specs.Services.{flags_of}
 use Rattle.sched_load.proofs.Laws.{AreWithin, and_then_ok}
 

@@ -1,6 +1,6 @@
 -- The days of a window, one after another.
 use Rattle.std.proofs.Common.{◌≡◌, ℕ, zero, suc, ◌+◌, ◌<◌, ◌≤◌, Bool, true, false, cond, List, [], ◌∷◌, ◌++◌, length, refl, sym, ap, ◌∙◌, subst, map, arith, add-one, nat_cmp, inl, inr, ◌⊎◌}
-use Rattle.std.specs.Prelude.{ℤ, slice_get, zip, Option, Some, None, IsTrue, filter, if◌then◌else◌}
+use Rattle.std.specs.Prelude.{ℤ, slice_get, zip, Option, Some, filter, if◌then◌else◌}
 use Rattle.std.specs.List.{range_with_len}
 use Rattle.std.specs.List.{find as find_in}
 use Rattle.load_defs.specs.Services.{flags_of}

@@ -1,10 +1,10 @@
 -- The rows of stop_times.txt, as they are gathered one after another.
-use Rattle.std.proofs.Common.{◌≡◌, ℕ, zero, suc, ◌+◌, ◌<◌, ◌≤◌, List, [], ◌∷◌, ◌++◌, length, map, take, refl, sym, ap, ◌∙◌, subst, arith}
-use Rattle.std.specs.Prelude.{slice_get, Option, Some, None, Result, Ok, Err, Vec}
+use Rattle.std.proofs.Common.{◌≡◌, ℕ, zero, suc, ◌<◌, List, [], ◌∷◌, ◌++◌, length, map, take, refl, sym, ap, ◌∙◌, subst, arith}
+use Rattle.std.specs.Prelude.{slice_get, Some, None, Result, Ok, Err, Vec}
 use Rattle.std.specs.declared.alloc.Global.{Global}
 use Rattle.std.proofs.Math.Seq.{take-length}
 use Rattle.std.proofs.lemmas.List.{append-nil, append_assoc, length-map, map-append}
-use Rattle.std.proofs.lemmas.Option.{none-some as none_some, same_Some, slice_get_within}
+use Rattle.std.proofs.lemmas.Option.{none-some as none_some, same_Some}
 use Rattle.answer_defs.specs.Defined.{IsCause}
 use Rattle.answer_defs.specs.Steps.{◌>>=◌}
 use Rattle.gtfs_rows.proofs.FileLemmas.{answers-fault}
@@ -16,9 +16,8 @@ use Rattle.gtfs_rows.specs.declared.rows.TripRow.{TripRow}
 use Rattle.gtfs_rows.specs.declared.rows.StopTimeRow.{StopTimeRow}
 use Rattle.load_defs.specs.References.{unknown_in_stop_time}
 use Rattle.sched_load.specs.declared.visits.Visit.{Visit}
-use Rattle.sched_load.specs.declared.visits.Gathered.{Gathered}
 use Rattle.sched_load.specs.Listed.{visit_of}
-use Rattle.sched_load.specs.Visits.{AreGathered, Gathers, Skips}
+use Rattle.sched_load.specs.Visits.{Gathers, Skips}
 
 -- rows behind others; a fault stays
 abbrev pub behind : List StopTimeRow → Result (List StopTimeRow) RowFault → Result (List StopTimeRow) RowFault

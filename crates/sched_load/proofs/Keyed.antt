@@ -1,10 +1,9 @@
 -- Rows by rising keys, as `keyed` and `listed` list them: one row more, rows made of others, and what is found.
 use Rattle.std.proofs.Common.{◌≡◌, ℕ, zero, suc, ◌+◌, ◌<◌, ◌≤◌, Bool, true, false, ◌&&◌, ◌||◌, cond, List, [], ◌∷◌, ◌++◌, length, map, refl, sym, ap, subst, ◌∙◌, arith, T}
-use Rattle.std.specs.Prelude.{slice_get, find, bytes_eq, Option, Some, None, is_some, option_map}
-use Rattle.std.specs.Ordering.{is_eq, is_lt, eq_by_cmp, nat_cmp, ordering_reverse}
+use Rattle.std.specs.Prelude.{slice_get, find, Some, is_some}
+use Rattle.std.specs.Ordering.{is_lt, eq_by_cmp}
 use Rattle.std.specs.Cmp.{IsTotalOrder}
-use Rattle.std.specs.Cmp.Lexicographic.{slice_cmp}
-use Rattle.std.specs.List.{list_any, filter}
+use Rattle.std.specs.List.{list_any}
 use Rattle.std.specs.declared.cmp.Ordering.{Ordering}
 use Rattle.std.specs.declared.cmp.Ordering.TheVariants.{Less, Equal, Greater}
 use Rattle.std.specs.FinMap.Entries as entries
@@ -12,7 +11,7 @@ use Rattle.std.specs.FinMap.Entries.{put, by_order, below_all, is_sorted, is_sor
 use Rattle.load_defs.specs.Numbers.{rows_with_keys, rows_by_key}
 use Rattle.std.proofs.lemmas.List.{length-map}
 use Rattle.std.proofs.lemmas.Option.{none-some as none_some, same_Some}
-use Rattle.load_defs.proofs.Listing.{find_keyed, keyed_sorted, find_paired, paired, equal_is, less_equal, Rises}
+use Rattle.load_defs.proofs.Listing.{find_keyed, keyed_sorted, find_paired, paired, equal_is, Rises}
 
 first_of : (a b : Bool) → T (a && b) → T a
 first_of true b p = tt

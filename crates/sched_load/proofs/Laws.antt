@@ -1,18 +1,17 @@
 -- What is true of the rows of any file that was read.
-use Rattle.std.proofs.Common.{◌≡◌, ℕ, zero, suc, ◌+◌, ◌<◌, ◌≤◌, Bool, true, false, List, [], ◌∷◌, length, map, refl, sym, ap, ◌∙◌, subst, arith, nat_le}
+use Rattle.std.proofs.Common.{◌≡◌, ℕ, zero, suc, ◌+◌, ◌≤◌, Bool, true, false, List, [], ◌∷◌, length, map, refl, sym, ap, ◌∙◌, subst, arith, nat_le}
 use Rattle.std.specs.Prelude.{Option, Some, None, Result, Ok, Err, slice_get, if◌then◌else◌, nat_lt}
 use Rattle.std.specs.List.{enumerate_from}
 use Rattle.std.proofs.lemmas.Bool.Decides.{nat_tests}
 use Rattle.std.proofs.lemmas.Option.{none-some as none_some, same_Some}
 use Rattle.answer_defs.specs.Steps.{all_ok, ◌>>=◌}
 use Rattle.csv.specs.Reading.{records, default_config, strip_bom}
-use Rattle.gtfs_rows.specs.Files.{rows_of, rows_of_records, rows_under, rows_from, row_of, unless_missing, first_missing, cell_of}
-use Rattle.gtfs_rows.specs.Tables.{Columns, ◌⊕◌, table, cell_value, one_column}
+use Rattle.gtfs_rows.specs.Files.{rows_of, rows_of_records, rows_from, row_of, unless_missing, first_missing, cell_of}
+use Rattle.gtfs_rows.specs.Tables.{Columns}
 use Rattle.gtfs_rows.specs.declared.column.Column.{Column}
 use Rattle.gtfs_rows.specs.declared.fault.RowFault.{RowFault}
 use Rattle.gtfs_rows.specs.declared.fault.RowFault.TheVariants as fault
 use Rattle.load_defs.specs.declared.fault.File.{File}
-use Rattle.load_defs.specs.declared.fault.LoadFault.{LoadFault}
 use Rattle.load_defs.specs.declared.fault.LoadFault.TheVariants as load
 use Rattle.load_defs.specs.Files.{of_file, longest_file}
 use Rattle.sched_load.specs.Listed.{file_rows, most_rows}

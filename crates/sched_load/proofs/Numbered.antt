@@ -1,9 +1,9 @@
 -- Rows by their numbers, and the number of an id.
-use Rattle.std.proofs.Common.{◌≡◌, ℕ, zero, suc, ◌+◌, ◌<◌, ◌≤◌, Bool, true, false, cond, nat_lt, List, [], ◌∷◌, length, map, get_or, position, refl, sym, ap, subst, ◌∙◌, arith, inl, inr, ◌⊎◌}
+use Rattle.std.proofs.Common.{◌≡◌, ℕ, zero, suc, ◌+◌, ◌<◌, ◌≤◌, Bool, false, cond, nat_lt, List, [], ◌∷◌, length, get_or, position, refl, sym, ap, subst, ◌∙◌, arith, inl, inr, ◌⊎◌}
 use Rattle.std.specs.Prelude.{slice_get, find, bytes_eq, Option, Some, None, is_some, option_map}
 use Rattle.std.specs.Ordering.{is_eq, eq_by_cmp, nat_cmp, ordering_reverse}
 use Rattle.std.specs.Cmp.Lexicographic.{slice_cmp}
-use Rattle.std.specs.List.{list_any, position_or_len}
+use Rattle.std.specs.List.{position_or_len}
 use Rattle.std.specs.declared.cmp.Ordering.{Ordering}
 use Rattle.std.specs.declared.cmp.Ordering.TheVariants.{Less, Equal, Greater}
 use Rattle.std.specs.FinMap.{nat_cmp-IsAntisymmetric, slice_cmp-IsAntisymmetric}
@@ -16,7 +16,7 @@ use Rattle.std.proofs.lemmas.Map.Text.{is_eq-slice_cmp}
 use Rattle.std.proofs.lemmas.Option.{slice_get-map, slice_get_within, slice_get_past, none-some as none_some, same_Some, slice_get-get_or}
 use Rattle.sched_types.specs.Timetable.{RisesById, number_of}
 use Rattle.sched_types.proofs.Found.{position_present, position_absent}
-use Rattle.load_defs.specs.Numbers.{by_id, rows_by_key}
+use Rattle.load_defs.specs.Numbers.{by_id}
 use Rattle.load_defs.specs.References.{has_id}
 use Rattle.sched_load.specs.Listed.{IsOrder}
 use Rattle.sched_load.proofs.Keyed.{listed_rises, find_listed, any_found}

@@ -1,6 +1,6 @@
 -- The stops whose parent_station is a stop, one after another.
-use Rattle.std.proofs.Common.{◌≡◌, ℕ, ◌+◌, ◌≤◌, Bool, true, false, not, ◌&&◌, ◌||◌, List, [], length, refl, sym, ap, ◌∙◌}
-use Rattle.std.specs.Prelude.{slice_get, Option, Some, None, bytes_eq, Result, Err, Ok, if◌then◌else◌}
+use Rattle.std.proofs.Common.{◌≡◌, ℕ, ◌+◌, ◌≤◌, Bool, true, false, ◌||◌, List, [], length, ap, ◌∙◌}
+use Rattle.std.specs.Prelude.{slice_get, Some, None, bytes_eq, Err, Ok, if◌then◌else◌}
 use Rattle.answer_defs.specs.Steps.{unless}
 use Rattle.gtfs_rows.specs.declared.column.Column.TheVariants as column
 use Rattle.gtfs_rows.specs.declared.rows.StopRow.{StopRow}

@@ -1,6 +1,6 @@
 -- The parts of the plan are those of the timetable.
-use Rattle.std.proofs.Common.{◌≡◌, ℕ, zero, suc, ◌+◌, ◌<◌, ◌≤◌, Bool, true, false, ◌&&◌, cond, List, [], ◌∷◌, ◌++◌, length, map, refl, sym, ap, ◌∙◌, subst, arith, nat_cmp}
-use Rattle.std.specs.Prelude.{slice_get, Option, Some, None, option_map, unwrap_or, filter, find, zip, bytes_eq, Result, Ok, Err, if◌then◌else◌, ◌==◌}
+use Rattle.std.proofs.Common.{◌≡◌, ℕ, suc, ◌+◌, ◌≤◌, Bool, true, false, cond, List, [], ◌∷◌, length, map, refl, sym, ap, ◌∙◌, subst, arith, nat_cmp}
+use Rattle.std.specs.Prelude.{slice_get, Option, Some, None, option_map, unwrap_or, filter, find, zip, bytes_eq, if◌then◌else◌, ◌==◌}
 use Rattle.std.specs.List.{range_with_len}
 use Rattle.std.specs.Cmp.Lexicographic.{slice_cmp}
 use Rattle.std.specs.Ordering.{eq_by_cmp}
@@ -8,11 +8,10 @@ use Rattle.std.specs.FinMap.Entries.{find as find_at}
 use Rattle.std.specs.FinMap.{nat_cmp-IsAntisymmetric}
 use Rattle.std.proofs.lemmas.Cmp.{nat_cmp_total}
 use Rattle.std.proofs.lemmas.List.{length-map}
-use Rattle.std.proofs.lemmas.Option.{none-some as none_some, same_Some, slice_get-map}
+use Rattle.std.proofs.lemmas.Option.{none-some as none_some, slice_get-map}
 use Rattle.gtfs_rows.specs.declared.rows.AgencyRow.{AgencyRow}
 use Rattle.gtfs_rows.specs.declared.rows.CalendarRow.{CalendarRow}
 use Rattle.gtfs_rows.specs.declared.rows.ExceptionRow.{ExceptionRow}
-use Rattle.gtfs_rows.specs.declared.rows.RouteRow.{RouteRow}
 use Rattle.gtfs_rows.specs.declared.rows.StopTimeRow.{StopTimeRow}
 use Rattle.gtfs_rows.specs.declared.rows.TripRow.{TripRow}
 use Rattle.std.specs.Prelude.{ℤ}
@@ -29,14 +28,13 @@ use Rattle.service_day.specs.declared.services.Exception.{Exception}
 use Rattle.sched_types.specs.Timetable.{number_of}
 use Rattle.sched_types.proofs.TimetableLaws.{number_leads, own_number}
 use Rattle.load_defs.specs.declared.fault.File.TheVariants as file
-use Rattle.load_defs.specs.Numbers.{Dataset, agency_ids, agency_of, by_id, given_times, rows_with_keys, rows_by_key, timetable_of, place_of, places_with, route_of, route_rows, service_ids, stop_of, stop_rows, stop_times_of, trip_of, trip_rows}
+use Rattle.load_defs.specs.Numbers.{Dataset, agency_ids, agency_of, by_id, given_times, timetable_of, place_of, places_with, route_of, route_rows, service_ids, stop_of, stop_rows, stop_times_of, trip_of, trip_rows}
 use Rattle.load_defs.specs.Services.{active_days, calendar_of, exceptions_of, flags_of, is_active_by}
 use Rattle.load_defs.specs.Times.{Times, all_times}
 use Rattle.load_defs.proofs.Listing.{find_keyed}
 use Rattle.sched_load.specs.declared.visits.Visit.{Visit}
 use Rattle.sched_load.specs.Built.{AreSmall, ListsFit, agency_in, places_of_trip, route_in}
 use Rattle.sched_load.specs.Course.{FitsPlace, place_in, places_in}
-use Rattle.std.specs.Prelude.{slice_index_or}
 use Rattle.std.proofs.lemmas.Option.{get_or_from_slice_get, slice_get_within, slice_get-get_or}
 use Rattle.std.proofs.Common.{get_or}
 use Rattle.sched_load.specs.Days.{EachSmall, active_by, runs_by}
@@ -47,10 +45,10 @@ use Rattle.sched_load.specs.Tables.{IsConsistent}
 use Rattle.sched_load.proofs.BuildLemmas.{mapped_at}
 use Rattle.sched_load.proofs.ColumnLaws.{AtMost, pickup_types}
 use Rattle.sched_load.proofs.Grouping.{turned_eq}
-use Rattle.sched_load.proofs.Keyed.{keyed_short, listed_map, listed_short}
+use Rattle.sched_load.proofs.Keyed.{listed_map, listed_short}
 use Rattle.sched_load.proofs.Laws.{file_few, file_within}
 use Rattle.sched_load.proofs.Numbered.{ids_rise}
-use Rattle.sched_load.proofs.Sound.{Each, Fits, filter_each, keyed_each}
+use Rattle.sched_load.proofs.Sound.{Each, Fits}
 use Rattle.std.specs.Prelude.{All}
 use Rattle.std.proofs.lemmas.List.Sorted.{All-permutation, length_permutation}
 use Rattle.load_defs.specs.References.{unknown_in_stop_time}

@@ -1,16 +1,15 @@
 -- What a step's answer says of the whole.
-use Rattle.std.proofs.Common.{◌≡◌, ℕ, ◌≤◌, Bool, List, refl, sym, ap, ◌∙◌, arith}
-use Rattle.std.specs.Prelude.{Option, Some, None, IfSome, Result, Ok, Err, Vec, length, nat_lt, true, false, if◌then◌else◌, ⊤}
+use Rattle.std.proofs.Common.{◌≡◌, ℕ, ◌≤◌, Bool, List, ap, ◌∙◌, arith}
+use Rattle.std.specs.Prelude.{Option, Some, None, IfSome, Ok, Err, length, nat_lt, true, false, if◌then◌else◌}
 use Rattle.answer_defs.specs.Defined.{IsCause}
 use Rattle.gtfs_rows.specs.Files.{cause_of, rows_of}
 use Rattle.gtfs_rows.specs.Tables.{Columns}
 use Rattle.gtfs_rows.specs.declared.fault.RowFault.{RowFault}
 use Rattle.gtfs_rows.specs.declared.fault.RowFault.TheVariants as rows
 use Rattle.load_defs.specs.declared.fault.File.{File}
-use Rattle.load_defs.specs.declared.fault.LoadFault.{LoadFault}
 use Rattle.load_defs.specs.declared.fault.LoadFault.TheVariants as fault
-use Rattle.load_defs.specs.Files.{of_file, rows_within, longest_file}
-use Rattle.sched_load.specs.Answer.{Reads, Loads, Refuses, HasLoadCause, IsPlainAnswer, fault_of}
+use Rattle.load_defs.specs.Files.{of_file, longest_file}
+use Rattle.sched_load.specs.Answer.{Reads, fault_of}
 use Rattle.sched_load.specs.Listed.{file_rows}
 use Rattle.std.proofs.lemmas.Bool.Decides.{nat_tests}
 

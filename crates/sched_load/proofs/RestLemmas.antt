@@ -1,5 +1,5 @@
 -- The visits behind a place, as a slice has them.
-use Rattle.std.proofs.Common.{ℕ, ◌-◌, ◌≤◌, List, length, take, drop, subst, arith}
+use Rattle.std.proofs.Common.{ℕ, ◌-◌, List, length, take, drop, subst, arith}
 use Rattle.std.proofs.Common.{length-drop}
 use Rattle.sched_load.specs.declared.visits.Visit.{Visit}
 use Rattle.sched_load.specs.declared.visits.Stay.{Stay}

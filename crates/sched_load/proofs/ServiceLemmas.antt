@@ -1,5 +1,5 @@
 -- Services as they are gathered, and the rows of calendar_dates.txt, one after another.
-use Rattle.std.proofs.Common.{◌≡◌, ℕ, zero, suc, ◌+◌, ◌<◌, ◌≤◌, Bool, true, false, not, ◌&&◌, ◌||◌, List, [], ◌∷◌, ◌++◌, length, map, take, get_or, nat_eq, refl, sym, ap, ◌∙◌, subst, arith}
+use Rattle.std.proofs.Common.{◌≡◌, ℕ, zero, suc, ◌+◌, ◌<◌, Bool, true, false, not, ◌&&◌, ◌||◌, List, [], ◌∷◌, ◌++◌, length, map, take, get_or, nat_eq, refl, sym, ap, ◌∙◌, subst}
 use Rattle.std.specs.Prelude.{slice_get, Option, Some, None, is_some, bytes_eq, Result, Err, Ok, IfOk, Vec, option_map}
 use Rattle.std.specs.declared.alloc.AllocError.{AllocError}
 use Rattle.std.specs.declared.alloc.Global.{Global}
@@ -17,7 +17,7 @@ use Rattle.service_day.specs.declared.services.Exception.{Exception}
 use Rattle.sched_types.specs.Timetable.{RisesById, number_of}
 use Rattle.load_defs.specs.declared.fault.File.TheVariants as file
 use Rattle.load_defs.specs.declared.fault.LoadFault.TheVariants as fault
-use Rattle.load_defs.specs.Numbers.{by_id, rows_with_keys, rows_by_key}
+use Rattle.load_defs.specs.Numbers.{by_id, rows_with_keys}
 use Rattle.load_defs.specs.References.{refers_to_none, consistent_exceptions, row_at}
 use Rattle.load_defs.proofs.Listing.{paired}
 use Rattle.sched_load.specs.Groups.{exceptions_of, exception_of}

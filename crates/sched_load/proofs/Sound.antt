@@ -1,6 +1,6 @@
 -- The timetable of consistent rows whose times are in order is one.
-use Rattle.std.proofs.Common.{◌≡◌, ℕ, zero, suc, ◌+◌, ◌<◌, ◌≤◌, ◌^◌, Bool, true, false, ◌&&◌, ◌||◌, cond, nat_eq, List, [], ◌∷◌, ◌++◌, length, map, position, refl, sym, ap, ◌∙◌, subst, arith}
-use Rattle.std.specs.Prelude.{slice_get, Option, Some, None, is_some, option_map, unwrap_or, filter, zip, bytes_eq, Result, Ok, Err, if◌then◌else◌, sum_by, IsTrue, ◌==◌, nat_lt, nat_le, ℤ}
+use Rattle.std.proofs.Common.{◌≡◌, ℕ, zero, suc, ◌+◌, ◌<◌, ◌≤◌, ◌^◌, Bool, true, false, ◌&&◌, ◌||◌, cond, List, [], ◌∷◌, ◌++◌, length, map, refl, sym, ap, ◌∙◌, subst, arith}
+use Rattle.std.specs.Prelude.{slice_get, Option, Some, None, option_map, unwrap_or, filter, zip, bytes_eq, Ok, if◌then◌else◌, sum_by, IsTrue, ◌==◌, ℤ}
 use Rattle.std.specs.Ordering.{nat_cmp, is_eq}
 use Rattle.std.specs.Cmp.Lexicographic.{slice_cmp}
 use Rattle.std.specs.List.{list_any, enumerate_from, range_with_len, fold}
@@ -23,13 +23,12 @@ use Rattle.gtfs_rows.specs.declared.rows.TripRow.{TripRow}
 use Rattle.gtfs_rows.specs.declared.rows.StopTimeRow.{StopTimeRow}
 use Rattle.text_defs.specs.Dates.{is_day, date_plus}
 use Rattle.service_day.specs.Zone.{TzText, base_of}
-use Rattle.sched_types.specs.Timetable.{Timetable, IsTimetable, IsSmall, RisesById, number_of, places_of, days_of}
+use Rattle.sched_types.specs.Timetable.{IsTimetable, IsSmall, RisesById, number_of}
 use Rattle.sched_types.specs.declared.rows.Place.{Place}
 use Rattle.sched_types.proofs.TimetableLaws.{number_leads}
 use Rattle.load_defs.specs.declared.fault.File.{File}
 use Rattle.load_defs.specs.declared.fault.File.TheVariants as file
 use Rattle.load_defs.specs.declared.fault.LoadFault.{LoadFault}
-use Rattle.load_defs.specs.declared.fault.LoadFault.TheVariants as fault
 use Rattle.load_defs.specs.Loading.{times_fault, with_times}
 use Rattle.load_defs.specs.References.{consistent, first_fault, has_id, row_fault, unless_known, unknown_in_trip, unknown_in_stop_time}
 use Rattle.load_defs.specs.Numbers.{Dataset, agency_ids, agency_of, by_id, given_times, rows_with_keys, known_number, rows_by_key, timetable_of, place_of, places_with, route_of, route_rows, service_ids, stop_of, stop_rows, stop_times_of, trip_of, trip_rows}

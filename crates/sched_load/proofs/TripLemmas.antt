@@ -1,22 +1,16 @@
 -- The stop times of a trip, as they stand in the groups.
-use Rattle.std.proofs.Common.{◌≡◌, ℕ, zero, suc, ◌+◌, ◌<◌, ◌≤◌, Bool, true, false, List, [], ◌∷◌, length, map, get_or, refl, sym, ap, ◌∙◌, subst, arith}
-use Rattle.std.specs.Prelude.{slice_get, Option, Some, None, option_map, unwrap_or, filter, bytes_eq, Result, Ok, Err, if◌then◌else◌}
-use Rattle.std.specs.Ordering.{nat_cmp}
-use Rattle.std.specs.declared.alloc.Global.{Global}
-use Rattle.std.specs.declared.collections.BTreeMap.{BTreeMap}
-use Rattle.std.proofs.lemmas.Option.{none-some as none_some, same_Some, slice_get-map}
+use Rattle.std.proofs.Common.{◌≡◌, ℕ, ◌+◌, ◌≤◌, true, false, List, [], ◌∷◌, length, map, refl, ap, ◌∙◌}
+use Rattle.std.specs.Prelude.{slice_get, Option, Some, None, bytes_eq, Ok, Err, if◌then◌else◌}
 use Rattle.answer_defs.specs.Steps.{unless}
 use Rattle.gtfs_rows.specs.declared.rows.StopRow.{StopRow}
 use Rattle.gtfs_rows.specs.declared.rows.TripRow.{TripRow}
 use Rattle.gtfs_rows.specs.declared.rows.StopTimeRow.{StopTimeRow}
 use Rattle.sched_types.specs.Timetable.{number_of}
-use Rattle.sched_types.proofs.TimetableLaws.{number_leads}
 use Rattle.load_defs.specs.declared.fault.LoadFault.TheVariants as fault
 use Rattle.load_defs.specs.Loading.{times_fault, with_times}
-use Rattle.load_defs.specs.Numbers.{Dataset, by_id, given_times, rows_with_keys, rows_by_key, stop_times_of}
+use Rattle.load_defs.specs.Numbers.{Dataset, by_id, given_times, stop_times_of}
 use Rattle.load_defs.specs.References.{row_at}
-use Rattle.load_defs.specs.Times.{Times, are_times, times_of}
-use Rattle.sched_load.specs.declared.visits.Visit.{Visit}
+use Rattle.load_defs.specs.Times.{are_times, times_of}
 use Rattle.sched_load.specs.Course.{given_of}
 use Rattle.load_defs.specs.declared.fault.File.TheVariants as file
 use Rattle.load_defs.specs.References.{unknown_in_stop_time}
@@ -26,11 +20,9 @@ use Rattle.sched_load.specs.Tables.{AreRead}
 use Rattle.sched_load.proofs.Sound.{refers}
 use Rattle.sched_load.proofs.VisitLemmas.{same_visit}
 use Rattle.sched_load.proofs.Faults.{faults_from, fault_at, fault_behind, no_fault}
-use Rattle.sched_load.proofs.Keyed.{listed_map}
 use Rattle.sched_load.proofs.Numbered.{has_by_number}
 use Rattle.sched_load.proofs.ServiceLemmas.{any_at, some_of}
 use Rattle.sched_load.proofs.Grouping.{text_itself}
-use Rattle.sched_load.proofs.Places.{true_false}
 
 given_one : (a d : Option ℕ) → times_seen (stay_of a d) ≡ times_of a d
 given_one (Some a) (Some d) = refl

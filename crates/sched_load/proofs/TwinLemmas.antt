@@ -1,5 +1,5 @@
 -- Which visits have an earlier twin.
-use Rattle.std.proofs.Common.{◌≡◌, ℕ, zero, suc, ◌+◌, ◌*◌, ◌^◌, ◌<◌, ◌≤◌, Bool, true, false, not, ◌&&◌, ◌||◌, ◌==◌, cond, List, [], ◌∷◌, length, take, get_or, set, replicate, refl, sym, ap, ◌∙◌, subst, arith, inl, inr, ◌⊎◌}
+use Rattle.std.proofs.Common.{◌≡◌, ℕ, zero, suc, ◌+◌, ◌<◌, ◌≤◌, Bool, true, false, ◌&&◌, ◌||◌, ◌==◌, cond, List, [], ◌∷◌, length, take, get_or, set, refl, sym, ap, ◌∙◌, subst, arith, inl, inr, ◌⊎◌}
 use Rattle.std.specs.Prelude.{slice_get, Option, Some, None, is_some}
 use Rattle.std.specs.List.{list_any}
 use Rattle.std.specs.Ordering.{nat_cmp, eq_by_cmp}
@@ -20,8 +20,8 @@ use Rattle.std.specs.FinMap.Entries.{by_order}
 use Rattle.std.specs.declared.cmp.Ordering.{Ordering}
 use Rattle.std.specs.declared.cmp.Ordering.TheVariants.{Less, Equal, Greater}
 use Rattle.sched_load.specs.declared.visits.Visit.{Visit}
-use Rattle.sched_load.specs.Visits.{AreApart, FirstTwin, Pairs, RisesByTrip, has_twin, is_twin_visit, key_of}
-use Rattle.sched_load.proofs.PairLemmas.{any_false, none_passes, true_false}
+use Rattle.sched_load.specs.Visits.{AreApart, FirstTwin, RisesByTrip, has_twin, is_twin_visit, key_of}
+use Rattle.sched_load.proofs.PairLemmas.{any_false}
 
 -- one behind the greatest stop_sequence that each trip had so far
 pub record AreEnds (ends : List ℕ) (visits : List Visit) (n trips : ℕ) : Type 0 where

@@ -1,6 +1,6 @@
 -- The seven files of a folder, one after another.
 use Rattle.std.proofs.Common.{◌≡◌, ℕ, List, true, false, refl}
-use Rattle.std.specs.Prelude.{Option, Result, Ok, Err}
+use Rattle.std.specs.Prelude.{Result, Ok}
 use Rattle.answer_defs.specs.Steps.{◌>>=◌}
 use Rattle.hub_outside.specs.Files.{file_at}
 use Rattle.gtfs_rows.specs.Tables.{agency, stops, routes, trips, stop_times, calendar, exceptions}

@@ -1,5 +1,5 @@
 -- What a loader's answer says of what is told.
-use Rattle.std.specs.Prelude.{◌≡◌, ℕ, ◌≤◌, List, Option, Some, IfSome, Result, Ok, Err, Vec, ⊤}
+use Rattle.std.specs.Prelude.{◌≡◌, ℕ, ◌≤◌, List, Option, IfSome, Result, Ok, Err, Vec, ⊤}
 use Rattle.std.specs.declared.alloc.Global.{Global}
 use Rattle.answer_defs.specs.Steps.{◌>>=◌}
 use Rattle.gtfs_rows.specs.declared.fault.RowFault.{RowFault}

@@ -1,5 +1,5 @@
 -- What the loader makes of the rows that it read.
-use Rattle.std.specs.Prelude.{◌≡◌, ℕ, ◌≤◌, ◌==◌, bytes_eq, List, [], length, filter, map, slice_get, Option, Some, None, if◌then◌else◌, Result, Ok, Err}
+use Rattle.std.specs.Prelude.{◌≡◌, ℕ, ◌≤◌, ◌==◌, bytes_eq, List, [], length, filter, slice_get, Option, Some, None, if◌then◌else◌, Result, Ok, Err}
 use Rattle.gtfs_rows.specs.declared.rows.AgencyRow.{AgencyRow}
 use Rattle.gtfs_rows.specs.declared.rows.StopRow.{StopRow}
 use Rattle.gtfs_rows.specs.declared.rows.RouteRow.{RouteRow}

@@ -1,17 +1,12 @@
 -- Rows in groups, as the loader's contracts see them.
-use Rattle.std.specs.Prelude.{◌≡◌, ℕ, ◌&&◌, ◌==◌, bytes_eq, List, map, Result, Ok, Err, Vec}
+use Rattle.std.specs.Prelude.{◌≡◌, ℕ, List, map, Result, Ok, Err, Vec}
 use Rattle.std.specs.declared.alloc.Global.{Global}
 use Rattle.std.specs.declared.collections.BTreeMap.{BTreeMap}
-use Rattle.gtfs_rows.specs.declared.rows.StopRow.{StopRow}
-use Rattle.gtfs_rows.specs.declared.rows.TripRow.{TripRow}
-use Rattle.gtfs_rows.specs.declared.rows.StopTimeRow.{StopTimeRow}
 use Rattle.gtfs_rows.specs.declared.rows.ExceptionRow.{ExceptionRow}
 use Rattle.service_day.specs.declared.services.Exception.{Exception}
 use Rattle.load_defs.specs.declared.fault.LoadFault.{LoadFault}
-use Rattle.load_defs.specs.Numbers.{by_id}
-use Rattle.sched_load.specs.declared.visits.Visit.{Visit}
 use Rattle.sched_load.specs.Answer.{RefusesAlone}
-use Rattle.sched_load.specs.Listed.{entries_of, group_of, visit_of}
+use Rattle.sched_load.specs.Listed.{entries_of, group_of}
 
 -- a file's rows that are consistent, with the entries of their groups, or the first fault
 abbrev pub Groups : {R V : Type 0} → Result (List R) LoadFault → List R → List (List (ℕ × V)) → Result (Vec (BTreeMap ℕ V Global) Global) LoadFault → Type 0

@@ -1,5 +1,5 @@
 -- How the loader holds rows, as its contracts see it.
-use Rattle.std.specs.Prelude.{◌≡◌, ℕ, ◌≤◌, Bool, bytes_eq, List, [], length, map, filter, slice_get, slice_set, Option, Some, None, is_none, unwrap_or, Result, Ok, Err, Vec, if◌then◌else◌}
+use Rattle.std.specs.Prelude.{◌≡◌, ℕ, Bool, bytes_eq, List, [], map, filter, slice_get, slice_set, Option, Some, None, is_none, unwrap_or, Result, Ok, Err, Vec, if◌then◌else◌}
 use Rattle.std.specs.declared.alloc.Global.{Global}
 use Rattle.std.specs.Borrow.{Bor}
 use Rattle.std.specs.declared.collections.BTreeMap.{BTreeMap}

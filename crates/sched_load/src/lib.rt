@@ -1,14 +1,15 @@
 //! Loads a timetable from a folder of files.
 //!
-//! `load` reads the seven files of a GTFS dataset, one after another through one buffer, and gives the
-//! `Plan` of their rows, or the first fault. What it means is said in `load_defs`
+//! `load` reads the seven files of a GTFS dataset, one after another, and gives the `Plan` of their rows,
+//! or the first fault. The bytes of a file are let go once its rows are read. What it means is said in `load_defs`
 //! (`specs/Loading.antt`): each answer is what `timetable` tells of the files, the folder and the
 //! configuration, but for want of memory, and for a file that could not be read, which the count of
 //! faults of the files bears out.
 //!
 //! The steps stand by subject: `files` reads the rows of one file, `table` holds them with their order
-//! by id, `order` finds that order and the first row that is at fault, `groups` and `visits` put the
-//! stop times of each trip in order, `services` does so for exceptions, `tables` reads all seven files,
+//! by id, `order` finds that order and the first row that is at fault, `gather` takes the rows of
+//! stop_times.txt one by one and keeps them as visits, `visits` puts these trip by trip, `groups` and
+//! `services` do so for exceptions, `tables` reads all seven files,
 //! `check` judges the times of trips by row of trips.txt, `times`, `days` and `build` make the lists of
 //! the plan. `specs/Answer.antt` has the word by which each step says what it told (`Reads`).
 //!

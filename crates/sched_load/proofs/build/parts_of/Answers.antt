@@ -1,11 +1,10 @@
-use Rattle.std.proofs.Common.{◌≡◌, ◌∙◌, ◌≤◌, ◌<◌, ℕ, List, map, length, true, false, ap, sym, subst, refl, arith, nat_cmp}
+use Rattle.std.proofs.Common.{◌∙◌, ◌≤◌, ℕ, List, map, length, true, false, ap, sym, subst, arith, nat_cmp}
 use Rattle.std.specs.Prelude.{zip}
 use Rattle.std.specs.declared.alloc.Global.{Global}
 use Rattle.std.specs.declared.collections.BTreeMap.{BTreeMap}
 use Rattle.std.proofs.lemmas.List.{length-map}
 use Rattle.gtfs_rows.specs.Tables.{calendar}
 use Rattle.gtfs_rows.specs.declared.rows.TripRow.{TripRow}
-use Rattle.gtfs_rows.specs.declared.rows.CalendarRow.{CalendarRow}
 use Rattle.service_day.specs.declared.services.Exception.{Exception}
 use Rattle.sched_types.specs.Timetable.{IsTimetable, RisesById}
 use Rattle.load_defs.specs.declared.fault.File.TheVariants as file
@@ -14,7 +13,6 @@ use Rattle.load_defs.specs.Services.{active_days, flags_of}
 use Rattle.sched_load.specs.declared.visits.Visit.{Visit}
 use Rattle.sched_load.specs.Built.{AreSmall, places_of_trip, trip_in}
 use Rattle.sched_load.specs.Days.{active_by}
-use Rattle.sched_load.specs.Groups.{exceptions_of}
 use Rattle.sched_load.specs.Listed.{entries_of}
 use Rattle.sched_load.specs.Tables.{dataset_of}
 use Rattle.sched_load.proofs.ColumnLaws.{calendar_flags}

@@ -1,4 +1,4 @@
-use Rattle.std.proofs.Common.{◌∷◌, [], ◌≡◌, ◌+◌, ◌++◌, ◌==◌, ◌∙◌, ◌≤◌, ap, sym, refl, subst, length, map, filter, arith}
+use Rattle.std.proofs.Common.{◌∷◌, [], ◌≡◌, ◌+◌, ◌++◌, ◌==◌, ◌∙◌, ◌≤◌, ap, sym, subst, length, map, arith}
 use Rattle.std.specs.Prelude.{slice_get}
 use Rattle.std.specs.List.{range_with_len}
 use Rattle.std.proofs.lemmas.List.{map-append}

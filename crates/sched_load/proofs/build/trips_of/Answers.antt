@@ -1,4 +1,4 @@
-use Rattle.std.proofs.Common.{◌≤◌, length, subst}
+use Rattle.std.proofs.Common.{◌≤◌, subst}
 use Rattle.load_defs.specs.Numbers.{by_id}
 use Rattle.sched_load.specs.Built.{trip_in}
 use Rattle.sched_load.proofs.BuildLemmas.{made_all, made_more}

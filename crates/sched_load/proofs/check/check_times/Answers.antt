@@ -1,4 +1,4 @@
-use Rattle.std.proofs.Common.{◌≡◌, ◌<◌, ◌≤◌, ◌∙◌, ap, sym, refl, subst, length, arith}
+use Rattle.std.proofs.Common.{◌≡◌, ◌≤◌, ◌∙◌, ap, sym, refl, subst, length, arith}
 use Rattle.std.specs.Prelude.{slice_get, Some, true}
 use Rattle.std.proofs.lemmas.Option.{slice_get_read, slice_get_within, none-some as none_some}
 use Rattle.gtfs_rows.specs.Tables.{trips}

@@ -1,5 +1,5 @@
-use Rattle.std.proofs.Common.{◌≡◌, ◌∙◌, ◌<◌, ◌≤◌, ℕ, List, ap, sym, refl, subst, length, map, arith, nat_cmp}
-use Rattle.std.specs.Prelude.{filter, find, slice_get, zip, bytes_eq, Some, option_map, option_copied}
+use Rattle.std.proofs.Common.{◌∙◌, ℕ, ap, sym, refl, subst, length, map, arith, nat_cmp}
+use Rattle.std.specs.Prelude.{filter, find, zip, bytes_eq, option_map}
 use Rattle.std.specs.List.{range_with_len}
 use Rattle.std.specs.FinMap.Entries.{find as find_at}
 use Rattle.std.specs.declared.alloc.Global.{Global}

@@ -1,4 +1,4 @@
-use Rattle.std.proofs.Common.{◌≡◌, ◌∙◌, sym, nat_cmp}
+use Rattle.std.proofs.Common.{◌∙◌, nat_cmp}
 use Rattle.std.specs.Prelude.{option_copied}
 use Rattle.std.specs.FinMap.Entries.{find}
 use Rattle.text_defs.specs.Dates.{date_plus}

@@ -1,4 +1,4 @@
-use Rattle.std.proofs.Common.{◌≡◌, ◌+◌, nat_cmp}
+use Rattle.std.proofs.Common.{◌≡◌, nat_cmp}
 use Rattle.std.specs.Prelude.{filter, option_copied}
 use Rattle.std.specs.List.{range_with_len}
 use Rattle.std.specs.FinMap.Entries.{find}

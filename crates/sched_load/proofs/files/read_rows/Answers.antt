@@ -1,4 +1,4 @@
-use Rattle.std.proofs.Common.{◌≡◌, Some, Err, subst}
+use Rattle.std.proofs.Common.{Some, subst}
 use Rattle.answer_defs.specs.Defined.{IsCause}
 use Rattle.gtfs_rows.specs.Files.{cause_of, rows_of}
 use Rattle.hub_outside.specs.Files.{file_at}

@@ -1,4 +1,4 @@
-use Rattle.std.proofs.Common.{◌≡◌, Some, true, subst}
+use Rattle.std.proofs.Common.{Some, true, subst}
 use Rattle.answer_defs.specs.Defined.{IsCause}
 use Rattle.gtfs_rows.specs.Files.{cause_of, rows_of}
 use Rattle.gtfs_rows.specs.Tables.{stop_times}

@@ -1,8 +1,7 @@
-use Rattle.std.proofs.Common.{◌≡◌, Ok, refl}
+use Rattle.std.proofs.Common.{Ok, refl}
 use Rattle.answer_defs.specs.Steps.{◌>>=◌}
 use Rattle.load_defs.specs.Loading.{dataset_in, timetable, with_times, zone_of}
 use Rattle.load_defs.specs.Numbers.{timetable_of}
-use Rattle.sched_load.specs.Answer.{Reads}
 use Rattle.sched_load.specs.Tables.{dataset_of}
 use Rattle.sched_load.proofs.Chain.{built, passed, step_alone, step_done, step_fails, step_value, timetable_is, told_same}
 use Rattle.sched_load.proofs.loading.load.Goals as goal

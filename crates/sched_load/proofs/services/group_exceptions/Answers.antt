@@ -1,5 +1,4 @@
-use Rattle.std.proofs.Common.{◌≡◌, ◌≤◌, ◌∙◌, ℕ, List, [], map, ap, sym, refl, length, arith}
-use Rattle.std.specs.List.{range_with_len}
+use Rattle.std.proofs.Common.{◌∙◌, ℕ, List, [], ap, sym, refl, length, arith}
 use Rattle.std.proofs.lemmas.Option.{slice_get_read, none-some as none_some}
 use Rattle.service_day.specs.declared.services.Exception.{Exception}
 use Rattle.load_defs.specs.declared.fault.File.TheVariants as file

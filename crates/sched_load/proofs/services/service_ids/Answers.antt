@@ -1,8 +1,6 @@
-use Rattle.std.proofs.Common.{◌≡◌, ◌∙◌, ◌++◌, [], ap, sym, map}
-use Rattle.std.specs.Prelude.{IfOk}
-use Rattle.sched_load.specs.Services.{ids_gathered, services_of}
+use Rattle.std.proofs.Common.{◌++◌, [], ap, map}
 use Rattle.sched_load.specs.Listed.{texts_seen}
-use Rattle.sched_load.proofs.ServiceLemmas.{gathered_all, gathered_ok}
+use Rattle.sched_load.proofs.ServiceLemmas.{gathered_ok}
 use Rattle.sched_load.proofs.services.service_ids.Goals as goal
 
 pub returns : goal.returns

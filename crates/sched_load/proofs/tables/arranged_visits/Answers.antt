@@ -1,4 +1,4 @@
-use Rattle.std.proofs.Common.{◌≡◌, ◌≤◌, List, true, length, arith, subst, sym}
+use Rattle.std.proofs.Common.{true, arith, subst, sym}
 use Rattle.gtfs_rows.specs.Tables.{stop_times}
 use Rattle.hub_outside.specs.Files.{file_at}
 use Rattle.load_defs.specs.Files.{path_of}

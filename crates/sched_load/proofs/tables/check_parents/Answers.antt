@@ -1,4 +1,4 @@
-use Rattle.std.proofs.Common.{◌≡◌, ◌∙◌, ap, sym, refl, length, subst, List}
+use Rattle.std.proofs.Common.{◌≡◌, ◌∙◌, sym, refl, length, subst}
 use Rattle.std.proofs.lemmas.Option.{slice_get_read}
 use Rattle.std.specs.Prelude.{slice_get, Some}
 use Rattle.sched_load.proofs.ParentLemmas.{no_parent, parents_more}

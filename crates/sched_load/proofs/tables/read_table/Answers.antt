@@ -1,4 +1,3 @@
-use Rattle.std.proofs.lemmas.Result.{err_from_is_err_and}
 use Rattle.hub_outside.specs.Files.{file_at}
 use Rattle.load_defs.specs.Files.{path_of}
 use Rattle.load_defs.specs.References.{consistent}

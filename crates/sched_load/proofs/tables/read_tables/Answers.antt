@@ -9,9 +9,9 @@ use Rattle.sched_load.proofs.Laws.{file_within}
 use Rattle.sched_load.proofs.Numbered.{ids_rise}
 use Rattle.sched_load.proofs.ServiceLemmas.{known_service}
 use Rattle.load_defs.specs.Loading.{dataset_in}
-use Rattle.load_defs.specs.References.{consistent_stop_times, consistent_exceptions}
+use Rattle.load_defs.specs.References.{consistent_exceptions}
 use Rattle.sched_load.proofs.Chain.{tables_passed, no_memory, step_alone, step_done, step_fails, step_value, told_same}
-use Rattle.sched_load.proofs.WholeChain.{agencies_told, stops_told, routes_told, trips_told, times_rows, times_told, calendar_told, exceptions_rows, exceptions_told, after_agencies, after_stops, after_routes, after_trips, after_times, after_calendar, after_exceptions, dataset_is}
+use Rattle.sched_load.proofs.WholeChain.{agencies_told, stops_told, routes_told, trips_told, times_told, calendar_told, exceptions_rows, exceptions_told, after_agencies, after_stops, after_routes, after_trips, after_times, after_calendar, after_exceptions, dataset_is}
 use Rattle.sched_load.proofs.tables.read_tables.Goals as goal
 
 pub returns-in_err-agencies-clause-reads : goal.returns-in_err-agencies-clause-reads

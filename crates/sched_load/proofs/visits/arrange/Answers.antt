@@ -1,5 +1,5 @@
 use Rattle.std.proofs.Common.{subst}
-use Rattle.sched_load.specs.Visits.{AreArranged, FirstTwin}
+use Rattle.sched_load.specs.Visits.{AreArranged}
 use Rattle.sched_load.proofs.VisitLemmas.{all_known, twin_told, unknown_told}
 use Rattle.sched_load.proofs.visits.arrange.Goals as goal
 

@@ -1,7 +1,7 @@
-use Rattle.std.proofs.Common.{rules, None, ◌≡◌, ◌+◌, ◌<◌, get_or, arith, add-one, subst, sym}
+use Rattle.std.proofs.Common.{None, ◌<◌, get_or, arith, add-one, sym}
 use Rattle.std.proofs.lemmas.Option.{slice_get-get_or}
 use Rattle.sched_load.specs.declared.visits.Visit.{Visit}
-use Rattle.sched_load.proofs.TwinLemmas.{AreSeen, key_found, key_put, seen_more, seen_twin, visit_key}
+use Rattle.sched_load.proofs.TwinLemmas.{key_found, key_put, seen_more, seen_twin}
 use Rattle.sched_load.proofs.visits.first_twin.Goals as goal
 
 pub returns-then-is_some-clause-value : goal.returns-then-is_some-clause-value

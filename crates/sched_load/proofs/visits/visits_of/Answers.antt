@@ -1,4 +1,4 @@
-use Rattle.std.proofs.Common.{rules, leb, ltb, drop, ◌≡◌, ◌≤◌, ◌∙◌, length, arith, sym, subst}
+use Rattle.std.proofs.Common.{rules, leb, ltb, drop, ◌≡◌, arith, sym, subst}
 use Rattle.std.proofs.lemmas.Bool.{leb-true, leb-false, ltb-true, ltb-false}
 use Rattle.std.specs.List.Sorted.{IsNonDecreasingBy}
 use Rattle.std.proofs.lemmas.List.Sorted.{IsPartitionPoint-from_clause, IsPartitionedBy-leb, IsPartitionedBy-ltb, IsNonDecreasingBy-drop}
