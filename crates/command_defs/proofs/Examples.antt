@@ -4,7 +4,7 @@ use Rattle.std.specs.Fmt.{digits}
 use Rattle.answer_defs.specs.Steps.{◌>>=◌}
 use Rattle.load_defs.specs.CityFiles.{city_folder, stops_txt, trips_txt, stop_times_txt, files_with, behind_agency}
 use Rattle.load_defs.proofs.OnFiles.{loading_on_files}
-use Rattle.hub_config.specs.declared.conf.ScheduleConf.{ScheduleConf}
+use Rattle.conf_defs.specs.declared.conf.ScheduleConf.{ScheduleConf}
 use Rattle.text_defs.specs.Cleaned.{line_feed}
 use Rattle.command_defs.specs.Words.{command_of}
 use Rattle.command_defs.specs.Words.Command.{Replay, Check}

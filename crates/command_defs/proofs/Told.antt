@@ -1,7 +1,7 @@
 -- What is told of a command's output, where files and input are told.
 use Rattle.std.proofs.Common.{◌≡◌, ℕ, List, length, Option, Some, None, Err, refl}
 use Rattle.std.specs.Prelude.{codes}
-use Rattle.hub_config.specs.Conf.{conf_of}
+use Rattle.conf_defs.specs.Conf.{conf_of}
 use Rattle.command_defs.specs.Words.{Command, command_of}
 use Rattle.command_defs.specs.Words.Command.{Replay, Check}
 use Rattle.command_defs.specs.Checks.{conf_in, conf_or_line}

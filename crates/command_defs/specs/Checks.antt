@@ -6,11 +6,11 @@ use Rattle.sched_types.specs.Timetable.{Timetable, counts_of}
 use Rattle.load_defs.specs.Loading.{timetable}
 use Rattle.load_defs.specs.declared.conf.PlanConf.{PlanConf}
 use Rattle.load_defs.specs.declared.fault.LoadFault.{LoadFault}
-use Rattle.hub_config.specs.Conf.{conf_of}
-use Rattle.hub_config.specs.Lines.{line_of}
-use Rattle.hub_config.specs.declared.conf.HubConf.{HubConf}
-use Rattle.hub_config.specs.declared.conf.ScheduleConf.{ScheduleConf}
-use Rattle.hub_config.specs.declared.fault.ConfFault.{ConfFault}
+use Rattle.conf_defs.specs.Conf.{conf_of}
+use Rattle.conf_defs.specs.Lines.{line_of}
+use Rattle.conf_defs.specs.declared.conf.HubConf.{HubConf}
+use Rattle.conf_defs.specs.declared.conf.ScheduleConf.{ScheduleConf}
+use Rattle.conf_defs.specs.declared.fault.ConfFault.{ConfFault}
 use Rattle.answer_defs.specs.Steps.{◌>>=◌}
 use Rattle.text_defs.specs.Cleaned.{line_feed}
 use Rattle.script_defs.specs.Output.{Output}
@@ -54,9 +54,9 @@ timetables files (schedule ∷ more) = do
 abbrev pub counts_line : List ℕ → Timetable → List ℕ
 counts_line name t = let counts = counts_of t in
     name ++ codes " agencies " ++ decimal counts.agencies ++ codes " stops " ++ decimal counts.stops
-        ++ codes " routes " ++ decimal counts.routes
+    ++ codes " routes " ++ decimal counts.routes
     ++ codes " trips " ++ decimal counts.trips ++ codes " times " ++ decimal counts.times
-        ++ codes " days " ++ decimal counts.days ++ line_feed
+    ++ codes " days " ++ decimal counts.days ++ line_feed
 
 -- a line for each schedule
 abbrev pub counts_lines : List ScheduleConf → List Timetable → List ℕ

@@ -2,6 +2,6 @@
 //!
 //! The definitions compute: `Words` says which lists of words are commands, `Checks` what `check`
 //! says of a configuration and its timetables, and `Commands` puts them together with the replay of
-//! a script. They stand on `script_defs` for the script, on `hub_config` for the configuration, on
+//! a script. They stand on `script_defs` for the script, on `conf_defs` for the configuration, on
 //! `load_defs` for the timetables and on `hub_outside` for what files are. The crate has no code.
 #![tactic(auto)]

@@ -6,5 +6,10 @@ use Rattle.field_read.specs.declared.fault.ReadFault.TheVariants.{Malformed, NoM
 
 -- the fault of the bytes that is told; want of memory tells none
 abbrev pub cause_of : ReadFault → Option Fault
-cause_of (Malformed entity what kind field) = Some (record { entity = entity; what = what; kind = kind; field = field })
+cause_of (Malformed entity what kind field) = Some (record {
+  entity = entity;
+  what = what;
+  kind = kind;
+  field = field;
+})
 cause_of NoMemory = None

@@ -12,6 +12,7 @@ abbrev pub with_more : List Field → Result (List Field) Fault → Result (List
 with_more front told = told >>= λ more. Ok (front ++ more)
 
 -- the fields that were told of stand behind the old ones, or their first fault is the answer
-abbrev pub Grows : List Field → List Field → Result (List Field) Fault → Result (Unit {0}) ReadFault → Type 0
+abbrev pub Grows : List Field → List Field → Result (List Field) Fault
+    → Result (Unit {0}) ReadFault → Type 0
 Grows old new told (Ok done) = with_more old told ≡ Ok new
 Grows old new told (Err e) = IsCause told (cause_of e)

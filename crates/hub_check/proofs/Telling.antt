@@ -19,10 +19,10 @@ use Rattle.load_defs.specs.declared.fault.LoadFault.{LoadFault}
 use Rattle.load_defs.specs.declared.fault.LoadFault.TheVariants as load
 use Rattle.sched_load.specs.Answer.{HasFaultCause, HasLoadCause, Loads, Refuses}
 use Rattle.sched_load.specs.Window.{HasWindow}
-use Rattle.hub_config.specs.Right.{has_window}
-use Rattle.hub_config.specs.Values.{is_window_date}
-use Rattle.hub_config.specs.declared.conf.HubConf.{HubConf}
-use Rattle.hub_config.specs.declared.conf.ScheduleConf.{ScheduleConf}
+use Rattle.conf_defs.specs.Right.{has_window}
+use Rattle.conf_defs.specs.Values.{is_window_date}
+use Rattle.conf_defs.specs.declared.conf.HubConf.{HubConf}
+use Rattle.conf_defs.specs.declared.conf.ScheduleConf.{ScheduleConf}
 use Rattle.command_defs.specs.Checks.{check_output, check_lines, conf_in, counts_line, counts_lines, timetable_or_line, output_of_check, plan_conf, timetables}
 use Rattle.hub_check.specs.Told.{Adds, Checks, IsFaultOf, HasCheckCause, HasWords, Names, Stored, Tells, line_for, lines_for, load_line, told_line, with_front}
 use Rattle.hub_check.specs.declared.fault.CheckFault.{CheckFault}

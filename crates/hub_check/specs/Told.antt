@@ -2,9 +2,9 @@
 use Rattle.std.specs.Prelude.{◌≡◌, ℕ, ◌≤◌, List, [], ◌∷◌, ◌++◌, Option, Some, None, Result, Ok, Err, Vec, codes}
 use Rattle.std.specs.declared.alloc.Global.{Global}
 use Rattle.script_defs.specs.Output.{Output}
-use Rattle.hub_config.specs.Lines.{line_of}
-use Rattle.hub_config.specs.declared.fault.ConfFault.{ConfFault}
-use Rattle.hub_config.specs.declared.fault.ConfFault.TheVariants as conf
+use Rattle.conf_defs.specs.Lines.{line_of}
+use Rattle.conf_defs.specs.declared.fault.ConfFault.{ConfFault}
+use Rattle.conf_defs.specs.declared.fault.ConfFault.TheVariants as conf
 use Rattle.hub_outside.specs.Count.{Rose}
 use Rattle.answer_defs.specs.Steps.{◌>>=◌}
 use Rattle.text_defs.specs.Cleaned.{line_feed}
@@ -14,7 +14,7 @@ use Rattle.sched_types.specs.declared.rows.Counts.{Counts}
 use Rattle.load_defs.specs.Loading.{timetable}
 use Rattle.load_defs.specs.declared.fault.LoadFault.{LoadFault}
 use Rattle.load_defs.specs.declared.fault.LoadFault.TheVariants as load
-use Rattle.hub_config.specs.declared.conf.ScheduleConf.{ScheduleConf}
+use Rattle.conf_defs.specs.declared.conf.ScheduleConf.{ScheduleConf}
 use Rattle.command_defs.specs.Faults.{load_words}
 use Rattle.command_defs.specs.Checks.{counts_line, timetable_or_line, plan_conf}
 use Rattle.hub_check.specs.declared.fault.CheckFault.{CheckFault}

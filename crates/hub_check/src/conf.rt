@@ -2,15 +2,16 @@
 ghost use Rattle.std.specs.Prelude.{◌≡◌, ◌++◌, IfOk, IfSome, true};
 ghost use Rattle.std.specs.List.{list_all};
 ghost use Rattle.hub_outside.specs.Files.{file_at};
-ghost use Rattle.hub_config.specs.Conf.{conf_of};
-ghost use Rattle.hub_config.specs.Lines.{line_of};
+ghost use Rattle.conf_defs.specs.Conf.{conf_of};
+ghost use Rattle.conf_defs.specs.Lines.{line_of};
 ghost use Rattle.text_defs.specs.Cleaned.{line_feed};
-ghost use Rattle.hub_config.specs.Right.{has_window};
+ghost use Rattle.conf_defs.specs.Right.{has_window};
 ghost use Rattle.command_defs.specs.Checks.{conf_in, conf_or_line};
 ghost use Rattle.hub_check.specs.Told.{HasCheckCause, IsLine, NamesConf, NeedsNoFile, Tells};
 
 use crate::fault::CheckFault;
-use hub_config::{ConfFault, HubConf, fault_line, read_conf};
+use conf_defs::{ConfFault, HubConf};
+use hub_config::{fault_line, read_conf};
 use hub_outside::{Buf, FileAnswer, Files};
 use std::alloc::{AllocError, Global};
 

@@ -3,13 +3,13 @@ ghost use Rattle.std.specs.Prelude.{◌≡◌, ◌≤◌, IfOk, IfSome, true};
 ghost use Rattle.std.specs.List.{list_all};
 ghost use Rattle.std.specs.String.{string_bytes};
 ghost use Rattle.load_defs.specs.Loading.{timetable};
-ghost use Rattle.hub_config.specs.Right.{has_window};
+ghost use Rattle.conf_defs.specs.Right.{has_window};
 ghost use Rattle.command_defs.specs.Checks.{counts_line, timetable_or_line, plan_conf};
 ghost use Rattle.hub_check.specs.Told.{Adds, HasCheckCause, network_text, traffic_text, Names, Tells, line_for, lines_for};
 
 use crate::fault::CheckFault;
 use crate::words::load_line;
-use hub_config::ScheduleConf;
+use conf_defs::ScheduleConf;
 use hub_outside::Files;
 use load_defs::{LoadFault, PlanConf};
 use rt_types::Copied;
@@ -80,7 +80,7 @@ fn plan_of<F: Files>(
     requires { has_window schedule.now ≡ true }
     ensures told { IfSome (F.contents files.old) (λ fs.
         Tells (λ plan. plan) (timetable_or_line schedule.now.name
-            (timetable fs schedule.now.folder (plan_conf schedule.now))) result) }
+        (timetable fs schedule.now.folder (plan_conf schedule.now))) result) }
     ensures cause { HasCheckCause result (F.faults files.old) (F.faults files.new) }
     ensures same { F.contents files.new ≡ F.contents files.old }
 {

@@ -8,11 +8,5 @@ use std::process::ExitCode;
 use std::{env, io};
 
 fn main(rt: HostRuntime) -> ExitCode {
-    ExitCode::from(run_on_system(
-        rt.alloc(),
-        env::args(&rt),
-        &rt,
-        rt.stdin(),
-        io::writer(&rt),
-    ))
+    ExitCode::from(run_on_system(rt.alloc(), env::args(&rt), &rt, rt.stdin(), io::writer(&rt)))
 }

@@ -1,4 +1,3 @@
-pub mod ConfLaws
 pub mod Dates
 pub mod Documents
 pub mod Judging

@@ -1,16 +1,14 @@
 //! Reads the hub's configuration, a TOML document.
 //!
-//! `read_conf` gives the configuration of the bytes or their first fault, exactly as
-//! `specs/Conf.antt` defines both. The keys of each table, with what each may hold and what stands
-//! for one that is absent, are data (`specs/Rules.antt` and `Key::rule`), and one function judges
-//! every table by its keys. `fault_line` writes a fault as the commands print it.
+//! `read_conf` gives the configuration of the bytes or their first fault, exactly as `conf_defs`
+//! defines both. The keys of each table, with what each may hold and what stands for one that is
+//! absent, are data (`rule`), and one function judges every table by its keys. `fault_line` writes
+//! a fault as the commands print it.
 //!
-//! It stands on the crate `toml` for the document, on `service_day` for which dates there are and
-//! on `rt_types` for its texts and lists.
+//! It stands on the crate `toml` for the document, on `conf_defs` for the definitions and the
+//! types, and on `texts` and `rt_types` for texts and lists.
 #![tactic(auto)]
 
-mod conf;
-mod fault;
 mod judge;
 mod line;
 mod read;
@@ -19,8 +17,7 @@ mod rule;
 mod tests;
 mod value;
 
-pub use conf::{FeedConf, HubConf, PortKind, ScheduleConf};
-pub use fault::{ConfFault, ConfWhy, TableName};
+pub use conf_defs::{ConfFault, ConfWhy, FeedConf, HubConf, PortKind, ScheduleConf, TableName};
 pub use line::fault_line;
 pub use read::read_conf;
 pub use std::alloc::AllocError as NoMemory;

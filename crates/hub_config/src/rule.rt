@@ -1,53 +1,10 @@
 //! The keys of the tables of a configuration, and what each may hold.
 
 ghost use Rattle.std.specs.Prelude.{◌≡◌};
-ghost use Rattle.hub_config.specs.Rules as rules;
+ghost use Rattle.conf_defs.specs.Rules as rules;
 ghost use Rattle.hub_config.specs.Seen.{absent_seen, rule_seen};
 
-use crate::fault::TableName;
-
-/// A key of a table.
-#[derive(Clone, Copy)]
-pub enum Key {
-    Readers,
-    Listen,
-    Connections,
-    Schedules,
-    Feeds,
-    ScheduleName,
-    Folder,
-    Zone,
-    First,
-    Days,
-    Prefix,
-    FeedName,
-    FeedSchedule,
-    Kind,
-    Place,
-}
-
-/// What a value may be.
-#[derive(Clone, Copy)]
-pub enum Holds {
-    /// An integer from the first number to the second.
-    Number(u32, u32),
-    /// Eight digits YYYYMMDD of a day from 19700201 to 29991231.
-    Date,
-    /// Any text.
-    AnyText,
-    /// A text of at most so many bytes.
-    ShortText(u32),
-    /// A name that no earlier schedule has.
-    NewSchedule,
-    /// A name that no earlier feed has.
-    NewFeed,
-    /// The name of a schedule.
-    KnownSchedule,
-    /// The word for a `PortKind`.
-    Port,
-    /// An array of tables, as many as from the first number to the second.
-    Tables(u32, u32),
-}
+use conf_defs::{Holds, Key, TableName};
 
 /// What stands for a key that is absent.
 #[derive(Clone, Copy)]
@@ -72,8 +29,11 @@ pub struct Rule {
 
 impl Rule {
     fn new(name: &'static str, holds: Holds, absent: Absent) -> Self
-        ensures { rule_seen result ≡ record { name = name.now; holds = holds;
-            absent = absent_seen absent } }
+        ensures { rule_seen result ≡ record {
+          name = name.now;
+          holds = holds;
+          absent = absent_seen absent;
+        } }
     {
         Rule {
             name,
@@ -83,33 +43,31 @@ impl Rule {
     }
 }
 
-impl Key {
-    /// The key's rule.
-    #[tactic(auto, unfolding(crate::specs::Rules::rule_of))]
-    pub fn rule(self) -> Rule
-        ensures { rule_seen result ≡ rules.rule_of self }
-    {
-        match self {
-            Key::Readers => Rule::new("readers", Holds::Number(1, 64), Absent::Number(2)),
-            Key::Listen => Rule::new("listen", Holds::AnyText, Absent::Text("127.0.0.1:8080")),
-            Key::Connections => Rule::new(
-                "connections",
-                Holds::Number(0, 1_000_000_000),
-                Absent::Number(0),
-            ),
-            Key::Schedules => Rule::new("schedule", Holds::Tables(1, 8), Absent::Refused),
-            Key::Feeds => Rule::new("feed", Holds::Tables(0, 64), Absent::NoTables),
-            Key::ScheduleName => Rule::new("name", Holds::NewSchedule, Absent::Refused),
-            Key::Folder => Rule::new("folder", Holds::AnyText, Absent::Refused),
-            Key::Zone => Rule::new("zone", Holds::AnyText, Absent::Refused),
-            Key::First => Rule::new("first", Holds::Date, Absent::Refused),
-            Key::Days => Rule::new("days", Holds::Number(1, 400), Absent::Refused),
-            Key::Prefix => Rule::new("prefix", Holds::ShortText(32), Absent::Text("")),
-            Key::FeedName => Rule::new("name", Holds::NewFeed, Absent::Refused),
-            Key::FeedSchedule => Rule::new("schedule", Holds::KnownSchedule, Absent::Refused),
-            Key::Kind => Rule::new("kind", Holds::Port, Absent::Text("none")),
-            Key::Place => Rule::new("place", Holds::AnyText, Absent::Text("")),
-        }
+/// The key's rule.
+#[tactic(auto, unfolding(conf_defs::specs::Rules::rule_of))]
+pub fn rule_for(key: Key) -> Rule
+    ensures { rule_seen result ≡ rules.rule_of key }
+{
+    match key {
+        Key::Readers => Rule::new("readers", Holds::Number(1, 64), Absent::Number(2)),
+        Key::Listen => Rule::new("listen", Holds::AnyText, Absent::Text("127.0.0.1:8080")),
+        Key::Connections => Rule::new(
+            "connections",
+            Holds::Number(0, 1_000_000_000),
+            Absent::Number(0),
+        ),
+        Key::Schedules => Rule::new("schedule", Holds::Tables(1, 8), Absent::Refused),
+        Key::Feeds => Rule::new("feed", Holds::Tables(0, 64), Absent::NoTables),
+        Key::ScheduleName => Rule::new("name", Holds::NewSchedule, Absent::Refused),
+        Key::Folder => Rule::new("folder", Holds::AnyText, Absent::Refused),
+        Key::Zone => Rule::new("zone", Holds::AnyText, Absent::Refused),
+        Key::First => Rule::new("first", Holds::Date, Absent::Refused),
+        Key::Days => Rule::new("days", Holds::Number(1, 400), Absent::Refused),
+        Key::Prefix => Rule::new("prefix", Holds::ShortText(32), Absent::Text("")),
+        Key::FeedName => Rule::new("name", Holds::NewFeed, Absent::Refused),
+        Key::FeedSchedule => Rule::new("schedule", Holds::KnownSchedule, Absent::Refused),
+        Key::Kind => Rule::new("kind", Holds::Port, Absent::Text("none")),
+        Key::Place => Rule::new("place", Holds::AnyText, Absent::Text("")),
     }
 }
 
@@ -132,16 +90,14 @@ static SCHEDULE_KEYS: [Key; 6] = [
 
 static FEED_KEYS: [Key; 4] = [Key::FeedName, Key::FeedSchedule, Key::Kind, Key::Place];
 
-impl TableName {
-    /// The keys of such a table, in the order in which they are judged.
-    #[tactic(auto, unfolding(crate::specs::Rules::keys_of))]
-    pub fn keys(self) -> &'static [Key]
-        ensures { result.now ≡ rules.keys_of self }
-    {
-        match self {
-            TableName::Top => &TOP_KEYS,
-            TableName::Schedule => &SCHEDULE_KEYS,
-            TableName::Feed => &FEED_KEYS,
-        }
+/// The keys of such a table, in the order in which they are judged.
+#[tactic(auto, unfolding(conf_defs::specs::Rules::keys_of))]
+pub fn keys(table: TableName) -> &'static [Key]
+    ensures { result.now ≡ rules.keys_of table }
+{
+    match table {
+        TableName::Top => &TOP_KEYS,
+        TableName::Schedule => &SCHEDULE_KEYS,
+        TableName::Feed => &FEED_KEYS,
     }
 }

@@ -5,12 +5,12 @@ ghost use Rattle.std.specs.Char.{is_ascii_digit};
 ghost use Rattle.std.specs.List.{list_all};
 ghost use Rattle.toml.specs.Data.{get_member};
 ghost use Rattle.toml.specs.View.{view, table_view, items_view};
-ghost use Rattle.hub_config.specs.Rules.{rule_of};
+ghost use Rattle.conf_defs.specs.Rules.{rule_of};
 ghost use Rattle.hub_config.specs.Seen.{absent_seen};
-ghost use Rattle.hub_config.specs.Values as values;
+ghost use Rattle.conf_defs.specs.Values as values;
 
-use crate::conf::PortKind;
-use crate::rule::{Absent, Holds, Key};
+use crate::rule::{Absent, rule_for};
+use conf_defs::{Holds, Key, PortKind};
 use texts::{is_name, is_valid_date};
 use toml::{Table, Value};
 
@@ -43,7 +43,7 @@ fn has_eight_digits(text: &str) -> bool
 }
 
 /// The number that eight digits write.
-#[tactic(auto, unfolding(crate::specs::Values::eight_digits), using(crate::proofs::Dates::eight_parsed))]
+#[tactic(auto, unfolding(conf_defs::specs::Values::eight_digits), using(crate::proofs::Dates::eight_parsed))]
 fn eight_digits(text: &str) -> Option<u32>
     ensures { result ≡ values.eight_digits text.now }
 {
@@ -56,7 +56,7 @@ fn eight_digits(text: &str) -> Option<u32>
 
 /// The number of eight digits YYYYMMDD of a day of the Gregorian calendar from 1 February 1970 to
 /// 31 December 2999 (GTFS Schedule, "Field Types", Date).
-#[tactic(auto, unfolding(crate::specs::Values::date_of))]
+#[tactic(auto, unfolding(conf_defs::specs::Values::date_of))]
 fn date_of(text: &str) -> Option<u32>
     ensures { result ≡ values.date_of text.now }
 {
@@ -73,7 +73,7 @@ fn is_window_date(date: u32) -> bool
 }
 
 /// The way that a word names in which messages come to a feed.
-#[tactic(auto, unfolding(crate::specs::Values::port_of))]
+#[tactic(auto, unfolding(conf_defs::specs::Values::port_of))]
 pub fn port_of(text: &str) -> Option<PortKind>
     ensures { result ≡ values.port_of text.now }
 {
@@ -89,7 +89,7 @@ pub fn port_of(text: &str) -> Option<PortKind>
 }
 
 /// The number that a value says, where its key may hold that.
-#[tactic(auto, unfolding(crate::specs::Values::number_of))]
+#[tactic(auto, unfolding(conf_defs::specs::Values::number_of))]
 pub fn number_of(holds: Holds, value: &Value) -> Option<u32>
     ensures { result ≡ values.number_of holds (view value.now) }
 {
@@ -106,7 +106,7 @@ pub fn number_of(holds: Holds, value: &Value) -> Option<u32>
     }
 }
 
-#[tactic(auto, unfolding(crate::specs::Values::is_text_for))]
+#[tactic(auto, unfolding(conf_defs::specs::Values::is_text_for))]
 fn is_text_for(holds: Holds, text: &str) -> bool
     ensures { result ≡ values.is_text_for holds text.now }
 {
@@ -120,7 +120,7 @@ fn is_text_for(holds: Holds, text: &str) -> bool
 }
 
 /// The text that a value says, where its key may hold that.
-#[tactic(auto, unfolding(crate::specs::Values::text_of))]
+#[tactic(auto, unfolding(conf_defs::specs::Values::text_of))]
 pub fn text_of(holds: Holds, value: &Value) -> Option<&str>
     ensures { option_map (λ t. t.now) result ≡ values.text_of holds (view value.now) }
 {
@@ -148,7 +148,7 @@ fn is_long(length: usize, least: u32, most: u32) -> bool
     least as usize <= length && length <= most as usize
 }
 
-#[tactic(auto, unfolding(crate::specs::Values::is_array_for), using(crate::proofs::Views::array_views))]
+#[tactic(auto, unfolding(conf_defs::specs::Values::is_array_for), using(crate::proofs::Views::array_views))]
 fn is_array_for(holds: Holds, rows: &[Value]) -> bool
     ensures value { result ≡ values.is_array_for holds (items_view rows.now) }
     ensures few { result ≡ true → length rows.now ≤ values.most_tables holds }
@@ -160,7 +160,7 @@ fn is_array_for(holds: Holds, rows: &[Value]) -> bool
 }
 
 /// The tables that a value says, where its key may hold them.
-#[tactic(auto, unfolding(crate::specs::Values::tables_of))]
+#[tactic(auto, unfolding(conf_defs::specs::Values::tables_of))]
 pub fn tables_of(holds: Holds, value: &Value) -> Option<&[Value]>
     ensures value { option_map (λ rows. items_view rows.now) result ≡ values.tables_of holds
         (view value.now) }
@@ -193,11 +193,11 @@ impl Absent {
 }
 
 /// The number that a table says at a key, or the one that stands for it there.
-#[tactic(auto, unfolding(crate::specs::Values::number_at))]
+#[tactic(auto, unfolding(conf_defs::specs::Values::number_at))]
 pub fn number_at(table: &Table, key: Key) -> u32
     ensures { result ≡ values.number_at key (table_view table.now) }
 {
-    let rule = key.rule();
+    let rule = rule_for(key);
     let said = match value_at(table, rule.name) {
         Some(value) => number_of(rule.holds, value),
         None => None,
@@ -206,11 +206,11 @@ pub fn number_at(table: &Table, key: Key) -> u32
 }
 
 /// The text that a table says at a key, or the one that stands for it there.
-#[tactic(auto, unfolding(crate::specs::Values::text_at))]
+#[tactic(auto, unfolding(conf_defs::specs::Values::text_at))]
 pub fn text_at(table: &Table, key: Key) -> &str
     ensures { result.now ≡ values.text_at key (table_view table.now) }
 {
-    let rule = key.rule();
+    let rule = rule_for(key);
     let said = match value_at(table, rule.name) {
         Some(value) => text_of(rule.holds, value),
         None => None,
@@ -219,12 +219,12 @@ pub fn text_at(table: &Table, key: Key) -> &str
 }
 
 /// The tables that a table says at a key, or none.
-#[tactic(auto, unfolding(crate::specs::Values::tables_at))]
+#[tactic(auto, unfolding(conf_defs::specs::Values::tables_at))]
 pub fn tables_at(table: &Table, key: Key) -> &[Value]
     ensures value { items_view result.now ≡ values.tables_at key (table_view table.now) }
     ensures few { length result.now ≤ values.most_tables (rule_of key).holds }
 {
-    let rule = key.rule();
+    let rule = rule_for(key);
     let said = match value_at(table, rule.name) {
         Some(value) => tables_of(rule.holds, value),
         None => None,

@@ -44,7 +44,7 @@ abbrev pub CheckCut : List ℕ → FileStore → FileStore → Stream → Stream
 CheckCut path files files' output output' =
     FilesRose files files' × GrewByFront output output' file_fault_line
     ⊎ (text : List ℕ) × IfSome files.told (λ fs. (check_output fs path).written ≡ text)
-        × GrewByFront output output' text
+    × GrewByFront output output' text
 
 -- `check` of the configuration at a path: nothing is printed before all is known
 pub record CheckOutcome (path : List ℕ) (files files' : FileStore) (output output' : Stream)

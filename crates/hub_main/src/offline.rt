@@ -36,11 +36,11 @@ pub fn run_offline<F: Files, S: Source, K: Sink, C: Clock>(
 ) -> u8
     ensures outcome { OutcomeOf (command_of words.now)
         (outside (file_store (F.contents files.old) (F.faults files.old))
-            (stream (S.left input.old) (S.faults input.old))
-            (stream (K.written out.old) (K.faults out.old)))
+        (stream (S.left input.old) (S.faults input.old))
+        (stream (K.written out.old) (K.faults out.old)))
         (outside (file_store (F.contents files.new) (F.faults files.new))
-            (stream (S.left input.new) (S.faults input.new))
-            (stream (K.written out.new) (K.faults out.new)))
+        (stream (S.left input.new) (S.faults input.new))
+        (stream (K.written out.new) (K.faults out.new)))
         result }
     ensures status { IsExitStatus result }
     ensures whole { WritesWhole

@@ -5,6 +5,7 @@ use std::alloc::Global;
 use std::test::Fail;
 
 // What a script offers to the feed a, and what it prints together with the combined feed.
+#[derive(Drop)]
 struct Row {
     messages: &'static [&'static [u8]],
     told: &'static [u8],
@@ -18,7 +19,10 @@ const ROWS: [Row; 11] = [
     },
     // It is taken once.
     Row {
-        messages: &[b"\n\t\n\x032.0\x10\x00\x18\x05", b"\n\t\n\x032.0\x10\x00\x18\x05"],
+        messages: &[
+            b"\n\t\n\x032.0\x10\x00\x18\x05",
+            b"\n\t\n\x032.0\x10\x00\x18\x05",
+        ],
         told: b"accepted 1\nrefused stale 5 5\nfeed 11\n\n\t\n\x032.0\x10\x00\x18\x05\n",
     },
     // An entity goes out under its feed.
@@ -33,7 +37,12 @@ const ROWS: [Row; 11] = [
     },
     // A whole data set takes the place of all before it.
     Row {
-        messages: &[b"\n\t\n\x032.0\x10\x01\x18\x01\x12\x03\n\x01p", b"\n\t\n\x032.0\x10\x01\x18\x02\x12\x03\n\x01q", b"\n\t\n\x032.0\x10\x01\x18\x03\x12\x03\n\x01r", b"\n\t\n\x032.0\x10\x00\x18\x04\x12\x03\n\x01s"],
+        messages: &[
+            b"\n\t\n\x032.0\x10\x01\x18\x01\x12\x03\n\x01p",
+            b"\n\t\n\x032.0\x10\x01\x18\x02\x12\x03\n\x01q",
+            b"\n\t\n\x032.0\x10\x01\x18\x03\x12\x03\n\x01r",
+            b"\n\t\n\x032.0\x10\x00\x18\x04\x12\x03\n\x01s",
+        ],
         told: b"accepted 1\naccepted 2\naccepted 3\naccepted 4\nfeed 18\n\n\t\n\x032.0\x10\x00\x18\x04\x12\x05\n\x03a:s\n",
     },
     // Two headers are one.
@@ -43,12 +52,19 @@ const ROWS: [Row; 11] = [
     },
     // Faults tell the entity that they are in, and change nothing.
     Row {
-        messages: &[b"\n\t\n\x032.0\x10\x00\x18\x05\x12\x02\n\x01", b"\n\t\n\x032.0\x10\x00\x18\x05\x12\x03\n\x01", b"\n\t\n\x032.0\x10\x00\x18\x05"],
+        messages: &[
+            b"\n\t\n\x032.0\x10\x00\x18\x05\x12\x02\n\x01",
+            b"\n\t\n\x032.0\x10\x00\x18\x05\x12\x03\n\x01",
+            b"\n\t\n\x032.0\x10\x00\x18\x05",
+        ],
         told: b"refused malformed 1 cut FeedEntity 0\nrefused malformed 0 cut FeedMessage 0\naccepted 1\nfeed 11\n\n\t\n\x032.0\x10\x00\x18\x05\n",
     },
     // Groups nest 64 deep.
     Row {
-        messages: &[b"\n\t\n\x032.0\x10\x00\x18\x05KKKKKKKKKKKKKKKKKKKKKKKKKKKKKKKKKKKKKKKKKKKKKKKKKKKKKKKKKKKKKKKKLLLLLLLLLLLLLLLLLLLLLLLLLLLLLLLLLLLLLLLLLLLLLLLLLLLLLLLLLLLLLLLL", b"\n\t\n\x032.0\x10\x00\x18\x06KKKKKKKKKKKKKKKKKKKKKKKKKKKKKKKKKKKKKKKKKKKKKKKKKKKKKKKKKKKKKKKKKLLLLLLLLLLLLLLLLLLLLLLLLLLLLLLLLLLLLLLLLLLLLLLLLLLLLLLLLLLLLLLLLL"],
+        messages: &[
+            b"\n\t\n\x032.0\x10\x00\x18\x05KKKKKKKKKKKKKKKKKKKKKKKKKKKKKKKKKKKKKKKKKKKKKKKKKKKKKKKKKKKKKKKKLLLLLLLLLLLLLLLLLLLLLLLLLLLLLLLLLLLLLLLLLLLLLLLLLLLLLLLLLLLLLLLL",
+            b"\n\t\n\x032.0\x10\x00\x18\x06KKKKKKKKKKKKKKKKKKKKKKKKKKKKKKKKKKKKKKKKKKKKKKKKKKKKKKKKKKKKKKKKKLLLLLLLLLLLLLLLLLLLLLLLLLLLLLLLLLLLLLLLLLLLLLLLLLLLLLLLLLLLLLLLLL",
+        ],
         told: b"accepted 1\nrefused malformed 0 group FeedMessage 0\nfeed 11\n\n\t\n\x032.0\x10\x00\x18\x05\n",
     },
     // What is unknown within an entity goes out as it came.
@@ -143,11 +159,32 @@ fn many_feeds(alloc: Global, count: u32) -> Result<Vec<u8>, Fail> {
 fn limits_of_scripts(rt: HostRuntime) -> Result<(), Fail> {
     let alloc = rt.alloc();
     assert!(rt; ends(alloc, &long_line(alloc, 4093)?, 0, b"feed none\n")?);
-    assert!(rt; ends(alloc, &long_line(alloc, 4094)?, 7, b"hub: script refused at 0\n")?);
+    assert!(rt;
+        ends(
+            alloc,
+            &long_line(alloc, 4094)?,
+            7,
+            b"hub: script refused at 0\n"
+        )?
+    );
     assert!(rt; ends(alloc, &many_feeds(alloc, 64)?, 0, b"")?);
-    assert!(rt; ends(alloc, &many_feeds(alloc, 65)?, 7, b"hub: script refused at 630\n")?);
+    assert!(rt;
+        ends(
+            alloc,
+            &many_feeds(alloc, 65)?,
+            7,
+            b"hub: script refused at 630\n"
+        )?
+    );
     let offered = b"F a\nM a 000000000000\n\nE\n";
-    assert!(rt; ends(alloc, offered, 0, b"refused malformed 0 missing FeedMessage 1\n")?);
+    assert!(rt;
+        ends(
+            alloc,
+            offered,
+            0,
+            b"refused malformed 0 missing FeedMessage 1\n"
+        )?
+    );
     let longer = b"F a\nM a 0000000000000\n\nE\n";
     assert!(rt; ends(alloc, longer, 7, b"hub: script refused at 4\n")?);
     Ok(())

@@ -26,9 +26,7 @@ pub fn run_on_system<R: rt::Files + rt::Clock, I: Read + Drop, O: Write + Drop>(
     let mut input = StdSource::new(input);
     let mut out = StdSink::new(output);
     let mut clock = SystemClock::new(system);
-    run_offline(
-        alloc, &words, &mut files, &mut input, &mut out, &mut clock,
-    )
+    run_offline(alloc, &words, &mut files, &mut input, &mut out, &mut clock)
 }
 
 // The words behind the program's name. Where one is not UTF-8 there are none: no command has such a

@@ -72,4 +72,3 @@ lacks_line hub bytes said (Whole size) none h = absurd h
 lacks_line hub bytes said Ends none h = absurd h
 lacks_line hub bytes said (Long end size) none h = absurd h
 lacks_line hub bytes said NoMemory none h = absurd h
-

@@ -41,7 +41,7 @@ abbrev pub IsWhole : (List ℕ → Output) → ℕ → Option (List ℕ) → Opt
     → Type 0
 IsWhole defined status left written written' = (status ≡ 0) ⊎ (status ≡ 7)
     → IfSome left (λ script. Appends written written' (defined script).written
-        × (status ≡ (defined script).status))
+    × (status ≡ (defined script).status))
 
 -- the input failed, in the midst of the script
 abbrev pub InputFailed : ℕ → Option (List ℕ) → Option (List ℕ) → Option (List ℕ) → Option (List ℕ)
@@ -49,16 +49,16 @@ abbrev pub InputFailed : ℕ → Option (List ℕ) → Option (List ℕ) → Opt
 InputFailed status left left' written written' faults faults' = status ≡ 4
     → Rose faults faults'
     × ((taken : List ℕ) × IsUnfinished left left' taken
-        × Appends written written' (fault_output taken))
+    × Appends written written' (fault_output taken))
 
 -- a front of all that is defined was written, or, where the input failed, of what is printed there
 abbrev pub IsCut : (List ℕ → Output) → Option (List ℕ) → Option (List ℕ) → Option (List ℕ)
     → Option (List ℕ) → ℕ → ℕ → Type 0
 IsCut defined left left' written written' faults faults' =
     ((script : List ℕ) × IsScript left left' script
-        × ((n : ℕ) × Appends written written' (take n (defined script).written)))
+    × ((n : ℕ) × Appends written written' (take n (defined script).written)))
     ⊎ (Rose faults faults' × ((taken : List ℕ) × IsUnfinished left left' taken
-        × ((n : ℕ) × Appends written written' (take n (fault_output taken)))))
+    × ((n : ℕ) × Appends written written' (take n (fault_output taken)))))
 
 -- the output failed
 abbrev pub OutputFailed : (List ℕ → Output) → ℕ → Option (List ℕ) → Option (List ℕ)
@@ -71,7 +71,7 @@ abbrev pub RanOut : (List ℕ → Output) → ℕ → Option (List ℕ) → Opti
     → Option (List ℕ) → Type 0
 RanOut defined status left left' written written' = status ≡ 6
     → (script : List ℕ) × IsScript left left' script
-        × ((n : ℕ) × Appends written written' (take n (defined script).written))
+    × ((n : ℕ) × Appends written written' (take n (defined script).written))
 
 -- all of this, and that no count of faults fell
 pub record Outcome (defined : List ℕ → Output) (status : ℕ)
@@ -88,7 +88,7 @@ pub record Outcome (defined : List ℕ → Output) (status : ℕ)
 abbrev pub ReplayOutcome : Stream → Stream → Stream → Stream → ℕ → Type 0
 ReplayOutcome input input' output output' status =
     Outcome replayed status input.told input'.told output.told output'.told input.faults
-        input'.faults output.faults output'.faults
+    input'.faults output.faults output'.faults
 
 -- the last bytes were written, or the output failed in the midst of them
 abbrev pub Last : ℕ → List ℕ → ℕ → Option (List ℕ) → Option (List ℕ) → ℕ → ℕ → Type 0
@@ -102,7 +102,7 @@ Finishes Ended result said written written' faults faults' =
     Last 0 (said ++ []) result written written' faults faults'
 Finishes (Refused place) result said written written' faults faults' =
     Last 7 (said ++ refused_line place) result written written' faults faults'
-        ⊎ Last 6 (said ++ []) result written written' faults faults'
+    ⊎ Last 6 (said ++ []) result written written' faults faults'
 Finishes InputFault result said written written' faults faults' =
     Last 4 (said ++ fault_line) result written written' faults faults'
 Finishes OutputFault result said written written' faults faults' =

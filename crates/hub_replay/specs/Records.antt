@@ -18,8 +18,12 @@ is_fed (Some b) = b == 10
 -- refused where LF stands there
 abbrev pub long_turn : ℕ → ℕ → Hub → List ℕ → Option Turn
 long_turn end count hub bytes = only_if (is_fed (slice_get bytes end))
-    (record { said = reply_line (Err (LongCause count)); hub = record hub { begun = true };
-        rest = drop (end + 1) bytes; ended = false })
+    (record {
+      said = reply_line (Err (LongCause count));
+      hub = record hub { begun = true };
+      rest = drop (end + 1) bytes;
+      ended = false;
+    })
 
 -- the record of a message for a feed, once its payload is there
 abbrev pub numbered_turn : Hub → ℕ → Option (List ℕ × List ℕ) → Option Turn
@@ -37,11 +41,11 @@ pub record Did (turned : List ℕ → Option Turn) (new : Hub) (bytes said said'
 
 -- a record ends the script, whatever follows
 pub record Ended (turned : List ℕ → Option Turn) (old new : Hub) (said said' : List ℕ) : Type 0
-    where
-  pub says : said' ≡ said
-  pub rest : List ℕ → List ℕ
-  pub is : (more : List ℕ) → turned more ≡ Some
-      (record { said = []; hub = old; rest = rest more; ended = true })
+  where
+    pub says : said' ≡ said
+    pub rest : List ℕ → List ℕ
+    pub is : (more : List ℕ) → turned more ≡ Some
+        (record { said = []; hub = old; rest = rest more; ended = true })
 
 -- nothing was done
 pub record Waits (old new : Hub) (said said' : List ℕ) : Type 0 where
@@ -58,7 +62,7 @@ Does turned waiting Short old new bytes said said' =
     Waits old new said said' × (turned [] ≡ None) × (waiting [] ≡ true)
 Does turned waiting (Long end count) old new bytes said said' =
     Waits old new said said' × ((more : List ℕ)
-        → turned more ≡ long_turn end count old (bytes ++ more))
+    → turned more ≡ long_turn end count old (bytes ++ more))
     × ((more : List ℕ) → length (bytes ++ more) ≤ end → waiting more ≡ true)
 Does turned waiting Refused old new bytes said said' =
     (said' ≡ said) × ((more : List ℕ) → turned more ≡ None)
@@ -68,13 +72,13 @@ Does turned waiting NoMemory old new bytes said said' = (extra : List ℕ) × (s
 abbrev pub Turns : Step → Hub → Hub → List ℕ → List ℕ → List ℕ → Type 0
 Turns step old new bytes said said' =
     Does (λ more. turn old (bytes ++ more)) (λ more. waits old (bytes ++ more)) step old new bytes
-        said said'
+    said said'
 
 -- of the record of a line, behind which the bytes from a place on stand
 abbrev pub Acts : Head → ℕ → Step → Hub → Hub → List ℕ → List ℕ → List ℕ → Type 0
 Acts head behind step old new bytes said said' =
     Does (λ more. act old head (drop behind bytes ++ more))
-        (λ more. payload_waits old head (drop behind bytes ++ more))
+    (λ more. payload_waits old head (drop behind bytes ++ more))
     step old new bytes said said'
 
 -- so many bytes without a line among them wait, or are no record whatever follows
@@ -106,6 +110,8 @@ abbrev pub OffersTo : {A E : Type 0} → Result A E → ℕ → List ℕ → Hub
     → Type 0
 OffersTo (Ok x) feed bytes old new said said' =
     (said' ≡ said ++ reply_line (offer_outcome feed bytes old.history).reply)
-        × (new ≡ record old { history = (offer_outcome feed bytes old.history).history;
-        begun = true })
+    × (new ≡ record old {
+      history = (offer_outcome feed bytes old.history).history;
+      begun = true;
+    })
 OffersTo (Err e) feed bytes old new said said' = (extra : List ℕ) × (said' ≡ said ++ extra)

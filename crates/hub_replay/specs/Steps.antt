@@ -23,8 +23,13 @@ pub record At : Type 0 where
   pub place : ℕ
 
 abbrev pub at : Replay → At
-at r = record { held = r.window.held; allowed = r.window.allowed; hub = r.hub; said = r.said.items;
-    place = r.place }
+at r = record {
+  held = r.window.held;
+  allowed = r.window.allowed;
+  hub = r.hub;
+  said = r.said.items;
+  place = r.place;
+}
 
 -- before the first record
 abbrev pub at_start : At
@@ -54,12 +59,18 @@ pub record Goes (old new : At) (left left' written written' : Option (List ℕ))
 -- what is to be said of an ending, where `told` was printed since and `more` read
 abbrev pub EndsAs : HowEnded → At → List ℕ → List ℕ → Option (List ℕ) → Type 0
 EndsAs Ended old more told left' = (rest : List ℕ) → (taken : ℕ)
-    × (run old.hub (old.held ++ (more ++ rest)) ≡ record { out = told; taken = taken;
-    ended = true })
+    × (run old.hub (old.held ++ (more ++ rest)) ≡ record {
+      out = told;
+      taken = taken;
+      ended = true;
+    })
 EndsAs (Refused place) old more told left' =
     (old.place ≤ place)
     × (run old.hub (old.held ++ (more ++ remaining left' (old.allowed - length more))) ≡ record {
-        out = told; taken = place - old.place; ended = false })
+      out = told;
+      taken = place - old.place;
+      ended = false;
+    })
 EndsAs InputFault old more told left' =
     ((run old.hub (old.held ++ more)).out ≡ told) × (is_open old.hub (old.held ++ more) ≡ true)
 EndsAs OutputFault old more told left' = Unit {0}
@@ -95,7 +106,7 @@ abbrev pub Advances : Option HowEnded → At → At → Option (List ℕ) → Op
     → Option (List ℕ) → Option (List ℕ) → Type 0
 Advances None old new left left' written written' =
     Goes old new left left' written written'
-        × (2 * new.allowed + length new.held < 2 * old.allowed + length old.held)
+    × (2 * new.allowed + length new.held < 2 * old.allowed + length old.held)
 Advances (Some ending) old new left left' written written' =
     Leaves ending old new.said left left' written written'
 
@@ -158,7 +169,7 @@ RefusesLong None end count old new =
 RefusesLong (Some Ended) end count old new = ⊥
 RefusesLong (Some (Refused place)) end count old new =
     (place ≡ old.place) × (new.said ≡ old.said) × (new.allowed ≡ old.allowed)
-        × (is_fed (slice_get old.held 0) ≡ false)
+    × (is_fed (slice_get old.held 0) ≡ false)
 RefusesLong (Some InputFault) end count old new = ⊥
 RefusesLong (Some OutputFault) end count old new = ⊥
 RefusesLong (Some NoMemory) end count old new = (new.said ≡ []) × (new.allowed ≡ old.allowed)

@@ -5,11 +5,11 @@ ghost use Rattle.script_defs.specs.Output.{refused_line};
 ghost use Rattle.hub_replay.specs.Outcome.{ReplayOutcome, Last, Finishes};
 ghost use Rattle.hub_outside.specs.Outside.{stream};
 
+use crate::NoMemory;
 use crate::running::do_all;
 use crate::statuses::{DONE, FAULT, NO_MEMORY, OUTPUT_FAULT, REFUSED_SCRIPT};
 use crate::steps::{Ending, Replay};
 use hub_outside::{OutputFault, Sink, Source, write_all};
-use crate::NoMemory;
 use std::alloc::Global;
 
 /// Replays the script on the input: does its records in order, and writes what they print. Gives

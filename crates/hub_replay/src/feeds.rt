@@ -77,7 +77,7 @@ impl ScriptHub {
     pub(crate) fn feed_number(&self, name: &str) -> Option<u32>
         ensures { MatchOption result (position_from (bytes_eq name.now) 0 self.now.names ≡ None)
             (λ k. (k < length self.now.names)
-                × (position_from (bytes_eq name.now) 0 self.now.names ≡ Some k)) }
+            × (position_from (bytes_eq name.now) 0 self.now.names ≡ Some k)) }
     {
         let place = match &self.state {
             ScriptState::Declaring(names) => feed_place(names, name),

@@ -30,8 +30,8 @@ pub enum Line<'a> {
 pub(crate) fn line_end(bytes: &[u8]) -> Option<usize>
     ensures { MatchOption result (line_within longest_line bytes.now ≡ None)
         (λ k. (k < length bytes.now) × (k < longest_line)
-            × (line_within longest_line bytes.now ≡ Some
-            (take k bytes.now, drop (k + 1) bytes.now))) }
+        × (line_within longest_line bytes.now ≡ Some
+        (take k bytes.now, drop (k + 1) bytes.now))) }
 {
     line_feed_place(&bytes[..bytes.len().min(LONGEST_LINE)])
 }

@@ -5,10 +5,10 @@ ghost use Rattle.text_defs.specs.Cleaned.{line_feed};
 ghost use Rattle.script_defs.specs.Record.Head.{Feed, Message, Combined};
 ghost use Rattle.hub_replay.specs.Records.{Turns, Acts, LacksLine, Says, OffersTo};
 
+use crate::NoMemory;
 use crate::feeds::ScriptHub;
 use crate::lines::{LONGEST_LINE, Line, line_end, parse_line};
 use crate::replies::reply_line;
-use crate::NoMemory;
 use std::alloc::Global;
 
 /// The most bytes of a message that is looked at; a longer one is refused unseen.

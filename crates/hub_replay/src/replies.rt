@@ -8,9 +8,9 @@ ghost use Rattle.text_defs.specs.Cleaned.{line_feed, cleaned_text};
 ghost use Rattle.script_defs.specs.Texts.{what_word, kind_name};
 ghost use Rattle.hub_replay.specs.Records.{IsReplyLine};
 
+use crate::NoMemory;
 use hub_core::Refusal;
 use rt_types::{Kind, What};
-use crate::NoMemory;
 use std::alloc::Global;
 use texts::push_cleaned;
 

@@ -8,12 +8,12 @@ ghost use Rattle.hub_replay.specs.Window.{HasRefillCause};
 ghost use Rattle.hub_replay.specs.Records.{long_turn, Says};
 ghost use Rattle.hub_replay.specs.Steps.{at, at_start, place_sum, Advances, HasCause, Skips, Flushes, RefusesLong};
 
+use crate::NoMemory;
 use crate::feeds::ScriptHub;
 use crate::records::{Step, byte_at, do_record, say};
 use crate::replies::too_long_line;
 use crate::window::{Refill, Window};
 use hub_outside::{OutputFault, Sink, Source, write_all};
-use crate::NoMemory;
 use std::alloc::Global;
 
 /// So many bytes are written at once where more wait.

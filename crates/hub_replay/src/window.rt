@@ -3,8 +3,8 @@ ghost use Rattle.std.specs.Prelude.{◌≡◌, ◌≤◌, ◌<◌, ◌+◌, ℕ,
 ghost use Rattle.hub_outside.specs.Source.{IsReadWithin, TakesBytes, HasReadCause};
 ghost use Rattle.hub_replay.specs.Window.{Windowed, fresh, Refills, HasRefillCause};
 
-use hub_outside::{ReadAnswer, Source};
 use crate::NoMemory;
+use hub_outside::{ReadAnswer, Source};
 use std::alloc::Global;
 use std::marker::Model;
 
@@ -42,8 +42,11 @@ impl Model for Window {
 
     ghost Value = { Windowed };
 
-    ghost view = { λ w. record { held = take (w.end - w.start) (drop w.start w.bytes.items);
-        allowed = w.allowed; room = vec_len w.bytes - w.end } };
+    ghost view = { λ w. record {
+      held = take (w.end - w.start) (drop w.start w.bytes.items);
+      allowed = w.allowed;
+      room = vec_len w.bytes - w.end;
+    } };
 
     ghost invariant = { λ w. (w.start ≤ w.end) × (w.end ≤ vec_len w.bytes) };
 }

@@ -74,8 +74,13 @@ takes_words fs (word ∷ args) = option_map_or (λ f. fits f.positionals args) (
 
 -- the words, each under its positional's id
 abbrev pub given_row : List ℕ → List ℕ → Row
-given_row id word = record { id = id; values = word ∷ []; count = None; source = Some CommandLine;
-    reading = reading_of vp.String }
+given_row id word = record {
+  id = id;
+  values = word ∷ [];
+  count = None;
+  source = Some CommandLine;
+  reading = reading_of vp.String;
+}
 
 abbrev pub given : List Row → List Positional → List (List ℕ) → List Row
 given rows [] ws = rows
@@ -94,7 +99,7 @@ abbrev pub named : List ℕ → List Row → Option Command
 named name rows =
     if bytes_eq name (codes "replay") then Some Replay
     else (if bytes_eq name (codes "check") then option_map Check (first_of (codes "config") rows)
-        else None)
+    else None)
 
 abbrev pub command_in : Option (List ℕ × List Row) → Option Command
 command_in None = None

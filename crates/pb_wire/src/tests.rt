@@ -1,3 +1,5 @@
+//! Fields with their places, faults, groups and writing, each with bytes from outside.
+
 use super::*;
 use std::process::Abort;
 use std::test::*;

@@ -88,9 +88,9 @@ module _ (xs ys : List Visit) (t : ℕ) (apart : AreApart xs (length xs)) (sorte
         let le = (kept_pairs (λ (x y : Visit). x.sequence ≤ y.sequence) (λ v. v.trip == t) ys (pairs_rise (λ (x : Visit). x.sequence) ys sorted.sorted)).at i j v w l a b in
         elim (cases_order v.sequence w.sequence) as (λ _. v.sequence < w.sequence) [
           | inl same ↦
-            let two = two_kept (λ (x : Visit). x.sequence == v.sequence) (own_of t ys) i j v w l a b (equal_is v.sequence v.sequence refl) (equal_is w.sequence v.sequence (sym same)) in
-            let one = subst (λ zs. length zs ≤ 1) (same_at v.sequence) (one_at v.sequence) in
-            absurd (omega (arith, two, one))
+              let two = two_kept (λ (x : Visit). x.sequence == v.sequence) (own_of t ys) i j v w l a b (equal_is v.sequence v.sequence refl) (equal_is w.sequence v.sequence (sym same)) in
+              let one = subst (λ zs. length zs ≤ 1) (same_at v.sequence) (one_at v.sequence) in
+              absurd (omega (arith, two, one))
           | inr other ↦ elim other as (λ _. v.sequence < w.sequence) [
             | inl before ↦ before
             | inr behind ↦ let h = le.0 in absurd (omega (arith, h, behind))

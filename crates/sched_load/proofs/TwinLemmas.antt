@@ -46,11 +46,11 @@ ends_more ends visits n trips visit h at within low = record {
   rising = λ i j v w l m a b same. elim (cases_lt j n) as (λ _. v.sequence < w.sequence) [
     | inl before ↦ h.rising i j v w l before a b same
     | inr here ↦
-      let is : visit ≡ w = same_visit visits n j visit w (omega (arith, m, here)) at b in
-      let e : v.trip ≡ visit.trip = same ∙ ap (λ z. z.trip) (sym is) in
-      let less = subst (λ t. v.sequence < get_or ends t 0) e (h.below i v (omega (arith, l, m, here)) a) in
-      let f : visit.sequence ≡ w.sequence = ap (λ z. z.sequence) is in
-      omega (arith, less, low, f)
+        let is : visit ≡ w = same_visit visits n j visit w (omega (arith, m, here)) at b in
+        let e : v.trip ≡ visit.trip = same ∙ ap (λ z. z.trip) (sym is) in
+        let less = subst (λ t. v.sequence < get_or ends t 0) e (h.below i v (omega (arith, l, m, here)) a) in
+        let f : visit.sequence ≡ w.sequence = ap (λ z. z.sequence) is in
+        omega (arith, less, low, f)
   ];
   below = λ k v l a. elim (cases_lt k n) as (λ _. v.sequence < get_or (set ends visit.trip (visit.sequence + 1)) v.trip 0) [
     | inl before ↦ kept k v before a (cases_order v.trip visit.trip)
@@ -131,10 +131,12 @@ module _ (seen : List (ℕ × Unit {0})) (visits : List Visit) (n : ℕ) (visit 
         ap (λ es. is_some (entries.find nat_cmp q es)) is ∙ ap is_some (find-put nat_cmp nat_cmp_total q (visit_key visit) tt seen)
         ∙ either q (eq_by_cmp nat_cmp q (visit_key visit)) (turned q (visit_key visit))
         ∙ sym (any_more (λ v. visit_key v == q) n visits visit at);
-    apart = record { apart = λ k w l a. elim (cases_lt k n) as (λ _. has_twin visits k w ≡ false) [
-      | inl before ↦ h.apart.apart k w before a
-      | inr here ↦ let k_is : n ≡ k = omega (arith, l, here) in subst (λ m. slice_get visits m ≡ Some w → has_twin visits m w ≡ false) k_is (λ b. ap (has_twin visits n) (same_visit visits n n w visit refl b at) ∙ twin_found ∙ e ∙ f) a
-    ] };
+    apart = record {
+      apart = λ k w l a. elim (cases_lt k n) as (λ _. has_twin visits k w ≡ false) [
+        | inl before ↦ h.apart.apart k w before a
+        | inr here ↦ let k_is : n ≡ k = omega (arith, l, here) in subst (λ m. slice_get visits m ≡ Some w → has_twin visits m w ≡ false) k_is (λ b. ap (has_twin visits n) (same_visit visits n n w visit refl b at) ∙ twin_found ∙ e ∙ f) a
+      ];
+    };
     fit = λ k v l a. elim (cases_lt k n) as (λ _. v.sequence < 4294967296) [
       | inl before ↦ h.fit k v before a
       | inr here ↦ subst (λ z. z.sequence < 4294967296) (same_visit visits n k visit v (omega (arith, l, here)) at a) small

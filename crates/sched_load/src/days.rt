@@ -4,7 +4,6 @@ ghost use Rattle.std.specs.Prelude.{◌≡◌, ◌≤◌, ℕ, IsTrue, IfOk, IfS
 ghost use Rattle.std.specs.List.{range_with_len};
 ghost use Rattle.text_defs.specs.Dates.{date_plus, day_number, is_day};
 ghost use Rattle.load_defs.specs.Services.{flags_of, is_active_by};
-ghost use Rattle.std.specs.Bool.{OnTrue};
 ghost use Rattle.gtfs_rows.specs.declared.rows.CalendarRow.{CalendarRow};
 ghost use Rattle.service_day.specs.Zone.{base_of};
 ghost use Rattle.sched_types.specs.Timetable.{IsSmall};
@@ -17,9 +16,9 @@ use crate::table::Table;
 use gtfs_rows::CalendarRow;
 use sched_types::PlanName;
 use service_day::{Exception, Zone, active, base};
-use texts::day_after;
 use std::alloc::{AllocError, Global};
 use std::collections::BTreeMap;
+use texts::day_after;
 
 /// The weekdays on which a service runs, one bit each, Monday's the lowest.
 fn flags_of(row: &CalendarRow) -> u8
@@ -116,13 +115,6 @@ pub(crate) fn active_lists(
     Ok(lists)
 }
 
-/// Whether an instant is within a trillion seconds of the epoch.
-fn is_small(seconds: i64) -> bool
-    ensures { OnTrue result (IsSmall seconds) }
-{
-    -999_999_999_999 <= seconds && seconds <= 1_000_000_000_000
-}
-
 /// The instant from which the times of a day are counted.
 fn base_of(zone: &Zone, date: u32) -> Result<i64, AllocError>
     requires valid { IsTrue (is_day date) }
@@ -130,12 +122,7 @@ fn base_of(zone: &Zone, date: u32) -> Result<i64, AllocError>
     ensures value { IfOk result (λ seconds. seconds ≡ base_of zone.now date) }
     ensures small { IfOk result IsSmall }
 {
-    let seconds = base(zone, date)?;
-    if is_small(seconds) {
-        return Ok(seconds);
-    }
-    // No date up to the year 3001 has such an instant in any zone.
-    Err(AllocError)
+    base(zone, date)
 }
 
 /// The instants from which the times of the window's days are counted.

@@ -5,8 +5,8 @@ ghost use Rattle.answer_defs.specs.Defined.{AsDefined};
 ghost use Rattle.gtfs_rows.specs.Files.{cause_of, items_of, rows_of};
 
 use gtfs_rows::{
-    AgencyRow, CalendarRow, ExceptionRow, RouteRow, RowFault, StopRow, TripRow,
-    read_agencies, read_calendar, read_exceptions, read_routes, read_stops, read_trips,
+    AgencyRow, CalendarRow, ExceptionRow, RouteRow, RowFault, StopRow, TripRow, read_agencies,
+    read_calendar, read_exceptions, read_routes, read_stops, read_trips,
 };
 use load_defs::File;
 use std::alloc::Global;

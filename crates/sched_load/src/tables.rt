@@ -20,9 +20,7 @@ use crate::rows::IdRow;
 use crate::services::{group_exceptions, service_ids};
 use crate::table::Table;
 use crate::visits::{Visit, arrange};
-use gtfs_rows::{
-    AgencyRow, CalendarRow, Column, ExceptionRow, RouteRow, StopRow, TripRow,
-};
+use gtfs_rows::{AgencyRow, CalendarRow, Column, ExceptionRow, RouteRow, StopRow, TripRow};
 use hub_outside::Files;
 use load_defs::{File, LoadFault};
 use sched_types::PlanName;

@@ -63,7 +63,10 @@ fn first_twin(alloc: Global, visits: &[Visit]) -> Result<Option<usize>, AllocErr
 {
     let mut seen = BTreeMap::new(alloc);
     for (place, visit) in visits.iter().enumerate() {
-        if seen.insert(key_of(visit.trip, visit.sequence), ())?.is_some() {
+        if seen
+            .insert(key_of(visit.trip, visit.sequence), ())?
+            .is_some()
+        {
             return Ok(Some(place));
         }
     }

@@ -3,8 +3,8 @@ ghost use Rattle.std.specs.Prelude.{◌≡◌, ◌+◌, ◌<◌, IsTrue, IfOk, m
 ghost use Rattle.std.specs.List.{range_with_len};
 ghost use Rattle.text_defs.specs.Dates.{is_day, day_number, date_plus};
 
-use texts::day_after;
 use std::alloc::{AllocError, Global};
+use texts::day_after;
 
 /// So many dates one after another, as the numbers of eight digits YYYYMMDD.
 pub(crate) fn dates_from(alloc: Global, first: u32, count: usize) -> Result<Vec<u32>, AllocError>

@@ -2,8 +2,8 @@
 ghost use Rattle.std.specs.Prelude.{◌≡◌, ℕ, ◌^◌, ◌<◌, length, List, IfSome};
 ghost use Rattle.sched_types.specs.Timetable.{RisesById, number_of};
 
-use texts::ShortText as PlanName;
 use crate::rows::{Route, Stop, Trip};
+use texts::ShortText as PlanName;
 
 /// A row that has an id.
 pub(crate) trait Row {

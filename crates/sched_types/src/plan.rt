@@ -11,12 +11,11 @@ ghost use Rattle.sched_types.specs.Parts.{table_of};
 use crate::children::children_lists;
 use crate::dates::dates_from;
 use crate::departures::{Departure, by_departure, departing};
-use texts::ShortText as PlanName;
 use crate::numbers::number_by_id;
 use crate::rows::{Counts, Place, PlanParts, Route, Run, Stop, Trip};
-use texts::{day_number, is_valid_date};
 use std::alloc::{AllocError, Global};
 use std::marker::Model;
+use texts::{ShortText as PlanName, day_number, is_valid_date};
 
 /// A trip with fewer places has no run.
 const PLACES_OF_A_RUN: usize = 2;

@@ -2,9 +2,9 @@
 ghost use Rattle.std.specs.Prelude.{◌≡◌};
 ghost use Rattle.sched_types.specs.Schedules.{Schedules, AreSchedules};
 
-use texts::ShortText as PlanName;
 use crate::plan::Plan;
 use std::marker::Model;
+use texts::ShortText as PlanName;
 
 /// A timetable, with its name and the prefix that its ids get where feeds are combined.
 #[derive(Drop)]

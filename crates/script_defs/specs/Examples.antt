@@ -59,9 +59,9 @@ accepted count = line (codes "accepted " ++ decimal count)
 pub messages_are_fed :
     (replayed (script (offer (header 0 5) ++ plain)) ≡ done (accepted 1 ++ feed (header 0 5)))
     × (replayed
-        (script (offer (0x0a ∷ 0x05 ∷ 0x0a ∷ 0x03 ∷ codes "2.0" ++ 0x0a ∷ 0x02 ∷ 0x18 ∷ 0x05 ∷ [])
-        ++ plain))
-        ≡ done (accepted 1 ++ feed (header 0 5)))
+    (script (offer (0x0a ∷ 0x05 ∷ 0x0a ∷ 0x03 ∷ codes "2.0" ++ 0x0a ∷ 0x02 ∷ 0x18 ∷ 0x05 ∷ [])
+    ++ plain))
+    ≡ done (accepted 1 ++ feed (header 0 5)))
     × (replayed (script plain) ≡ done (feed (header 0 0)))
     × (replayed (script (line (codes "O city"))) ≡ done (line (codes "feed none")))
 unfolding is_utf8 chars digits encode groups_at varint_at span_at tag_at wire_payload_at field_with behind_end group_at field_at fields_within fields_of groups varint payload_bytes field_bytes occurrences_of last_of unknown_bytes_of fields_of_all value message_bytes merged_message values numbered_values read write well_formed messages_of since_full changes_by_id entities_of newest_stamp combined line_within words_of head_of payload_at turn run_within run replayed is_name number waits is_open_within is_open
@@ -71,26 +71,26 @@ messages_are_fed = (refl, refl, refl, refl)
 -- message deletes is gone
 pub entities_are_named :
     (replayed (script (offer (header 0 5 ++ entity (id (codes "x"))) ++ plain))
-        ≡ done (accepted 1 ++ feed (header 0 5 ++ entity (id (codes "a:x")))))
+    ≡ done (accepted 1 ++ feed (header 0 5 ++ entity (id (codes "a:x")))))
     × (replayed (script (offer (header 0 5 ++ entity (id (codes "x") ++ 0x4a ∷ 0x02 ∷ codes "hi"))
-        ++ plain))
-        ≡ done (accepted 1 ++ feed (header 0 5
-            ++ entity (id (codes "a:x") ++ 0x4a ∷ 0x02 ∷ codes "hi"))))
+    ++ plain))
+    ≡ done (accepted 1 ++ feed (header 0 5
+    ++ entity (id (codes "a:x") ++ 0x4a ∷ 0x02 ∷ codes "hi"))))
     × (replayed
-        (script (offer (header 1 5 ++ entity (id (codes "x"))
-        ++ entity (id (codes "x") ++ 0x10 ∷ 0x01 ∷ [])) ++ plain))
-        ≡ done (accepted 1 ++ feed (header 0 5)))
+    (script (offer (header 1 5 ++ entity (id (codes "x"))
+    ++ entity (id (codes "x") ++ 0x10 ∷ 0x01 ∷ [])) ++ plain))
+    ≡ done (accepted 1 ++ feed (header 0 5)))
 unfolding is_utf8 chars digits encode groups_at varint_at span_at tag_at wire_payload_at field_with behind_end group_at field_at fields_within fields_of groups varint payload_bytes field_bytes occurrences_of last_of unknown_bytes_of fields_of_all value message_bytes merged_message values numbered_values read write well_formed messages_of since_full changes_by_id entities_of newest_stamp combined line_within words_of head_of payload_at turn run_within run replayed is_name number waits is_open_within is_open
 entities_are_named = (refl, refl, refl)
 
 -- a whole data set takes the place of all before it
 pub full_starts_anew :
     replayed (script (offer (header 1 1 ++ entity (id (codes "p")))
-        ++ offer (header 1 2 ++ entity (id (codes "q")))
-        ++ offer (header 1 3 ++ entity (id (codes "r")))
-            ++ offer (header 0 4 ++ entity (id (codes "s"))) ++ plain))
+    ++ offer (header 1 2 ++ entity (id (codes "q")))
+    ++ offer (header 1 3 ++ entity (id (codes "r")))
+    ++ offer (header 0 4 ++ entity (id (codes "s"))) ++ plain))
     ≡ done (accepted 1 ++ accepted 2 ++ accepted 3 ++ accepted 4
-        ++ feed (header 0 4 ++ entity (id (codes "a:s"))))
+    ++ feed (header 0 4 ++ entity (id (codes "a:s"))))
 unfolding is_utf8 chars digits encode groups_at varint_at span_at tag_at wire_payload_at field_with behind_end group_at field_at fields_within fields_of groups varint payload_bytes field_bytes occurrences_of last_of unknown_bytes_of fields_of_all value message_bytes merged_message values numbered_values read write well_formed messages_of since_full changes_by_id entities_of newest_stamp combined line_within words_of head_of payload_at turn run_within run replayed is_name number waits is_open_within is_open
 full_starts_anew = refl
 
@@ -98,25 +98,25 @@ full_starts_anew = refl
 -- no stamp
 pub messages_are_refused :
     (replayed (script (offer (header 0 5) ++ offer (header 0 5))) ≡ done (accepted 1
-        ++ line (codes "refused stale 5 5")))
+    ++ line (codes "refused stale 5 5")))
     × (replayed
-        (script (offer (0x0a ∷ 0x09 ∷ 0x0a ∷ 0x03 ∷ codes "3.0" ++ 0x10 ∷ 0x00 ∷ 0x18 ∷ 0x05 ∷ [])))
-        ≡ done (line (codes "refused version 3.0")))
+    (script (offer (0x0a ∷ 0x09 ∷ 0x0a ∷ 0x03 ∷ codes "3.0" ++ 0x10 ∷ 0x00 ∷ 0x18 ∷ 0x05 ∷ [])))
+    ≡ done (line (codes "refused version 3.0")))
     × (replayed
-        (script (offer (0x0a ∷ 0x09 ∷ 0x0a ∷ 0x03 ∷ 0x0a ∷ 0x7f ∷ 0x30 ∷ 0x10 ∷ 0x00 ∷ 0x18 ∷ 0x05
-        ∷ [])))
-        ≡ done (line (codes "refused version   0")))
+    (script (offer (0x0a ∷ 0x09 ∷ 0x0a ∷ 0x03 ∷ 0x0a ∷ 0x7f ∷ 0x30 ∷ 0x10 ∷ 0x00 ∷ 0x18 ∷ 0x05
+    ∷ [])))
+    ≡ done (line (codes "refused version   0")))
     × (replayed (script (offer (0x0a ∷ 0x05 ∷ 0x0a ∷ 0x03 ∷ codes "2.0"))) ≡ done
-        (line (codes "refused stamp 0")))
+    (line (codes "refused stamp 0")))
 unfolding is_utf8 chars digits encode groups_at varint_at span_at tag_at wire_payload_at field_with behind_end group_at field_at fields_within fields_of groups varint payload_bytes field_bytes occurrences_of last_of unknown_bytes_of fields_of_all value message_bytes merged_message values numbered_values read write well_formed messages_of since_full changes_by_id entities_of newest_stamp combined line_within words_of head_of payload_at turn run_within run replayed is_name number waits is_open_within is_open
 messages_are_refused = (refl, refl, refl, refl)
 
 -- faults tell the entity that they are in, and change nothing
 pub faults_are_named :
     replayed (script (offer (header 0 5 ++ entity (0x0a ∷ 0x01 ∷ []))
-        ++ offer (header 0 5 ++ 0x12 ∷ 0x03 ∷ 0x0a ∷ 0x01 ∷ []) ++ offer (header 0 5)))
+    ++ offer (header 0 5 ++ 0x12 ∷ 0x03 ∷ 0x0a ∷ 0x01 ∷ []) ++ offer (header 0 5)))
     ≡ done (line (codes "refused malformed 1 cut FeedEntity 0")
-        ++ line (codes "refused malformed 0 cut FeedMessage 0") ++ accepted 1)
+    ++ line (codes "refused malformed 0 cut FeedMessage 0") ++ accepted 1)
 unfolding is_utf8 chars digits encode groups_at varint_at span_at tag_at wire_payload_at field_with behind_end group_at field_at fields_within fields_of groups varint payload_bytes field_bytes occurrences_of last_of unknown_bytes_of fields_of_all value message_bytes merged_message values numbered_values read write well_formed messages_of since_full changes_by_id entities_of newest_stamp combined line_within words_of head_of payload_at turn run_within run replayed is_name number waits is_open_within is_open
 faults_are_named = refl
 

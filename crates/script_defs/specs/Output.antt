@@ -18,16 +18,22 @@ pub record Run : Type 0 where
 
 -- a run behind a record that printed and took something
 abbrev pub behind : List ℕ → ℕ → Run → Run
-behind said taken run = record { out = said ++ run.out; taken = taken + run.taken;
-    ended = run.ended }
+behind said taken run = record {
+  out = said ++ run.out;
+  taken = taken + run.taken;
+  ended = run.ended;
+}
 
 -- at most so many records, from the front of the bytes
 unfoldable pub run_within : ℕ → Hub → List ℕ → Run
 run_within zero hub bytes = record { out = []; taken = 0; ended = false }
 run_within (suc most) hub bytes = elim (turn hub bytes) [
   | None ↦ record { out = []; taken = 0; ended = false }
-  | Some t ↦ if t.ended then record { out = t.said; taken = length bytes - length t.rest;
-      ended = true }
+  | Some t ↦ if t.ended then record {
+    out = t.said;
+    taken = length bytes - length t.rest;
+    ended = true;
+  }
       else behind t.said (length bytes - length t.rest) (run_within most t.hub t.rest)
 ]
 

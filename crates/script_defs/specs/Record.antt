@@ -110,8 +110,12 @@ may_declare hub name = not hub.begun && is_name name && not (list_any (bytes_eq 
 
 abbrev pub declaration_turn : Hub → List ℕ → List ℕ → Option Turn
 declaration_turn hub name rest =
-    only_if (may_declare hub name) (record { said = [];
-    hub = record hub { names = hub.names ++ name ∷ [] }; rest = rest; ended = false })
+    only_if (may_declare hub name) (record {
+      said = [];
+      hub = record hub { names = hub.names ++ name ∷ [] };
+      rest = rest;
+      ended = false;
+    })
 
 -- the payload of a message: so many bytes and one LF behind them
 unfoldable pub payload_at : ℕ → List ℕ → Option (List ℕ × List ℕ)
@@ -123,8 +127,12 @@ payload_at n bytes = only_if (unwrap_eq (slice_get bytes n)) (take n bytes, drop
 
 abbrev pub offered_turn : Hub → ℕ → List ℕ × List ℕ → Turn
 offered_turn hub feed (bytes, rest) = let after =
-    offer_outcome feed bytes hub.history in record { said = reply_line after.reply;
-    hub = record hub { history = after.history; begun = true }; rest = rest; ended = false }
+    offer_outcome feed bytes hub.history in record {
+      said = reply_line after.reply;
+      hub = record hub { history = after.history; begun = true };
+      rest = rest;
+      ended = false;
+    }
 
 -- the record of a line, with the bytes behind the line
 abbrev pub act : Hub → Head → List ℕ → Option Turn
@@ -132,8 +140,12 @@ act hub (Feed name) rest = declaration_turn hub name rest
 act hub (Message feed n) rest = position_from (bytes_eq feed) 0 hub.names >>= λ k.
     payload_at n rest >>= λ found. Some (offered_turn hub k found)
 act hub (Combined schedule) rest =
-    Some (record { said = feed_reply hub schedule; hub = record hub { begun = true }; rest = rest;
-    ended = false })
+    Some (record {
+      said = feed_reply hub schedule;
+      hub = record hub { begun = true };
+      rest = rest;
+      ended = false;
+    })
 act hub End rest = Some (record { said = []; hub = hub; rest = rest; ended = true })
 
 -- the whole record in front, if there is one

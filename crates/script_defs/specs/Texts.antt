@@ -43,7 +43,7 @@ kind_name kind.TripDescriptor = codes "TripDescriptor"
 abbrev pub fault_words : Fault → List ℕ
 fault_words fault =
     decimal fault.entity ++ codes " " ++ what_word fault.what ++ codes " " ++ kind_name fault.kind
-        ++ codes " " ++ decimal fault.field
+    ++ codes " " ++ decimal fault.field
 
 -- why a message was refused
 abbrev pub refusal_words : Refusal → List ℕ

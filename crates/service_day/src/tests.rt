@@ -2,7 +2,7 @@
 use super::*;
 use std::process::Abort;
 use std::test::Fail;
-use texts::is_valid_date;
+use texts::{date_plus, day_after, day_number, is_valid_date};
 
 /// The base of a day in the zone of that rule.
 fn base_in(rt: &impl Abort, rule: &str, date: u32) -> Result<i64, Fail> {

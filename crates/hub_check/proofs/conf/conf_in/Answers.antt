@@ -1,5 +1,5 @@
 -- A configuration's schedules have windows that can be loaded.
-use Rattle.hub_config.proofs.ConfLaws.{conf_windows}
+use Rattle.conf_defs.proofs.ConfLaws.{conf_windows}
 use Rattle.hub_check.proofs.conf.conf_in.Goals as goal
 
 pub returns-in-Ok-clause-windows : goal.returns-in-Ok-clause-windows

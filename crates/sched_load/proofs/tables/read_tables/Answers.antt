@@ -120,34 +120,34 @@ pub returns-clause-reads : goal.returns-clause-reads
 returns-clause-reads g c =
     let services = rw (c.rows.ensures, c.rows-2.ensures, c.deref.ensures.value) at c.in_ok-services.ensures in (
       c.in_ok-visits.ensures.reads.0,
-    record {
-      sound = record {
-        agencies_of = c.in_ok-agencies.ensures.seen;
-        stops_of = c.in_ok-stops.ensures.seen;
-        routes_of = c.in_ok-routes.ensures.seen;
-        trips_of = c.in_ok-trips.ensures.seen;
-        stop_times_of = c.in_ok-visits.ensures.reads.2;
-        calendar_of = c.in_ok-calendar.ensures.seen;
-        exceptions_of = c.in_ok-exceptions.ensures.seen;
-        agencies = c.in_ok-agencies.ensures.consistent;
-        stops = c.in_ok-stops.ensures.consistent;
-        routes = c.in_ok-routes.ensures.consistent;
-        trips = c.in_ok-trips.ensures.consistent;
-        stop_times = c.in_ok-visits.ensures.reads.3;
-        calendar = c.in_ok-calendar.ensures.consistent;
-        exceptions = rw c.deref-2.ensures.value at c.in_ok-active.ensures.0;
-      };
-      visits = c.in_ok-visits.ensures.reads.4;
-      services = services;
-      exceptions = rw (c.deref-2.ensures.value, c.deref-3.ensures.value) at c.in_ok-active.ensures.1;
-    },
-    told_same (g.F.Files.contents c.args.files.now) (λ fs. agencies_told c.args.folder.now fs >>= after_agencies c.args.folder.now fs) (λ fs. dataset_in fs c.args.folder.now) _ _ _ (λ fs. dataset_is c.args.folder.now fs)
-    (step_done (g.F.Files.contents c.args.files.now) (λ fs. agencies_told c.args.folder.now fs) (λ fs. after_agencies c.args.folder.now fs) (g.F.Files.contents c.read_table.new.files) _ _ _ c.in_ok-agencies.agencies _ c.read_table.ensures.same c.in_ok-agencies.ensures.reads
-    (step_done (g.F.Files.contents c.read_table.new.files) (λ fs. stops_told c.args.folder.now fs) (λ fs. after_stops c.args.folder.now fs c.in_ok-agencies.agencies) (g.F.Files.contents c.read_stops.new.files) _ _ _ c.in_ok-stops.stops _ c.read_stops.ensures.same c.in_ok-stops.ensures.reads
-    (step_done (g.F.Files.contents c.read_stops.new.files) (λ fs. routes_told c.args.folder.now fs c.in_ok-agencies.agencies) (λ fs. after_routes c.args.folder.now fs c.in_ok-agencies.agencies c.in_ok-stops.stops) (g.F.Files.contents c.read_table-2.new.files) _ _ _ c.in_ok-routes.routes _ c.read_table-2.ensures.same c.in_ok-routes.ensures.reads
-    (step_done (g.F.Files.contents c.read_table-2.new.files) (λ fs. trips_told c.args.folder.now fs c.in_ok-routes.routes) (λ fs. after_trips c.args.folder.now fs c.in_ok-agencies.agencies c.in_ok-stops.stops c.in_ok-routes.routes) (g.F.Files.contents c.read_table-3.new.files) _ _ _ c.in_ok-trips.trips _ c.read_table-3.ensures.same c.in_ok-trips.ensures.reads
-    (step_done (g.F.Files.contents c.read_table-3.new.files) (λ fs. times_told c.args.folder.now fs c.in_ok-trips.trips c.in_ok-stops.stops) (λ fs. after_times c.args.folder.now fs c.in_ok-agencies.agencies c.in_ok-stops.stops c.in_ok-routes.routes c.in_ok-trips.trips) (g.F.Files.contents c.arranged_visits.new.files) _ _ _ c.in_ok-visits.ensures.reads.0 _ c.arranged_visits.ensures.same c.in_ok-visits.ensures.reads.1
-    (step_done (g.F.Files.contents c.arranged_visits.new.files) (λ fs. calendar_told c.args.folder.now fs) (λ fs. after_calendar c.args.folder.now fs c.in_ok-agencies.agencies c.in_ok-stops.stops c.in_ok-routes.routes c.in_ok-trips.trips c.in_ok-visits.ensures.reads.0) (g.F.Files.contents c.read_table-4.new.files) _ _ _ c.in_ok-calendar.calendar _ c.read_table-4.ensures.same c.in_ok-calendar.ensures.reads
-    (step_done (g.F.Files.contents c.read_table-4.new.files) (λ fs. exceptions_told c.args.folder.now fs) (λ fs. after_exceptions c.args.folder.now fs c.in_ok-agencies.agencies c.in_ok-stops.stops c.in_ok-routes.routes c.in_ok-trips.trips c.in_ok-visits.ensures.reads.0 c.in_ok-calendar.calendar) (g.F.Files.contents c.read_rows.new.files) _ _ _ c.in_ok-exceptions.exceptions.items _ c.read_rows.ensures.same (step_done (g.F.Files.contents c.read_table-4.new.files) (λ fs. exceptions_rows c.args.folder.now fs) (λ fs. consistent_exceptions) (g.F.Files.contents c.read_rows.new.files) _ _ _ c.in_ok-exceptions.exceptions.items _ c.read_rows.ensures.same c.in_ok-exceptions.ensures.reads (step_value (g.F.Files.contents c.read_rows.new.files) (consistent_exceptions c.in_ok-exceptions.exceptions.items) _ c.in_ok-exceptions.exceptions.items (rw c.deref-2.ensures.value at c.in_ok-active.ensures.0)))
-    (step_value (g.F.Files.contents c.read_rows.new.files) (after_exceptions c.args.folder.now [] c.in_ok-agencies.agencies c.in_ok-stops.stops c.in_ok-routes.routes c.in_ok-trips.trips c.in_ok-visits.ensures.reads.0 c.in_ok-calendar.calendar c.in_ok-exceptions.exceptions.items) _ _ refl)))))))),
+      record {
+        sound = record {
+          agencies_of = c.in_ok-agencies.ensures.seen;
+          stops_of = c.in_ok-stops.ensures.seen;
+          routes_of = c.in_ok-routes.ensures.seen;
+          trips_of = c.in_ok-trips.ensures.seen;
+          stop_times_of = c.in_ok-visits.ensures.reads.2;
+          calendar_of = c.in_ok-calendar.ensures.seen;
+          exceptions_of = c.in_ok-exceptions.ensures.seen;
+          agencies = c.in_ok-agencies.ensures.consistent;
+          stops = c.in_ok-stops.ensures.consistent;
+          routes = c.in_ok-routes.ensures.consistent;
+          trips = c.in_ok-trips.ensures.consistent;
+          stop_times = c.in_ok-visits.ensures.reads.3;
+          calendar = c.in_ok-calendar.ensures.consistent;
+          exceptions = rw c.deref-2.ensures.value at c.in_ok-active.ensures.0;
+        };
+        visits = c.in_ok-visits.ensures.reads.4;
+        services = services;
+        exceptions = rw (c.deref-2.ensures.value, c.deref-3.ensures.value) at c.in_ok-active.ensures.1;
+      },
+      told_same (g.F.Files.contents c.args.files.now) (λ fs. agencies_told c.args.folder.now fs >>= after_agencies c.args.folder.now fs) (λ fs. dataset_in fs c.args.folder.now) _ _ _ (λ fs. dataset_is c.args.folder.now fs)
+          (step_done (g.F.Files.contents c.args.files.now) (λ fs. agencies_told c.args.folder.now fs) (λ fs. after_agencies c.args.folder.now fs) (g.F.Files.contents c.read_table.new.files) _ _ _ c.in_ok-agencies.agencies _ c.read_table.ensures.same c.in_ok-agencies.ensures.reads
+          (step_done (g.F.Files.contents c.read_table.new.files) (λ fs. stops_told c.args.folder.now fs) (λ fs. after_stops c.args.folder.now fs c.in_ok-agencies.agencies) (g.F.Files.contents c.read_stops.new.files) _ _ _ c.in_ok-stops.stops _ c.read_stops.ensures.same c.in_ok-stops.ensures.reads
+          (step_done (g.F.Files.contents c.read_stops.new.files) (λ fs. routes_told c.args.folder.now fs c.in_ok-agencies.agencies) (λ fs. after_routes c.args.folder.now fs c.in_ok-agencies.agencies c.in_ok-stops.stops) (g.F.Files.contents c.read_table-2.new.files) _ _ _ c.in_ok-routes.routes _ c.read_table-2.ensures.same c.in_ok-routes.ensures.reads
+          (step_done (g.F.Files.contents c.read_table-2.new.files) (λ fs. trips_told c.args.folder.now fs c.in_ok-routes.routes) (λ fs. after_trips c.args.folder.now fs c.in_ok-agencies.agencies c.in_ok-stops.stops c.in_ok-routes.routes) (g.F.Files.contents c.read_table-3.new.files) _ _ _ c.in_ok-trips.trips _ c.read_table-3.ensures.same c.in_ok-trips.ensures.reads
+          (step_done (g.F.Files.contents c.read_table-3.new.files) (λ fs. times_told c.args.folder.now fs c.in_ok-trips.trips c.in_ok-stops.stops) (λ fs. after_times c.args.folder.now fs c.in_ok-agencies.agencies c.in_ok-stops.stops c.in_ok-routes.routes c.in_ok-trips.trips) (g.F.Files.contents c.arranged_visits.new.files) _ _ _ c.in_ok-visits.ensures.reads.0 _ c.arranged_visits.ensures.same c.in_ok-visits.ensures.reads.1
+          (step_done (g.F.Files.contents c.arranged_visits.new.files) (λ fs. calendar_told c.args.folder.now fs) (λ fs. after_calendar c.args.folder.now fs c.in_ok-agencies.agencies c.in_ok-stops.stops c.in_ok-routes.routes c.in_ok-trips.trips c.in_ok-visits.ensures.reads.0) (g.F.Files.contents c.read_table-4.new.files) _ _ _ c.in_ok-calendar.calendar _ c.read_table-4.ensures.same c.in_ok-calendar.ensures.reads
+          (step_done (g.F.Files.contents c.read_table-4.new.files) (λ fs. exceptions_told c.args.folder.now fs) (λ fs. after_exceptions c.args.folder.now fs c.in_ok-agencies.agencies c.in_ok-stops.stops c.in_ok-routes.routes c.in_ok-trips.trips c.in_ok-visits.ensures.reads.0 c.in_ok-calendar.calendar) (g.F.Files.contents c.read_rows.new.files) _ _ _ c.in_ok-exceptions.exceptions.items _ c.read_rows.ensures.same (step_done (g.F.Files.contents c.read_table-4.new.files) (λ fs. exceptions_rows c.args.folder.now fs) (λ fs. consistent_exceptions) (g.F.Files.contents c.read_rows.new.files) _ _ _ c.in_ok-exceptions.exceptions.items _ c.read_rows.ensures.same c.in_ok-exceptions.ensures.reads (step_value (g.F.Files.contents c.read_rows.new.files) (consistent_exceptions c.in_ok-exceptions.exceptions.items) _ c.in_ok-exceptions.exceptions.items (rw c.deref-2.ensures.value at c.in_ok-active.ensures.0)))
+          (step_value (g.F.Files.contents c.read_rows.new.files) (after_exceptions c.args.folder.now [] c.in_ok-agencies.agencies c.in_ok-stops.stops c.in_ok-routes.routes c.in_ok-trips.trips c.in_ok-visits.ensures.reads.0 c.in_ok-calendar.calendar c.in_ok-exceptions.exceptions.items) _ _ refl)))))))),
     )

@@ -5,23 +5,23 @@ use Rattle.std.proofs.lemmas.Bool.Decides.{nat_tests}
 use Rattle.std.specs.List.{list_all}
 use Rattle.std.specs.Str.{is_utf8}
 use Rattle.toml.specs.Parse.{parse_document}
-use Rattle.hub_config.specs.declared.fault.ConfWhy.TheVariants.{Bad}
-use Rattle.hub_config.specs.Right.{has_window, has_schedule_of}
+use Rattle.conf_defs.specs.declared.fault.ConfWhy.TheVariants.{Bad}
+use Rattle.conf_defs.specs.Right.{has_window, has_schedule_of}
 use Rattle.std.specs.Option.{is_some, option_and_then, option_map, option_or, unwrap_or}
 use Rattle.toml.specs.Data.{Data, string, integer, float, boolean, datetime, array, table, Items, no_items, item, Members, get_member, as_table}
-use Rattle.hub_config.specs.declared.conf.HubConf.{HubConf}
-use Rattle.hub_config.specs.declared.conf.ScheduleConf.{ScheduleConf}
-use Rattle.hub_config.specs.declared.conf.FeedConf.{FeedConf}
-use Rattle.hub_config.specs.declared.fault.ConfFault.{ConfFault}
-use Rattle.hub_config.specs.declared.fault.ConfWhy.{ConfWhy}
-use Rattle.hub_config.specs.declared.fault.TableName.TheVariants.{Top, Schedule, Feed}
-use Rattle.hub_config.specs.declared.rule.Key.{Key}
-use Rattle.hub_config.specs.declared.rule.Key.TheVariants as key
-use Rattle.hub_config.specs.declared.rule.Holds.TheVariants.{Number, Date, KnownSchedule}
-use Rattle.hub_config.specs.Rules.{required, rule_of, keys_of}
-use Rattle.hub_config.specs.Values.{number_of, text_of, tables_of, is_text_for, is_array_for, number_at, tables_at, date_of, eight_digits, is_window_date, within}
-use Rattle.hub_config.specs.Faults.{fault_in, first_wrong, wrong_in, named_fault, key_fault, found_fault, value_fault, is_held, name_fault}
-use Rattle.hub_config.specs.Conf.{added, and_then, rows_from, unless, schedule_row, schedule_of, feed_row, feed_of, index_of, conf_in, conf_in_document, conf_of, feeds_in, hub_of, schedules_in}
+use Rattle.conf_defs.specs.declared.conf.HubConf.{HubConf}
+use Rattle.conf_defs.specs.declared.conf.ScheduleConf.{ScheduleConf}
+use Rattle.conf_defs.specs.declared.conf.FeedConf.{FeedConf}
+use Rattle.conf_defs.specs.declared.fault.ConfFault.{ConfFault}
+use Rattle.conf_defs.specs.declared.fault.ConfWhy.{ConfWhy}
+use Rattle.conf_defs.specs.declared.fault.TableName.TheVariants.{Top, Schedule, Feed}
+use Rattle.conf_defs.specs.declared.rule.Key.{Key}
+use Rattle.conf_defs.specs.declared.rule.Key.TheVariants as key
+use Rattle.conf_defs.specs.declared.rule.Holds.TheVariants.{Number, Date, KnownSchedule}
+use Rattle.conf_defs.specs.Rules.{required, rule_of, keys_of}
+use Rattle.conf_defs.specs.Values.{number_of, text_of, tables_of, is_text_for, is_array_for, number_at, tables_at, date_of, eight_digits, is_window_date, within}
+use Rattle.conf_defs.specs.Faults.{fault_in, first_wrong, wrong_in, named_fault, key_fault, found_fault, value_fault, is_held, name_fault}
+use Rattle.conf_defs.specs.Conf.{added, and_then, rows_from, unless, schedule_row, schedule_of, feed_row, feed_of, index_of, conf_in, conf_in_document, conf_of, feeds_in, hub_of, schedules_in}
 
 -- a part's value, where the whole is one
 and_then_ok : {A B : Type 0} (r : Result A ConfFault) (more : A → Result B ConfFault) (y : B) → and_then r more ≡ Ok y → (x : A) × (r ≡ Ok x) × (more x ≡ Ok y)

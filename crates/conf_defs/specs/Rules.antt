@@ -1,11 +1,11 @@
 -- The keys of a configuration's tables, what each may hold, and what stands for one that is absent.
 use Rattle.std.specs.Prelude.{ℕ, List, [], ◌∷◌, codes}
-use Rattle.hub_config.specs.declared.fault.TableName.{TableName}
-use Rattle.hub_config.specs.declared.fault.TableName.TheVariants.{Top, Schedule, Feed}
-use Rattle.hub_config.specs.declared.rule.Key.{Key}
-use Rattle.hub_config.specs.declared.rule.Key.TheVariants.{Readers, Listen, Connections, Schedules, Feeds, ScheduleName, Folder, Zone, First, Days, Prefix, FeedName, FeedSchedule, Kind, Place}
-use Rattle.hub_config.specs.declared.rule.Holds.{Holds}
-use Rattle.hub_config.specs.declared.rule.Holds.TheVariants.{Number, Date, AnyText, ShortText, NewSchedule, NewFeed, KnownSchedule, Port, Tables}
+use Rattle.conf_defs.specs.declared.fault.TableName.{TableName}
+use Rattle.conf_defs.specs.declared.fault.TableName.TheVariants.{Top, Schedule, Feed}
+use Rattle.conf_defs.specs.declared.rule.Key.{Key}
+use Rattle.conf_defs.specs.declared.rule.Key.TheVariants.{Readers, Listen, Connections, Schedules, Feeds, ScheduleName, Folder, Zone, First, Days, Prefix, FeedName, FeedSchedule, Kind, Place}
+use Rattle.conf_defs.specs.declared.rule.Holds.{Holds}
+use Rattle.conf_defs.specs.declared.rule.Holds.TheVariants.{Number, Date, AnyText, ShortText, NewSchedule, NewFeed, KnownSchedule, Port, Tables}
 
 -- what stands for a key that is absent
 pub data Default : Type 0 where
@@ -23,10 +23,16 @@ pub record Rule : Type 0 where
 -- the keys, a line each
 unfoldable pub rule_of : Key → Rule
 rule_of Readers = record { name = codes "readers"; holds = Number 1 64; absent = number 2 }
-rule_of Listen = record { name = codes "listen"; holds = AnyText;
-    absent = text (codes "127.0.0.1:8080") }
-rule_of Connections = record { name = codes "connections"; holds = Number 0 1000000000;
-    absent = number 0 }
+rule_of Listen = record {
+  name = codes "listen";
+  holds = AnyText;
+  absent = text (codes "127.0.0.1:8080");
+}
+rule_of Connections = record {
+  name = codes "connections";
+  holds = Number 0 1000000000;
+  absent = number 0;
+}
 rule_of Schedules = record { name = codes "schedule"; holds = Tables 1 8; absent = required }
 rule_of Feeds = record { name = codes "feed"; holds = Tables 0 64; absent = no_tables }
 rule_of ScheduleName = record { name = codes "name"; holds = NewSchedule; absent = required }

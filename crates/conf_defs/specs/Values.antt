@@ -9,12 +9,12 @@ use Rattle.std.specs.Str.Parse.{digits_value}
 use Rattle.text_defs.specs.Names.{is_name}
 use Rattle.text_defs.specs.Dates.{is_day}
 use Rattle.toml.specs.Data.{Data, Items, no_items, item, Members, get_member, as_integer, as_str, as_array, as_table}
-use Rattle.hub_config.specs.declared.rule.Key.{Key}
-use Rattle.hub_config.specs.declared.rule.Holds.{Holds}
-use Rattle.hub_config.specs.declared.rule.Holds.TheVariants.{Number, Date, AnyText, ShortText, NewSchedule, NewFeed, KnownSchedule, Port, Tables}
-use Rattle.hub_config.specs.declared.conf.PortKind.{PortKind}
-use Rattle.hub_config.specs.declared.conf.PortKind.TheVariants.{Nothing, Spool, Stream}
-use Rattle.hub_config.specs.Rules.{Default, number, text, rule_of}
+use Rattle.conf_defs.specs.declared.rule.Key.{Key}
+use Rattle.conf_defs.specs.declared.rule.Holds.{Holds}
+use Rattle.conf_defs.specs.declared.rule.Holds.TheVariants.{Number, Date, AnyText, ShortText, NewSchedule, NewFeed, KnownSchedule, Port, Tables}
+use Rattle.conf_defs.specs.declared.conf.PortKind.{PortKind}
+use Rattle.conf_defs.specs.declared.conf.PortKind.TheVariants.{Nothing, Spool, Stream}
+use Rattle.conf_defs.specs.Rules.{Default, number, text, rule_of}
 
 -- the number, where it lies from the least to the most
 abbrev pub within : ℕ → ℕ → ℤ → Option ℕ

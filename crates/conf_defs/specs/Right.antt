@@ -1,8 +1,8 @@
 -- What holds of every schedule that was read.
 use Rattle.std.specs.Prelude.{ℕ, Bool, ◌&&◌, nat_le, nat_lt}
-use Rattle.hub_config.specs.declared.conf.FeedConf.{FeedConf}
-use Rattle.hub_config.specs.declared.conf.ScheduleConf.{ScheduleConf}
-use Rattle.hub_config.specs.Values.{is_window_date}
+use Rattle.conf_defs.specs.declared.conf.FeedConf.{FeedConf}
+use Rattle.conf_defs.specs.declared.conf.ScheduleConf.{ScheduleConf}
+use Rattle.conf_defs.specs.Values.{is_window_date}
 
 -- its window begins on a day from 19700201 to 29991231 and has 1 to 400 days
 abbrev pub has_window : ScheduleConf → Bool

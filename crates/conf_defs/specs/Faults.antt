@@ -4,18 +4,18 @@ use Rattle.std.specs.List.{list_any}
 use Rattle.std.specs.Option.{is_some, option_map, option_or}
 use Rattle.std.specs.Str.{bytes_eq}
 use Rattle.toml.specs.Data.{Data, Members, no_members, member, get_member}
-use Rattle.hub_config.specs.declared.conf.ScheduleConf.{ScheduleConf}
-use Rattle.hub_config.specs.declared.conf.FeedConf.{FeedConf}
-use Rattle.hub_config.specs.declared.fault.TableName.{TableName}
-use Rattle.hub_config.specs.declared.fault.ConfWhy.{ConfWhy}
-use Rattle.hub_config.specs.declared.fault.ConfWhy.TheVariants.{Unknown, Missing, Bad, Twice, NoName}
-use Rattle.hub_config.specs.declared.fault.ConfFault.{ConfFault}
-use Rattle.hub_config.specs.declared.fault.ConfFault.TheVariants as fault
-use Rattle.hub_config.specs.declared.rule.Key.{Key}
-use Rattle.hub_config.specs.declared.rule.Holds.{Holds}
-use Rattle.hub_config.specs.declared.rule.Holds.TheVariants.{NewSchedule, NewFeed, KnownSchedule}
-use Rattle.hub_config.specs.Rules.{Default, required, Rule, rule_of, keys_of}
-use Rattle.hub_config.specs.Values.{number_of, text_of, tables_of}
+use Rattle.conf_defs.specs.declared.conf.ScheduleConf.{ScheduleConf}
+use Rattle.conf_defs.specs.declared.conf.FeedConf.{FeedConf}
+use Rattle.conf_defs.specs.declared.fault.TableName.{TableName}
+use Rattle.conf_defs.specs.declared.fault.ConfWhy.{ConfWhy}
+use Rattle.conf_defs.specs.declared.fault.ConfWhy.TheVariants.{Unknown, Missing, Bad, Twice, NoName}
+use Rattle.conf_defs.specs.declared.fault.ConfFault.{ConfFault}
+use Rattle.conf_defs.specs.declared.fault.ConfFault.TheVariants as fault
+use Rattle.conf_defs.specs.declared.rule.Key.{Key}
+use Rattle.conf_defs.specs.declared.rule.Holds.{Holds}
+use Rattle.conf_defs.specs.declared.rule.Holds.TheVariants.{NewSchedule, NewFeed, KnownSchedule}
+use Rattle.conf_defs.specs.Rules.{Default, required, Rule, rule_of, keys_of}
+use Rattle.conf_defs.specs.Values.{number_of, text_of, tables_of}
 
 -- a schedule, or a feed, among these has the name
 abbrev pub has_schedule : List ℕ → List ScheduleConf → Bool

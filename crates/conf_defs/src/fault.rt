@@ -53,7 +53,7 @@ pub enum ConfFault {
 }
 
 impl From<AllocError> for ConfFault {
-    ghost use Rattle.hub_config.specs.declared.fault.ConfFault.TheVariants.{NoMemory};
+    ghost use Rattle.conf_defs.specs.declared.fault.ConfFault.TheVariants.{NoMemory};
 
     ghost from_gives = { λ _ fault. fault ≡ NoMemory };
 
@@ -63,7 +63,7 @@ impl From<AllocError> for ConfFault {
 }
 
 impl<T: Drop> From<AllocFailed<T>> for ConfFault {
-    ghost use Rattle.hub_config.specs.declared.fault.ConfFault.TheVariants.{NoMemory};
+    ghost use Rattle.conf_defs.specs.declared.fault.ConfFault.TheVariants.{NoMemory};
 
     ghost from_gives = { λ _ fault. fault ≡ NoMemory };
 

@@ -2,12 +2,12 @@
 use Rattle.std.specs.Prelude.{ℕ, List, [], ◌++◌, codes}
 use Rattle.std.specs.Fmt.{decimal}
 use Rattle.text_defs.specs.Cleaned.{cleaned_text}
-use Rattle.hub_config.specs.declared.fault.TableName.{TableName}
-use Rattle.hub_config.specs.declared.fault.TableName.TheVariants.{Top, Schedule, Feed}
-use Rattle.hub_config.specs.declared.fault.ConfWhy.{ConfWhy}
-use Rattle.hub_config.specs.declared.fault.ConfWhy.TheVariants as why
-use Rattle.hub_config.specs.declared.fault.ConfFault.{ConfFault}
-use Rattle.hub_config.specs.declared.fault.ConfFault.TheVariants.{Toml, Bad, NoMemory}
+use Rattle.conf_defs.specs.declared.fault.TableName.{TableName}
+use Rattle.conf_defs.specs.declared.fault.TableName.TheVariants.{Top, Schedule, Feed}
+use Rattle.conf_defs.specs.declared.fault.ConfWhy.{ConfWhy}
+use Rattle.conf_defs.specs.declared.fault.ConfWhy.TheVariants as why
+use Rattle.conf_defs.specs.declared.fault.ConfFault.{ConfFault}
+use Rattle.conf_defs.specs.declared.fault.ConfFault.TheVariants.{Toml, Bad, NoMemory}
 
 -- a table's word
 abbrev pub table_word : TableName → List ℕ

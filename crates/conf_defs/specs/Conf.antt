@@ -5,16 +5,16 @@ use Rattle.std.specs.Option.{unwrap_or}
 use Rattle.std.specs.Str.{bytes_eq, is_utf8}
 use Rattle.toml.specs.Data.{Items, no_items, item, Members, as_table}
 use Rattle.toml.specs.Parse.{parse_document}
-use Rattle.hub_config.specs.declared.conf.PortKind.TheVariants.{Nothing}
-use Rattle.hub_config.specs.declared.conf.HubConf.{HubConf}
-use Rattle.hub_config.specs.declared.conf.ScheduleConf.{ScheduleConf}
-use Rattle.hub_config.specs.declared.conf.FeedConf.{FeedConf}
-use Rattle.hub_config.specs.declared.fault.TableName.TheVariants.{Top, Schedule, Feed}
-use Rattle.hub_config.specs.declared.fault.ConfFault.{ConfFault}
-use Rattle.hub_config.specs.declared.fault.ConfFault.TheVariants as fault
-use Rattle.hub_config.specs.declared.rule.Key.TheVariants as key
-use Rattle.hub_config.specs.Values.{number_at, text_at, tables_at, port_of}
-use Rattle.hub_config.specs.Faults.{fault_in}
+use Rattle.conf_defs.specs.declared.conf.PortKind.TheVariants.{Nothing}
+use Rattle.conf_defs.specs.declared.conf.HubConf.{HubConf}
+use Rattle.conf_defs.specs.declared.conf.ScheduleConf.{ScheduleConf}
+use Rattle.conf_defs.specs.declared.conf.FeedConf.{FeedConf}
+use Rattle.conf_defs.specs.declared.fault.TableName.TheVariants.{Top, Schedule, Feed}
+use Rattle.conf_defs.specs.declared.fault.ConfFault.{ConfFault}
+use Rattle.conf_defs.specs.declared.fault.ConfFault.TheVariants as fault
+use Rattle.conf_defs.specs.declared.rule.Key.TheVariants as key
+use Rattle.conf_defs.specs.Values.{number_at, text_at, tables_at, port_of}
+use Rattle.conf_defs.specs.Faults.{fault_in}
 
 -- then what follows, where there was no fault
 abbrev pub and_then : {A B : Type 0} → Result A ConfFault → (A → Result B ConfFault)
