@@ -9,8 +9,10 @@ work=$(mktemp -d)
 trap 'rm -rf "$work"' EXIT
 mkdir -p "$work/crates/read_times/src"
 cp "$root/HANDLES" "$work/"
-cp -r "$root/crates/gtfs_rows" "$work/crates/"
-grep '^gtfs_rows:' "$root/crates.txt" > "$work/crates.txt"
+for crate in answer_defs text_defs copying texts gtfs_rows; do
+    cp -r "$root/crates/$crate" "$work/crates/"
+    grep "^$crate:" "$root/crates.txt" >> "$work/crates.txt"
+done
 echo 'read_times: gtfs_rows csv' >> "$work/crates.txt"
 cat > "$work/crates/read_times/src/main.rt" <<'PROGRAM'
 #![tactic(auto)]
