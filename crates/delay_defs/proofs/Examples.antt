@@ -111,6 +111,17 @@ no_time : states line run (update None (update_of 2 None (Some (record { delay =
 unfolding states
 no_time = refl
 
+-- the last second of the year 9999 counts as a time, and the one behind it doesn't
+last_time : states line run (update None (update_of 1 None (at 253402300799) None ∷ []))
+    ≡ stop_state None (Some (pos 251658986399)) ∷ replicate 19 (late_state 251658986399)
+unfolding states
+last_time = refl
+
+past_time : states line run (update None (update_of 1 None (at 253402300800) None ∷ []))
+    ≡ replicate 20 (plain None)
+unfolding states
+past_time = refl
+
 -- an arrival's delay counts for the departure too, and is passed on; a departure's does not count for the arrival
 arrival_alone : states line run (update (Some (pos 9)) (update_of 2 (at 1743314400) None None ∷ [])) ≡ late_state 9 ∷ replicate 19 (plain (Some (negsuc 59)))
 unfolding states

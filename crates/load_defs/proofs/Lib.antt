@@ -1,5 +1,6 @@
 pub mod OnFiles
 pub mod Examples
+pub mod FormExamples
 pub mod RowExamples
 pub mod Listing
 pub mod Moves
