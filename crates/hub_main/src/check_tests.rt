@@ -128,6 +128,47 @@ fn the_city_and_its_variants(rt: HostRuntime) -> Result<(), Fail> {
     Ok(())
 }
 
+// Other timetables that load: exceptions of two services on one day, two agencies, a trip whose
+// only place has no time, and a window that ends in the year 3001.
+const LOADED: [(&str, &str, &str); 4] = [
+    (
+        "city/calendar_dates.txt",
+        "service_id,date,exception_type\nWK,20250330,2\nXX,20250330,1\n",
+        CITY_LINE,
+    ),
+    (
+        "city/agency.txt",
+        "agency_id,agency_name\nA,City\nB,Region\n",
+        "city agencies 2 stops 5 routes 1 trips 3 times 8 days 3\n",
+    ),
+    (
+        "city/stop_times.txt",
+        "trip_id,arrival_time,departure_time,stop_id,stop_sequence\nT1,,,S1,1\n",
+        "city agencies 1 stops 5 routes 1 trips 3 times 1 days 3\n",
+    ),
+    (
+        "city.toml",
+        "[[schedule]]\nname = \"city\"\nfolder = \"city\"\nzone = \"UTC0\"\nfirst = \"29991231\"\ndays = 400\n",
+        "city agencies 1 stops 5 routes 1 trips 3 times 8 days 400\n",
+    ),
+];
+
+#[test]
+fn other_timetables(rt: HostRuntime) -> Result<(), Fail> {
+    for (path, text, told) in LOADED {
+        assert!(rt; changed(rt.alloc(), path, text.as_bytes(), 0, told)?);
+    }
+    Ok(())
+}
+
+#[test]
+fn a_city_without_calendar(rt: HostRuntime) -> Result<(), Fail> {
+    let alloc = rt.alloc();
+    let files = without(alloc, "city/calendar.txt")?;
+    assert!(rt; checks(alloc, files, Vec::new(alloc), 0, CITY_LINE)?);
+    Ok(())
+}
+
 // Files that are absent, and what is said then.
 const ABSENT: [(&str, &str); 3] = [
     ("city.toml", "hub: config absent\n"),
