@@ -18,8 +18,9 @@ use Rattle.conf_defs.specs.declared.fault.TableName.TheVariants.{Top, Schedule, 
 use Rattle.conf_defs.specs.declared.rule.Key.{Key}
 use Rattle.conf_defs.specs.declared.rule.Key.TheVariants as key
 use Rattle.conf_defs.specs.declared.rule.Holds.TheVariants.{Number, Date, KnownSchedule}
+use Rattle.text_defs.specs.Dates.{date_in}
 use Rattle.conf_defs.specs.Rules.{required, rule_of, keys_of}
-use Rattle.conf_defs.specs.Values.{number_of, text_of, tables_of, is_text_for, is_array_for, number_at, tables_at, date_of, eight_digits, is_window_date, within}
+use Rattle.conf_defs.specs.Values.{number_of, text_of, tables_of, is_text_for, is_array_for, number_at, tables_at, date_of, is_window_date, within}
 use Rattle.conf_defs.specs.Faults.{fault_in, first_wrong, wrong_in, named_fault, key_fault, found_fault, value_fault, is_held, name_fault}
 use Rattle.conf_defs.specs.Conf.{added, and_then, rows_from, unless, schedule_row, schedule_of, feed_row, feed_of, index_of, conf_in, conf_in_document, conf_of, feeds_in, hub_of, schedules_in}
 
@@ -114,8 +115,8 @@ date_right : (name : List ℕ) (o : Option Data) (ss : List ScheduleConf) (fs : 
 unfolding value_fault is_held number_of text_of tables_of is_text_for is_array_for date_of
 date_right name None ss fs h = cc
 date_right name (Some (string t)) ss fs h =
-    let (n, e) = held_date (option_and_then (λ date. if is_window_date date then Some date else None) (eight_digits t)) Bad h in
-    rw e (window_date (eight_digits t) n e)
+    let (n, e) = held_date (option_and_then (λ date. if is_window_date date then Some date else None) (date_in t)) Bad h in
+    rw e (window_date (date_in t) n e)
 date_right name (Some (integer z)) ss fs h = cc
 date_right name (Some (float x)) ss fs h = cc
 date_right name (Some (boolean b)) ss fs h = cc

@@ -1,13 +1,10 @@
 -- What the value at a key says: a number, a text or tables, where it says what its key may hold.
-use Rattle.std.specs.Prelude.{ℕ, ◌+◌, ◌==◌, List, [], length, Bool, true, false, ◌&&◌, ◌||◌, nat_le, if◌then◌else◌, Option, Some, None, ℤ, pos, negsuc}
-use Rattle.std.specs.List.{list_all}
+use Rattle.std.specs.Prelude.{ℕ, ◌+◌, List, [], length, Bool, true, false, ◌&&◌, nat_le, if◌then◌else◌, Option, Some, None, ℤ, pos, negsuc}
 use Rattle.std.specs.Option.{option_and_then, unwrap_or, is_some}
 use Rattle.std.specs.Str.{bytes_eq}
-use Rattle.std.specs.Char.{is_ascii_digit}
 use Rattle.std.specs.Prelude.{codes}
-use Rattle.std.specs.Str.Parse.{digits_value}
 use Rattle.text_defs.specs.Names.{is_name}
-use Rattle.text_defs.specs.Dates.{is_day}
+use Rattle.text_defs.specs.Dates.{is_day, date_in}
 use Rattle.toml.specs.Data.{Data, Items, no_items, item, Members, get_member, as_integer, as_str, as_array, as_table}
 use Rattle.conf_defs.specs.declared.rule.Key.{Key}
 use Rattle.conf_defs.specs.declared.rule.Holds.{Holds}
@@ -21,14 +18,6 @@ abbrev pub within : ℕ → ℕ → ℤ → Option ℕ
 within least most (pos n) = if nat_le least n && nat_le n most then Some n else None
 within least most (negsuc n) = None
 
--- the text is eight digits
-abbrev pub has_eight_digits : List ℕ → Bool
-has_eight_digits t = (length t == 8) && list_all is_ascii_digit t
-
--- the number that they write
-unfoldable pub eight_digits : List ℕ → Option ℕ
-eight_digits t = if has_eight_digits t then Some (digits_value 10 t) else None
-
 -- the eight digits YYYYMMDD of a day of the Gregorian calendar from 19700201 to 29991231
 abbrev pub is_window_date : ℕ → Bool
 is_window_date date = nat_le 19700201 date && nat_le date 29991231 && is_day date
@@ -36,7 +25,7 @@ is_window_date date = nat_le 19700201 date && nat_le date 29991231 && is_day dat
 -- the number of such digits
 unfoldable pub date_of : List ℕ → Option ℕ
 date_of t =
-    option_and_then (λ date. if is_window_date date then Some date else None) (eight_digits t)
+    option_and_then (λ date. if is_window_date date then Some date else None) (date_in t)
 
 -- the way that a word names in which messages come to a feed
 unfoldable pub port_of : List ℕ → Option PortKind

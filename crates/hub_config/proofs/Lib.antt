@@ -1,4 +1,3 @@
-pub mod Dates
 pub mod Documents
 pub mod Judging
 pub mod Rows

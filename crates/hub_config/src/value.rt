@@ -1,7 +1,6 @@
 //! What the value at a key says.
 
 ghost use Rattle.std.specs.Prelude.{◌≡◌, ◌≤◌, ◌&&◌, nat_le, true, length, option_map, IfSome};
-ghost use Rattle.std.specs.Char.{is_ascii_digit};
 ghost use Rattle.std.specs.List.{list_all};
 ghost use Rattle.toml.specs.Data.{get_member};
 ghost use Rattle.toml.specs.View.{view, table_view, items_view};
@@ -11,7 +10,7 @@ ghost use Rattle.conf_defs.specs.Values as values;
 
 use crate::rule::{Absent, rule_for};
 use conf_defs::{Holds, Key, PortKind};
-use texts::{is_name, is_valid_date};
+use texts::{is_name, is_valid_date, read_date};
 use toml::{Table, Value};
 
 /// The value at a key.
@@ -30,37 +29,13 @@ fn number_within(number: i64, least: u32, most: u32) -> Option<u32>
     }
 }
 
-fn has_digits(text: &str) -> bool
-    ensures { result ≡ list_all is_ascii_digit text.now }
-{
-    text.as_bytes().iter().all(|byte| byte.is_ascii_digit())
-}
-
-fn has_eight_digits(text: &str) -> bool
-    ensures { result ≡ values.has_eight_digits text.now }
-{
-    text.len() == 8 && has_digits(text)
-}
-
-/// The number that eight digits write.
-#[tactic(auto, unfolding(conf_defs::specs::Values::eight_digits), using(crate::proofs::Dates::eight_parsed))]
-fn eight_digits(text: &str) -> Option<u32>
-    ensures { result ≡ values.eight_digits text.now }
-{
-    if has_eight_digits(text) {
-        text.parse::<u32>().ok()
-    } else {
-        None
-    }
-}
-
 /// The number of eight digits YYYYMMDD of a day of the Gregorian calendar from 1 February 1970 to
 /// 31 December 2999 (GTFS Schedule, "Field Types", Date).
 #[tactic(auto, unfolding(conf_defs::specs::Values::date_of))]
 fn date_of(text: &str) -> Option<u32>
     ensures { result ≡ values.date_of text.now }
 {
-    match eight_digits(text) {
+    match read_date(text.as_bytes()) {
         Some(date) if is_window_date(date) => Some(date),
         _ => None,
     }
