@@ -177,6 +177,7 @@ fn a_timetable_without_rows_has_none(rt: HostRuntime) -> Result<(), Fail> {
 }
 
 #[test]
+#[tactic(auto, unfolding(text_defs::specs::Names::is_name))]
 fn timetables_and_feeds_stand_in_their_order(rt: HostRuntime) -> Result<(), Fail> {
     let alloc = rt.alloc();
     let plans = vec![in alloc;
