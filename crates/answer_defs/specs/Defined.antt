@@ -9,6 +9,7 @@ IsCause defined (Some f) = defined ≡ Err f
 
 -- A call's answer is the defined one, where `view` is what the definition sees of a value, and `cause_of`
 -- is the failure that an error tells, if it tells one.
-abbrev pub AsDefined : {A B E F : Type 0} → (B → A) → (E → Option F) → Result A F → Result B E → Type 0
+abbrev pub AsDefined : {A B E F : Type 0} → (B → A) → (E → Option F) → Result A F → Result B E
+    → Type 0
 AsDefined view cause_of defined (Ok x) = defined ≡ Ok (view x)
 AsDefined view cause_of defined (Err e) = IsCause defined (cause_of e)

@@ -28,7 +28,7 @@ pub fn apply(alloc: Global, table: &Table, message: &FeedMessage) -> Result<Tabl
     Ok(Table { list })
 }
 
-// What the message goes on from.
+/// What the message goes on from.
 fn start(
     alloc: Global,
     table: &Table,
@@ -42,7 +42,7 @@ fn start(
     }
 }
 
-// What is held, changed by one entity.
+/// What is held, changed by one entity.
 fn change(
     alloc: Global,
     list: SharedList<SharedStored>,
@@ -62,7 +62,7 @@ fn change(
     list.with(SharedStored::new(alloc, stored)?)
 }
 
-// Whether the entity says that it is deleted.
+/// Whether the entity says that it is deleted.
 fn is_deleted(entity: &Entity) -> bool
     ensures { result ≡ unwrap_or entity.now.is_deleted false }
 {

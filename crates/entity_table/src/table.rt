@@ -71,7 +71,7 @@ impl Table {
     }
 }
 
-// What the list has under the id.
+/// What the list has under the id.
 fn stored_in<'a>(list: &'a SharedList<SharedStored>, id: &str) -> Option<&'a Stored>
     ensures { option_copied result ≡ find (slice_cmp nat_cmp) id.now list.entry.now }
 {

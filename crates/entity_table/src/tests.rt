@@ -5,7 +5,7 @@ use rt_types::{Bytes, Entities, Entity, FeedMessage, Header, Incrementality, Tex
 use std::alloc::Global;
 use std::test::Fail;
 
-// An entity of that id, with one unknown byte that tells two of one id apart.
+/// An entity of that id, with one unknown byte that tells two of one id apart.
 fn entity(alloc: Global, id: &str, deleted: Option<bool>, mark: u8) -> Result<Entity, NoMemory> {
     Ok(Entity {
         id: Text::new(alloc, id)?,
@@ -17,7 +17,7 @@ fn entity(alloc: Global, id: &str, deleted: Option<bool>, mark: u8) -> Result<En
     })
 }
 
-// A message of these entities.
+/// A message of these entities.
 fn message(
     alloc: Global,
     kind: Option<Incrementality>,
@@ -36,7 +36,7 @@ fn message(
     })
 }
 
-// The kind of a message that is told by words: `~` where it is differential.
+/// The kind of a message that is told by words: `~` where it is differential.
 fn kind_told(words: &str) -> Option<Incrementality> {
     if words.starts_with("~") {
         Some(Incrementality::Differential)
@@ -45,7 +45,7 @@ fn kind_told(words: &str) -> Option<Incrementality> {
     }
 }
 
-// The entities that are told by words as `+id` or `-id`, each with the mark of its place.
+/// The entities that are told by words as `+id` or `-id`, each with the mark of its place.
 fn entities_told(alloc: Global, words: &str) -> Result<Vec<Entity>, NoMemory> {
     let mut entities = Vec::new(alloc);
     let mut mark = b'0';
@@ -60,7 +60,7 @@ fn entities_told(alloc: Global, words: &str) -> Result<Vec<Entity>, NoMemory> {
     Ok(entities)
 }
 
-// The table after the message of these words.
+/// The table after the message of these words.
 fn after(alloc: Global, table: &Table, stamp: u64, words: &str) -> Result<Table, NoMemory> {
     let entities = entities_told(alloc, words)?;
     apply(
@@ -70,7 +70,7 @@ fn after(alloc: Global, table: &Table, stamp: u64, words: &str) -> Result<Table,
     )
 }
 
-// The table after messages of these words, whose stamps are 1, 2 and so on.
+/// The table after messages of these words, whose stamps are 1, 2 and so on.
 fn after_all(alloc: Global, messages: &[&str]) -> Result<Table, NoMemory> {
     let mut table = Table::empty(alloc);
     let mut stamp = 0u64;
@@ -81,7 +81,7 @@ fn after_all(alloc: Global, messages: &[&str]) -> Result<Table, NoMemory> {
     Ok(table)
 }
 
-// Whether a table holds just what is told as `id stamp mark`, in its order.
+/// Whether a table holds just what is told as `id stamp mark`, in its order.
 fn holds(table: &Table, told: &[(&str, u64, u8)]) -> bool {
     let mut place = 0usize;
     for stored in table.iter() {
@@ -99,7 +99,7 @@ fn holds(table: &Table, told: &[(&str, u64, u8)]) -> bool {
     place == told.len() && table.len() == place
 }
 
-// Whether the messages leave just that.
+/// Whether the messages leave just that.
 fn leave(alloc: Global, messages: &[&str], told: &[(&str, u64, u8)]) -> Result<bool, NoMemory> {
     Ok(holds(&after_all(alloc, messages)?, told))
 }
@@ -127,7 +127,7 @@ fn entities_come_change_and_go(rt: HostRuntime) -> Result<(), Fail> {
     Ok(())
 }
 
-// Whether the given table stays, and ids are found whole.
+/// Whether the given table stays, and ids are found whole.
 fn stays(alloc: Global) -> Result<bool, NoMemory> {
     let old = after(alloc, &Table::empty(alloc), 7, "~ +ab +b")?;
     let new = after(alloc, &old, 8, "~ -ab")?;
@@ -142,7 +142,7 @@ fn the_given_table_stays(rt: HostRuntime) -> Result<(), Fail> {
     Ok(())
 }
 
-// So many of 997 ids in an order far from rising.
+/// So many of 997 ids in an order far from rising.
 fn many(alloc: Global, count: u64, deleted: Option<bool>) -> Result<Vec<Entity>, NoMemory> {
     let mut entities = Vec::new(alloc);
     for n in 0..count {
@@ -153,7 +153,7 @@ fn many(alloc: Global, count: u64, deleted: Option<bool>) -> Result<Vec<Entity>,
     Ok(entities)
 }
 
-// How many of the table's ids, which are numbers, are found, each above the one before.
+/// How many of the table's ids, which are numbers, are found, each above the one before.
 fn in_order(table: &Table) -> usize {
     let mut count = 0usize;
     let mut last = 0u64;
@@ -168,7 +168,7 @@ fn in_order(table: &Table) -> usize {
     count
 }
 
-// Whether so many ids are left after each of several large messages.
+/// Whether so many ids are left after each of several large messages.
 fn large_ones(alloc: Global) -> Result<bool, NoMemory> {
     let mut table = Table::empty(alloc);
     for (count, deleted, left) in [

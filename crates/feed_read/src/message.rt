@@ -34,7 +34,7 @@ pub(crate) trait Message: Drop {
         ensures { AsDefined (λ x. x) cause_of (table.of_fields (parts_seen parts.now)) result };
 }
 
-// The bytes of the parts that the message doesn't know, in order.
+/// The bytes of the parts that the message doesn't know, in order.
 fn unknown<M: Message>(alloc: Global, parts: &[Part<'_>]) -> Result<Bytes, NoMemory>
     ensures { IfOk result (λ bytes. bytes
         ≡ unknown_bytes_of M.table.is_known (parts_seen parts.now)) }

@@ -12,10 +12,10 @@ use field_read::{ReadFault, Reader, add_parts, count, last_span, span_at};
 use pb_wire::Part;
 use rt_types::{Items, Kind, Shared};
 
-// The most values that room is made for before the first is read: what bytes promise may be more than memory holds.
+/// The most values that room is made for before the first is read: what bytes promise may be more than memory holds.
 const MOST_ROOM: usize = 64;
 
-// Puts the fields of all payloads under this number behind the parts, in order.
+/// Puts the fields of all payloads under this number behind the parts, in order.
 fn join_parts<'a>(
     kind: Kind,
     number: u32,
@@ -85,7 +85,7 @@ pub(crate) fn all<'a, M: Message>(
     Ok(Items::new(items))
 }
 
-// The message of these bytes, whose fault tells this entity.
+/// The message of these bytes, whose fault tells this entity.
 fn read_placed<'a, M: Message>(
     reader: &mut Reader<'a>,
     entity: u32,

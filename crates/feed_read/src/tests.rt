@@ -12,7 +12,7 @@ use rt_types::{
 use std::alloc::Global;
 use std::test::Fail;
 
-// The fault of the bytes: entity, what, kind and field.
+/// The fault of the bytes: entity, what, kind and field.
 fn fault_of(alloc: Global, bytes: &[u8]) -> Option<(u32, What, Kind, u32)> {
     match read_message(alloc, bytes) {
         Err(
@@ -27,7 +27,7 @@ fn fault_of(alloc: Global, bytes: &[u8]) -> Option<(u32, What, Kind, u32)> {
     }
 }
 
-// The fault of the bytes of one message: what, kind and field.
+/// The fault of the bytes of one message: what, kind and field.
 fn fault_in<M: Message>(alloc: Global, bytes: &[u8]) -> Option<(What, Kind, u32)> {
     match read_one::<M>(&mut Reader::new(alloc), bytes) {
         Err(
@@ -71,7 +71,7 @@ fn merges_headers(rt: HostRuntime) -> Result<(), Fail> {
     Ok(())
 }
 
-// The version's first occurrence isn't UTF-8, but its last one is; the enum's number names no value.
+/// The version's first occurrence isn't UTF-8, but its last one is; the enum's number names no value.
 #[test]
 fn keeps_what_it_does_not_know(rt: HostRuntime) -> Result<(), Fail> {
     let message = read_message(
@@ -96,7 +96,7 @@ fn keeps_what_it_does_not_know(rt: HostRuntime) -> Result<(), Fail> {
     Ok(())
 }
 
-// A negative number is written in ten bytes, but its low 32 bits alone count.
+/// A negative number is written in ten bytes, but its low 32 bits alone count.
 #[test]
 fn reads_negative_numbers(rt: HostRuntime) -> Result<(), Fail> {
     let mut reader = Reader::new(rt.alloc());
@@ -142,7 +142,7 @@ fn tells_faults_of_the_wire(rt: HostRuntime) {
     );
 }
 
-// Before all else of a message come the wire faults of all its payloads.
+/// Before all else of a message come the wire faults of all its payloads.
 #[test]
 fn tells_wire_faults_first(rt: HostRuntime) {
     assert_eq!(rt;
@@ -162,7 +162,7 @@ fn tells_wire_faults_first(rt: HostRuntime) {
     );
 }
 
-// The fields are judged by rising number, wherever they stand; of a text its last occurrence alone.
+/// The fields are judged by rising number, wherever they stand; of a text its last occurrence alone.
 #[test]
 fn tells_texts_by_number(rt: HostRuntime) {
     assert_eq!(rt;
@@ -183,7 +183,7 @@ fn tells_texts_by_number(rt: HostRuntime) {
     );
 }
 
-// What is missing is told last, by rising number.
+/// What is missing is told last, by rising number.
 #[test]
 fn tells_missing_fields_last(rt: HostRuntime) {
     assert_eq!(rt;
@@ -216,7 +216,7 @@ fn tells_missing_fields_last(rt: HostRuntime) {
     );
 }
 
-// A header that is missing comes behind the entities' faults. A field 2 that is a number is no entity.
+/// A header that is missing comes behind the entities' faults. A field 2 that is a number is no entity.
 #[test]
 fn tells_faults_of_entities(rt: HostRuntime) {
     assert_eq!(rt;
@@ -248,7 +248,7 @@ fn tells_faults_of_entities(rt: HostRuntime) {
     );
 }
 
-// Behind a header with the version 2.0 and the stamp 5.
+/// Behind a header with the version 2.0 and the stamp 5.
 #[test]
 fn tells_faults_behind_a_header(rt: HostRuntime) {
     let mut bytes = [0u8; 142];

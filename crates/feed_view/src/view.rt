@@ -31,7 +31,13 @@ impl Model for FeedView {
 
     ghost Value = { FeedKept };
 
-    ghost view = { λ v. record { fold = record { count = v.count; stamp = v.stamp; entities = v.table } } };
+    ghost view = { λ v. record {
+      fold = record {
+        count = v.count;
+        stamp = v.stamp;
+        entities = v.table;
+      };
+    } };
 
     ghost invariant = { λ v. (v.count ≤ v.stamp) × (v.stamp ≤ last_moment) };
 }

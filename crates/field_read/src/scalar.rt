@@ -18,7 +18,7 @@ pub trait Scalar: Copy {
         ensures { result ≡ says (payload_seen payload.now) };
 }
 
-// The number of a varint.
+/// The number of a varint.
 fn varint(payload: &PartPayload<'_>) -> Option<u64>
     ensures { result ≡ varint_in (payload_seen payload.now) }
 {
@@ -99,7 +99,7 @@ impl Scalar for Degrees {
     }
 }
 
-// What the part says, if it has this number.
+/// What the part says, if it has this number.
 fn said_at<S: Scalar>(number: u32, part: &Part<'_>) -> Option<S>
     ensures { result ≡ value_under S.says number (part_seen part.now) }
 {

@@ -78,17 +78,31 @@ unfolding number digits_number
 signed = refl
 
 -- a byte order mark, swapped and extra columns, a quoted name, blanks, and a short row
-extra : rows_of trips (0xEF ∷ 0xBB ∷ 0xBF ∷ codes "service_id,trip_id,note, route_id ,direction_id\n WK ,\"T1\",x,R7,0\n\nWK,T2,,R7")
+extra : rows_of trips (0xEF ∷ 0xBB ∷ 0xBF
+    ∷ codes "service_id,trip_id,note, route_id ,direction_id\n WK ,\"T1\",x,R7,0\n\nWK,T2,,R7")
     ≡ Ok (
-    record { trip_id = codes "T1"; route_id = codes "R7"; service_id = codes "WK"; trip_headsign = []; direction_id = Some 0 }
-    ∷ record { trip_id = codes "T2"; route_id = codes "R7"; service_id = codes "WK"; trip_headsign = []; direction_id = None }
+    record {
+      trip_id = codes "T1";
+      route_id = codes "R7";
+      service_id = codes "WK";
+      trip_headsign = [];
+      direction_id = Some 0;
+    }
+    ∷ record {
+      trip_id = codes "T2";
+      route_id = codes "R7";
+      service_id = codes "WK";
+      trip_headsign = [];
+      direction_id = None;
+    }
     ∷ []
     )
 unfolding rows_of records_from next_record strip_bom rows_from trimmed_text cell_value number digits_number is_utf8 chars encode
 extra = refl
 
 -- of equal names the first counts
-equal_names : rows_of exceptions (codes "date,service_id,date,exception_type\n20250330,WK,never,2\n")
+equal_names : rows_of exceptions
+    (codes "date,service_id,date,exception_type\n20250330,WK,never,2\n")
     ≡ Ok (record { service_id = codes "WK"; date = 20250330; exception_type = 2 } ∷ [])
 unfolding rows_of records_from next_record strip_bom rows_from trimmed_text cell_value date date_in is_day number digits_number is_utf8 chars encode
 equal_names = refl
@@ -99,17 +113,20 @@ unfolding rows_of records_from next_record strip_bom rows_from
 no_bytes = refl
 
 -- the first missing column in the order of the table
-two_missing : rows_of exceptions (codes "exception_type\nx\n") ≡ Err (fault.MissingColumn column.ServiceId)
+two_missing : rows_of exceptions (codes "exception_type\nx\n")
+    ≡ Err (fault.MissingColumn column.ServiceId)
 unfolding rows_of records_from next_record strip_bom rows_from trimmed_text cell_value date date_in is_day number digits_number is_utf8 chars encode
 two_missing = refl
 
 -- an id that is empty, before a date that is bad
-empty_id : rows_of exceptions (codes "service_id,date,exception_type\nWK,20250330,1\n ,x,2\n") ≡ Err (fault.BadValue 3 column.ServiceId)
+empty_id : rows_of exceptions (codes "service_id,date,exception_type\nWK,20250330,1\n ,x,2\n")
+    ≡ Err (fault.BadValue 3 column.ServiceId)
 unfolding rows_of records_from next_record strip_bom rows_from trimmed_text cell_value date date_in is_day number digits_number is_utf8 chars encode
 empty_id = refl
 
 -- bytes that are no text, in a column of numbers too
-no_text : rows_of exceptions (codes "service_id,date,exception_type\nWK,20250330," ++ 0xFF ∷ []) ≡ Err (fault.NotText 2 column.ExceptionType)
+no_text : rows_of exceptions (codes "service_id,date,exception_type\nWK,20250330," ++ 0xFF ∷ [])
+    ≡ Err (fault.NotText 2 column.ExceptionType)
 unfolding rows_of records_from next_record strip_bom rows_from trimmed_text cell_value date date_in is_day number digits_number is_utf8 chars encode
 no_text = refl
 

@@ -38,7 +38,8 @@ trimmed_text bytes = trimmed_end (trimmed_start bytes)
 
 -- where a column stands: at the first field of the header that is its name
 abbrev pub place_of : List (List ℕ) → Column → Option ℕ
-place_of header column = position_from (λ name. bytes_eq (trimmed_text name) (column_name column)) 0 header
+place_of header column =
+    position_from (λ name. bytes_eq (trimmed_text name) (column_name column)) 0 header
 
 -- the field at a place: empty where there is no such place, or the record is too short for it
 abbrev pub field_in : List (List ℕ) → Option ℕ → List ℕ
@@ -57,31 +58,40 @@ missing_in header (Optional column) = None
 -- the first column that a header lacks
 abbrev pub first_missing : List (List ℕ) → List Heading → Option Column
 first_missing header [] = None
-first_missing header (heading ∷ headings) = or_else (missing_in header heading) (first_missing header headings)
+first_missing header (heading ∷ headings) =
+    or_else (missing_in header heading) (first_missing header headings)
 
 -- the row of the last record that a file may have: its header, and 4,000,000 rows of data
 abbrev pub last_row : ℕ
 last_row = 4000001
 
 -- what a record of data says, of which the number among all records is given, and the cells
-abbrev pub row_of : {R : Type 0} → Columns R → (List (List ℕ) → Column → List ℕ) → ℕ × List (List ℕ) → Result R RowFault
-row_of columns cells (row, fields) = if nat_le row last_row then columns.read row (cells fields) else Err fault.TooMany
+abbrev pub row_of : {R : Type 0} → Columns R → (List (List ℕ) → Column → List ℕ) → ℕ × List (List ℕ)
+    → Result R RowFault
+row_of columns cells (row, fields) = if nat_le row last_row then columns.read row (cells fields)
+    else Err fault.TooMany
 
 -- the rows of records, the first of which has this number among all records; or the first fault
-unfoldable pub rows_from : {R : Type 0} → Columns R → (List (List ℕ) → Column → List ℕ) → ℕ → List (List (List ℕ)) → Result (List R) RowFault
+unfoldable pub rows_from : {R : Type 0} → Columns R → (List (List ℕ) → Column → List ℕ) → ℕ
+    → List (List (List ℕ)) → Result (List R) RowFault
 rows_from columns cells row recs = all_ok (map (row_of columns cells) (enumerate_from row recs))
 
 -- the fault of a missing column, or else the rows
-abbrev pub unless_missing : {R : Type 0} → Option Column → Result (List R) RowFault → Result (List R) RowFault
+abbrev pub unless_missing : {R : Type 0} → Option Column → Result (List R) RowFault
+    → Result (List R) RowFault
 unless_missing None rows = rows
 unless_missing (Some column) rows = Err (fault.MissingColumn column)
 
 -- the rows of a file with this header and these records of data, or its first fault
-abbrev pub rows_under : {R : Type 0} → Columns R → List (List ℕ) → List (List (List ℕ)) → Result (List R) RowFault
-rows_under columns header recs = unless_missing (first_missing header columns.headings) (rows_from columns (cell_of header) 2 recs)
+abbrev pub rows_under : {R : Type 0} → Columns R → List (List ℕ) → List (List (List ℕ))
+    → Result (List R) RowFault
+rows_under columns header recs =
+    unless_missing (first_missing header columns.headings)
+    (rows_from columns (cell_of header) 2 recs)
 
 -- the same of all records: the first is the header, and a file without records has an empty one
-abbrev pub rows_of_records : {R : Type 0} → Columns R → List (List (List ℕ)) → Result (List R) RowFault
+abbrev pub rows_of_records : {R : Type 0} → Columns R → List (List (List ℕ))
+    → Result (List R) RowFault
 rows_of_records columns [] = rows_under columns [] []
 rows_of_records columns (header ∷ recs) = rows_under columns header recs
 

@@ -12,7 +12,8 @@ places_in header = map (place_of header) all_columns
 
 -- a record's cell in a column, of which the place is known
 unfoldable pub cell_at : List (Option ℕ) → List (List ℕ) → Column → List ℕ
-cell_at places fields column = trimmed_text (field_in fields (slice_index_or places (slot_of column) None))
+cell_at places fields column =
+    trimmed_text (field_in fields (slice_index_or places (slot_of column) None))
 
 -- the cells of a record
 abbrev pub cells_of : Cells → Column → List ℕ

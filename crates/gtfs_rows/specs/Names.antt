@@ -68,4 +68,11 @@ slot_of column.ExceptionType = 27
 -- all columns, by that number
 abbrev pub all_columns : List Column
 all_columns =
-    column.AgencyId ∷ column.StopId ∷ column.StopName ∷ column.LocationType ∷ column.ParentStation ∷ column.RouteId ∷ column.RouteShortName ∷ column.RouteLongName ∷ column.RouteType ∷ column.TripId ∷ column.ServiceId ∷ column.TripHeadsign ∷ column.DirectionId ∷ column.StopSequence ∷ column.ArrivalTime ∷ column.DepartureTime ∷ column.PickupType ∷ column.Monday ∷ column.Tuesday ∷ column.Wednesday ∷ column.Thursday ∷ column.Friday ∷ column.Saturday ∷ column.Sunday ∷ column.StartDate ∷ column.EndDate ∷ column.Date ∷ column.ExceptionType ∷ []
+    column.AgencyId ∷ column.StopId ∷ column.StopName ∷ column.LocationType ∷ column.ParentStation
+    ∷ column.RouteId ∷ column.RouteShortName ∷ column.RouteLongName ∷ column.RouteType
+    ∷ column.TripId ∷ column.ServiceId ∷ column.TripHeadsign ∷ column.DirectionId
+    ∷ column.StopSequence ∷ column.ArrivalTime ∷ column.DepartureTime
+    ∷ column.PickupType ∷ column.Monday ∷ column.Tuesday ∷ column.Wednesday
+    ∷ column.Thursday ∷ column.Friday ∷ column.Saturday ∷ column.Sunday
+    ∷ column.StartDate ∷ column.EndDate ∷ column.Date ∷ column.ExceptionType
+    ∷ []

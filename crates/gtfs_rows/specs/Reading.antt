@@ -32,7 +32,8 @@ pub record IsReading (reader : Reader (Bor (List ℕ))) : Type 0 where
 
 -- a read that found a record, or that found none left
 abbrev pub Advances : Reader (Bor (List ℕ)) → Bool → List (List ℕ) → Reader (Bor (List ℕ)) → Type 0
-Advances before true fields after = IsReading after × (records_left before ≡ fields ∷ records_left after)
+Advances before true fields after = IsReading after
+    × (records_left before ≡ fields ∷ records_left after)
 Advances before false fields after = records_left before ≡ []
 
 -- the header of records, which is empty where there are none, and a reader of those behind it

@@ -30,7 +30,8 @@ Opens defined (Ok rows) = defined ≡ rows_to_come rows
 Opens defined (Err e) = IsCause defined (cause_of e)
 
 -- the first of the rows to come, with those behind it; that there is none; or the first fault
-abbrev pub GivesRow : Result (List StopTimeRow) RowFault → Result (Option StopTimeRow) RowFault → Result (List StopTimeRow) RowFault → Type 0
+abbrev pub GivesRow : Result (List StopTimeRow) RowFault → Result (Option StopTimeRow) RowFault
+    → Result (List StopTimeRow) RowFault → Type 0
 GivesRow before (Ok None) after = before ≡ Ok []
 GivesRow before (Ok (Some row)) after = before ≡ (after >>= λ rows. Ok (row ∷ rows))
 GivesRow before (Err e) after = IsCause before (cause_of e)

@@ -26,15 +26,23 @@ pub record Columns (V : Type 0) : Type 0 where
 
 -- why a cell is refused that isn't of its column's form: it isn't UTF-8, or else its value is bad
 abbrev pub refusal : ℕ → Column → List ℕ → RowFault
-refusal row column cell = if is_utf8 cell then fault.BadValue row column else fault.NotText row column
+refusal row column cell = if is_utf8 cell then fault.BadValue row column
+    else fault.NotText row column
 
 -- a cell of one form: it must be UTF-8, and then of that form
-unfoldable pub cell_value : {A : Type 0} → (List ℕ → Option A) → ℕ → Column → List ℕ → Result A RowFault
-cell_value form row column cell = if is_utf8 cell then ok_or (form cell) (fault.BadValue row column) else Err (fault.NotText row column)
+unfoldable pub cell_value : {A : Type 0} → (List ℕ → Option A) → ℕ → Column → List ℕ
+    → Result A RowFault
+cell_value form row column cell = if is_utf8 cell then ok_or (form cell) (fault.BadValue row column)
+    else Err (fault.NotText row column)
 
 -- one column, whose cells have one form
 abbrev pub one_column : {A : Type 0} → Heading → Column → (List ℕ → Option A) → Columns A
-one_column heading column form = record { headings = heading ∷ []; read = λ row cells. cell_value form row column (cells column) }
+one_column heading column form =
+    record {
+      headings = heading
+          ∷ [];
+      read = λ row cells. cell_value form row column (cells column);
+    }
 
 -- a column that a file must have
 abbrev pub required : {A : Type 0} → Column → (List ℕ → Option A) → Columns A
@@ -66,15 +74,34 @@ agency = table (λ agency_id. record { agency_id = agency_id }) (optional column
 abbrev pub stops : Columns StopRow
 stops =
     table
-    (λ (stop_id, (stop_name, (location_type, parent_station))). record { stop_id = stop_id; stop_name = stop_name; location_type = location_type; parent_station = parent_station })
-    (required column.StopId id_text ⊕ optional column.StopName any_text ⊕ optional column.LocationType (or_empty (number 0 4)) ⊕ optional column.ParentStation any_text)
+    (λ (
+      stop_id,
+      (
+        stop_name,
+        (location_type, parent_station),
+      ),
+    ). record {
+      stop_id = stop_id;
+      stop_name = stop_name;
+      location_type = location_type;
+      parent_station = parent_station;
+    })
+    (required column.StopId id_text ⊕ optional column.StopName any_text
+    ⊕ optional column.LocationType (or_empty (number 0 4))
+    ⊕ optional column.ParentStation any_text)
 
 -- the columns of routes.txt
 abbrev pub routes : Columns RouteRow
 routes =
     table
     (λ (route_id, (agency_id, (route_short_name, (route_long_name, route_type)))).
-    record { route_id = route_id; agency_id = agency_id; route_short_name = route_short_name; route_long_name = route_long_name; route_type = route_type })
+    record {
+      route_id = route_id;
+      agency_id = agency_id;
+      route_short_name = route_short_name;
+      route_long_name = route_long_name;
+      route_type = route_type;
+    })
     (required column.RouteId id_text
     ⊕ optional column.AgencyId any_text
     ⊕ optional column.RouteShortName any_text
@@ -86,7 +113,13 @@ abbrev pub trips : Columns TripRow
 trips =
     table
     (λ (trip_id, (route_id, (service_id, (trip_headsign, direction_id)))).
-    record { trip_id = trip_id; route_id = route_id; service_id = service_id; trip_headsign = trip_headsign; direction_id = direction_id })
+    record {
+      trip_id = trip_id;
+      route_id = route_id;
+      service_id = service_id;
+      trip_headsign = trip_headsign;
+      direction_id = direction_id;
+    })
     (required column.TripId id_text
     ⊕ required column.RouteId id_text
     ⊕ required column.ServiceId id_text
@@ -98,7 +131,14 @@ abbrev pub stop_times : Columns StopTimeRow
 stop_times =
     table
     (λ (trip_id, (stop_id, (stop_sequence, (arrival_time, (departure_time, pickup_type))))).
-    record { trip_id = trip_id; stop_id = stop_id; stop_sequence = stop_sequence; arrival_time = arrival_time; departure_time = departure_time; pickup_type = pickup_type })
+    record {
+      trip_id = trip_id;
+      stop_id = stop_id;
+      stop_sequence = stop_sequence;
+      arrival_time = arrival_time;
+      departure_time = departure_time;
+      pickup_type = pickup_type;
+    })
     (required column.TripId id_text
     ⊕ required column.StopId id_text
     ⊕ required column.StopSequence (number 0 4294967295)
@@ -114,8 +154,29 @@ weekday column = required column (number 0 1)
 abbrev pub calendar : Columns CalendarRow
 calendar =
     table
-    (λ (service_id, (monday, (tuesday, (wednesday, (thursday, (friday, (saturday, (sunday, (start_date, end_date))))))))).
-    record { service_id = service_id; monday = monday; tuesday = tuesday; wednesday = wednesday; thursday = thursday; friday = friday; saturday = saturday; sunday = sunday; start_date = start_date; end_date = end_date })
+    (λ (
+      service_id,
+      (
+        monday,
+        (
+          tuesday,
+          (wednesday, (thursday, (friday, (saturday, (sunday, (start_date, end_date)))))),
+        ),
+      ),
+    ).
+    record {
+      service_id = service_id;
+      monday = monday;
+      tuesday = tuesday;
+      wednesday = wednesday;
+      thursday = thursday;
+      friday = friday;
+      saturday = saturday;
+      sunday = sunday;
+      start_date =
+          start_date;
+      end_date = end_date;
+    })
     (required column.ServiceId id_text
     ⊕ weekday column.Monday
     ⊕ weekday column.Tuesday
@@ -131,5 +192,14 @@ calendar =
 abbrev pub exceptions : Columns ExceptionRow
 exceptions =
     table
-    (λ (service_id, (date_number, exception_type)). record { service_id = service_id; date = date_number; exception_type = exception_type })
-    (required column.ServiceId id_text ⊕ required column.Date date ⊕ required column.ExceptionType (number 1 2))
+    (λ (
+      service_id,
+      (date_number, exception_type),
+    ). record {
+      service_id = service_id;
+      date =
+          date_number;
+      exception_type = exception_type;
+    })
+    (required column.ServiceId id_text ⊕ required column.Date date ⊕ required column.ExceptionType
+    (number 1 2))

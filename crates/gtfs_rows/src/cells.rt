@@ -18,7 +18,7 @@ use std::alloc::Global;
 use std::str;
 use texts::{ShortText as CellText, read_number, read_time};
 
-// The field at a place, without blanks: empty where there is no place or no field.
+/// The field at a place, without blanks: empty where there is no place or no field.
 #[tactic(auto, using(crate::proofs::CellLemmas::field_none), unfolding(crate::specs::Files::trimmed_text))]
 fn field_at_place(from: &ByteRecord, place: Option<usize>) -> &[u8]
     ensures { result.now ≡ trimmed_text (field_in (fields_of from.entry.now) place) }
@@ -70,7 +70,7 @@ pub(crate) struct Cells<'a> {
 }
 
 impl<'a> Cells<'a> {
-    // The bytes of the cell in this column.
+    /// The bytes of the cell in this column.
     #[tactic(auto, unfolding(crate::specs::Layout::cell_at))]
     fn bytes(self, column: Column) -> &'a [u8]
         ensures { result.now ≡ cells_of self.entry column }
@@ -78,11 +78,13 @@ impl<'a> Cells<'a> {
         field_at_place(self.record, self.places[column.slot()])
     }
 
-    // The cell in this column, which must be text.
+    /// The cell in this column, which must be text.
     fn text_in(self, column: Column) -> Result<&'a str, RowFault>
         ensures { MatchResult result
-            (λ text. (text.now ≡ cells_of self.entry column) × (is_utf8 (cells_of self.entry column) ≡ true))
-            (λ e. (e ≡ RowFault.NotText self.entry.row column) × (is_utf8 (cells_of self.entry column) ≡ false)) }
+            (λ text. (text.now ≡ cells_of self.entry column)
+            × (is_utf8 (cells_of self.entry column) ≡ true))
+            (λ e. (e ≡ RowFault.NotText self.entry.row column)
+            × (is_utf8 (cells_of self.entry column) ≡ false)) }
     {
         let Ok(text) = str::from_utf8(self.bytes(column)) else {
             return Err(RowFault::NotText {
@@ -93,7 +95,7 @@ impl<'a> Cells<'a> {
         Ok(text)
     }
 
-    // Why the bytes of a cell in this column are refused that aren't of its form.
+    /// Why the bytes of a cell in this column are refused that aren't of its form.
     fn refused(self, column: Column, bytes: &[u8]) -> RowFault
         ensures { result ≡ refusal self.entry.row column bytes.now }
     {
@@ -112,7 +114,8 @@ impl<'a> Cells<'a> {
     /// A text that isn't empty.
     #[tactic(auto, unfolding(crate::specs::Tables::cell_value))]
     pub(crate) fn id(self, alloc: Global, column: Column) -> Result<CellText, RowFault>
-        ensures { AsDefined (λ x. x) cause_of (cell_value id_text self.entry.row column (cells_of self.entry column)) result }
+        ensures { AsDefined (λ x. x) cause_of
+            (cell_value id_text self.entry.row column (cells_of self.entry column)) result }
     {
         let text = self.text_in(column)?;
         if text.is_empty() {
@@ -127,7 +130,8 @@ impl<'a> Cells<'a> {
     /// Any text.
     #[tactic(auto, unfolding(crate::specs::Tables::cell_value))]
     pub(crate) fn text(self, alloc: Global, column: Column) -> Result<CellText, RowFault>
-        ensures { AsDefined (λ x. x) cause_of (cell_value any_text self.entry.row column (cells_of self.entry column)) result }
+        ensures { AsDefined (λ x. x) cause_of
+            (cell_value any_text self.entry.row column (cells_of self.entry column)) result }
     {
         let text = self.text_in(column)?;
         Ok(CellText::new(alloc, text)?)
@@ -136,7 +140,9 @@ impl<'a> Cells<'a> {
     /// A number from `low` to `high`.
     #[tactic(auto, using(crate::proofs::AsciiLemmas::number_text), unfolding(crate::specs::Tables::cell_value, crate::specs::Values::number))]
     pub(crate) fn number(self, column: Column, low: u32, high: u32) -> Result<u32, RowFault>
-        ensures { AsDefined (λ x. x) cause_of (cell_value (number low high) self.entry.row column (cells_of self.entry column)) result }
+        ensures { AsDefined (λ x. x) cause_of
+            (cell_value (number low high) self.entry.row column
+            (cells_of self.entry column)) result }
     {
         let bytes = self.bytes(column);
         let Some(value) = read_number(bytes, 10, u64::from(low), u64::from(high)) else {
@@ -148,7 +154,9 @@ impl<'a> Cells<'a> {
     /// A number from 0 to `high`, or none.
     #[tactic(auto, using(crate::proofs::AsciiLemmas::number_text, crate::proofs::AsciiLemmas::empty_text), unfolding(crate::specs::Tables::cell_value, crate::specs::Values::number))]
     pub(crate) fn optional_number(self, column: Column, high: u32) -> Result<Option<u32>, RowFault>
-        ensures { AsDefined (λ x. x) cause_of (cell_value (or_empty (number 0 high)) self.entry.row column (cells_of self.entry column)) result }
+        ensures { AsDefined (λ x. x) cause_of
+            (cell_value (or_empty (number 0 high)) self.entry.row column
+            (cells_of self.entry column)) result }
     {
         let bytes = self.bytes(column);
         if bytes.is_empty() {
@@ -163,7 +171,8 @@ impl<'a> Cells<'a> {
     /// A date.
     #[tactic(auto, using(crate::proofs::AsciiLemmas::date_text), unfolding(crate::specs::Tables::cell_value))]
     pub(crate) fn date(self, column: Column) -> Result<u32, RowFault>
-        ensures { AsDefined (λ x. x) cause_of (cell_value date self.entry.row column (cells_of self.entry column)) result }
+        ensures { AsDefined (λ x. x) cause_of
+            (cell_value date self.entry.row column (cells_of self.entry column)) result }
     {
         let bytes = self.bytes(column);
         let Some(value) = read_recent_date(bytes) else {
@@ -175,7 +184,9 @@ impl<'a> Cells<'a> {
     /// A time in seconds, or none.
     #[tactic(auto, using(crate::proofs::AsciiLemmas::time_text, crate::proofs::AsciiLemmas::empty_text), unfolding(crate::specs::Tables::cell_value))]
     pub(crate) fn time(self, column: Column) -> Result<Option<u32>, RowFault>
-        ensures { AsDefined (λ x. x) cause_of (cell_value (or_empty time_in) self.entry.row column (cells_of self.entry column)) result }
+        ensures { AsDefined (λ x. x) cause_of
+            (cell_value (or_empty time_in) self.entry.row column
+            (cells_of self.entry column)) result }
     {
         let bytes = self.bytes(column);
         if bytes.is_empty() {

@@ -21,7 +21,7 @@ pub(crate) const FIRST_ROW: u32 = 2;
 /// The number behind that of the last row that a file may have, which has 4,000,000 rows of data.
 pub(crate) const END_ROW: u32 = 4_000_002;
 
-// The first column that a file may not do without and that its header lacks.
+/// The first column that a file may not do without and that its header lacks.
 pub(crate) fn first_missing(headings: &[Heading], header: &ByteRecord) -> Option<Column>
     ensures { result ≡ missing_of (fields_of header.now) headings.now }
 {
@@ -35,7 +35,7 @@ pub(crate) fn first_missing(headings: &[Heading], header: &ByteRecord) -> Option
     None
 }
 
-// The rows of the records that the reader has left, the first of which is the first row of data.
+/// The rows of the records that the reader has left, the first of which is the first row of data.
 fn read_data<R: Row>(
     alloc: Global,
     reader: &mut Reader<&[u8]>,
@@ -43,7 +43,8 @@ fn read_data<R: Row>(
     places: &Places,
 ) -> Result<Vec<R>, RowFault>
     requires { IsReading reader.old }
-    ensures { AsDefined items_of cause_of (rows_from R.columns (cell_at places.now) 2 (records_left reader.old)) result }
+    ensures { AsDefined items_of cause_of
+        (rows_from R.columns (cell_at places.now) 2 (records_left reader.old)) result }
 {
     let mut rows = Vec::new(alloc);
     for row in FIRST_ROW..END_ROW {
@@ -63,13 +64,14 @@ fn read_data<R: Row>(
     Ok(rows)
 }
 
-// Reads the header of a file and says whether there is one: a file without records has an empty one.
+/// Reads the header of a file and says whether there is one: a file without records has an empty one.
 pub(crate) fn read_header(
     reader: &mut Reader<&[u8]>,
     header: &mut ByteRecord,
 ) -> Result<bool, RowFault>
     requires { IsReading reader.old }
-    ensures ok { IfOk result (λ found. HeaderIs (records_left reader.old) found (fields_of header.new) reader.new) }
+    ensures ok { IfOk result
+        (λ found. HeaderIs (records_left reader.old) found (fields_of header.new) reader.new) }
     ensures err { IfErr result (λ e. e ≡ RowFault.NoMemory) }
 {
     if records::advance(reader, header)? {

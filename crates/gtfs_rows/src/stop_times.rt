@@ -56,7 +56,8 @@ impl<'a> StopTimes<'a> {
         requires { IsOpen self.old }
         ensures gives { GivesRow (rows_to_come self.old) result (rows_to_come self.new) }
         ensures open { IfOk result (λ found. OnSome found (IsOpen self.new)) }
-        ensures row { IfOk result (λ found. OnSome found (row_to_come self.new ≡ row_to_come self.old + 1)) }
+        ensures row { IfOk result
+            (λ found. OnSome found (row_to_come self.new ≡ row_to_come self.old + 1)) }
         ensures few { IfOk result (λ found. OnSome found (row_to_come self.old ≤ 4000001)) }
     {
         if !records::advance(&mut self.reader, &mut self.record)? {

@@ -25,7 +25,8 @@ pub(crate) trait Row: Drop {
 
     /// The row that a record's cells make, or the first fault in the order of the columns.
     fn of_cells(alloc: Global, cells: Cells<'_>) -> Result<Self, RowFault>
-        ensures { AsDefined (λ x. x) cause_of (columns.read cells.entry.row (cells_of cells.entry)) result };
+        ensures { AsDefined (λ x. x) cause_of
+            (columns.read cells.entry.row (cells_of cells.entry)) result };
 }
 
 impl Row for AgencyRow {

@@ -5,7 +5,7 @@ use std::alloc::AllocError;
 use std::fmt;
 use std::test::Fail;
 
-// The rows or the fault, as text.
+/// The rows or the fault, as text.
 fn shown<R: fmt::Debug + Drop>(
     alloc: Global,
     rows: Result<Vec<R>, RowFault>,

@@ -12,7 +12,7 @@ fn is_blank_byte(byte: u8) -> bool
     byte == b' ' || byte == b'\t'
 }
 
-// The bytes without the blanks in front of them.
+/// The bytes without the blanks in front of them.
 fn trim_start(bytes: &[u8]) -> &[u8]
     ensures { result.now ≡ trimmed_start bytes.entry.now }
 {
@@ -26,7 +26,7 @@ fn trim_start(bytes: &[u8]) -> &[u8]
     rest
 }
 
-// The bytes without the blanks behind them.
+/// The bytes without the blanks behind them.
 fn trim_end(bytes: &[u8]) -> &[u8]
     ensures { result.now ≡ trimmed_end bytes.entry.now }
 {

@@ -17,9 +17,9 @@ IsFault defined None = ⊤
 IsFault defined (Some fault) = defined ≡ Some fault
 
 -- a judge passes what has no fault
-abbrev pub Judges : {A : Type 0} → Option ConfFault → Result A ConfFault → Type 0
-Judges defined (Ok value) = defined ≡ None
-Judges defined (Err fault) = IsFault defined (cause_of fault)
+abbrev pub PassesUnless : {A : Type 0} → Option ConfFault → Result A ConfFault → Type 0
+PassesUnless defined (Ok value) = defined ≡ None
+PassesUnless defined (Err fault) = IsFault defined (cause_of fault)
 
 -- a text is no document, or memory ran out, exactly as the reader of TOML says
 abbrev pub IsFaultOf : Error → ConfFault → Type 0

@@ -8,7 +8,7 @@ ghost use Rattle.toml.specs.View.{view, table_view};
 ghost use Rattle.conf_defs.specs.Faults as faults;
 ghost use Rattle.conf_defs.specs.Rules.{rule_of};
 ghost use Rattle.hub_config.specs.Seen.{absent_seen};
-ghost use Rattle.hub_config.specs.Answer.{Judges};
+ghost use Rattle.hub_config.specs.Answer.{PassesUnless};
 
 use crate::rule::{Absent, keys, rule_for};
 use crate::value::{number_of, tables_of, text_of, value_at};
@@ -186,7 +186,7 @@ pub fn judge(
     schedules: &[ScheduleConf],
     feeds: &[FeedConf],
 ) -> Result<(), ConfFault>
-    ensures { Judges (faults.fault_in name row (table_view table.now) schedules.now feeds.now)
+    ensures { PassesUnless (faults.fault_in name row (table_view table.now) schedules.now feeds.now)
         result }
 {
     match first_wrong(name, table, schedules, feeds) {

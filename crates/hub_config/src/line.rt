@@ -9,7 +9,7 @@ use conf_defs::{ConfFault, ConfWhy, TableName};
 use std::alloc::Global;
 use texts::push_cleaned;
 
-// The table's word in a printed fault.
+/// The table's word in a printed fault.
 fn table_word(table: TableName) -> &'static str
     ensures { result.now ≡ lines.table_word table }
 {
@@ -20,7 +20,7 @@ fn table_word(table: TableName) -> &'static str
     }
 }
 
-// The word in a printed fault for what is wrong.
+/// The word in a printed fault for what is wrong.
 fn why_word(why: ConfWhy) -> &'static str
     ensures { result.now ≡ lines.why_word why }
 {
@@ -33,7 +33,7 @@ fn why_word(why: ConfWhy) -> &'static str
     }
 }
 
-// The front of a line: where the fault is.
+/// The front of a line: where the fault is.
 fn place(alloc: Global, table: TableName, row: u32) -> Result<String, NoMemory>
     ensures { IfOk result (λ text. string_bytes text ≡ codes "hub: config "
         ++ (lines.table_word table ++ (codes " " ++ (decimal row ++ codes " ")))) }

@@ -185,7 +185,7 @@ pub fn read_conf(alloc: Global, bytes: &[u8]) -> Result<HubConf, ConfFault>
     }
 }
 
-// Why bytes are no document: they aren't TOML, or memory ran out.
+/// Why bytes are no document: they aren't TOML, or memory ran out.
 fn fault_of(error: &Error) -> ConfFault
     ensures { IsFaultOf error.now result }
 {

@@ -82,21 +82,21 @@ impl Buf {
         self.items.clear();
     }
 
-    // How many bytes it holds.
+    /// How many bytes it holds.
     pub(crate) fn len(&self) -> usize
         ensures { result ≡ length self.now.bytes }
     {
         self.items.len()
     }
 
-    // How many more bytes it takes without memory.
+    /// How many more bytes it takes without memory.
     pub(crate) fn spare(&self) -> usize
         ensures { result ≡ self.now.spare }
     {
         self.spare
     }
 
-    // Makes room for `additional` bytes where none at all is left.
+    /// Makes room for `additional` bytes where none at all is left.
     pub(crate) fn reserve_if_full(&mut self, additional: usize) -> Result<(), AllocError>
         ensures ok { OnOk result (MakesRoom self.old self.new (min additional 1)) }
         ensures full { OnErr result ((self.new ≡ self.old) × (self.old.spare ≡ 0)) }
@@ -107,7 +107,7 @@ impl Buf {
         self.reserve(additional)
     }
 
-    // One read to the end of the buffer, of up to `most` bytes, which have to be to spare.
+    /// One read to the end of the buffer, of up to `most` bytes, which have to be to spare.
     pub(crate) fn read_from<R: Read>(&mut self, reader: &mut R, most: usize) -> io::Result<usize>
         requires { most ≤ self.old.spare }
         ensures count { IfOk result (λ n. (n ≤ most)

@@ -90,7 +90,7 @@ fn clocks_show_moments(rt: HostRuntime) -> Result<(), Fail> {
     Ok(())
 }
 
-// A path that no other process uses.
+/// A path that no other process uses.
 fn fresh_path(rt: &HostRuntime, name: &str) -> Result<String, Fail> {
     Ok(format!(in rt.alloc();
         "/tmp/hub_outside.{name}.{}",
@@ -98,7 +98,7 @@ fn fresh_path(rt: &HostRuntime, name: &str) -> Result<String, Fail> {
     )?)
 }
 
-// The file system dates a new file by the same clock as the system's date.
+/// The file system dates a new file by the same clock as the system's date.
 #[test]
 fn system_clock_is_beside_the_date_of_a_new_file(rt: HostRuntime) -> Result<(), Fail> {
     let path = fresh_path(&rt, "date")?;
@@ -113,7 +113,7 @@ fn system_clock_is_beside_the_date_of_a_new_file(rt: HostRuntime) -> Result<(), 
     Ok(())
 }
 
-// Root may read any file, so where it runs this only sees that the file is there.
+/// Root may read any file, so where it runs this only sees that the file is there.
 #[test]
 fn file_that_may_not_be_read_is_a_fault(rt: HostRuntime) -> Result<(), Fail> {
     let path = fresh_path(&rt, "closed")?;

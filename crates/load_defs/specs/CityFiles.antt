@@ -19,7 +19,8 @@ agency_txt = codes "agency_id,agency_name\nA,City\n"
 -- stops.txt with the row of the stop S1 and that of the stop S2
 abbrev pub stops_with : List ℕ → List ℕ → List ℕ
 stops_with s1 s2 =
-    codes "stop_id,stop_name,location_type,parent_station\nST,Market,1,\n" ++ s1 ++ s2 ++ codes "S3,Harbour,,\nS4,Hill,,\n"
+    codes "stop_id,stop_name,location_type,parent_station\nST,Market,1,\n" ++ s1 ++ s2
+    ++ codes "S3,Harbour,,\nS4,Hill,,\n"
 
 abbrev pub s1_row : List ℕ
 s1_row = codes "S1,Market A,0,ST\n"
@@ -35,7 +36,8 @@ routes_txt = codes "route_id,agency_id,route_short_name,route_type\nR7,A,7,3\n"
 
 -- trips.txt with the row of the trip T1
 abbrev pub trips_with : List ℕ → List ℕ
-trips_with t1 = codes "route_id,service_id,trip_id,trip_headsign,direction_id\n" ++ t1 ++ codes "R7,WK,T2,Hill,0\nR7,WK,N1,Hill,0\n"
+trips_with t1 = codes "route_id,service_id,trip_id,trip_headsign,direction_id\n" ++ t1
+    ++ codes "R7,WK,T2,Hill,0\nR7,WK,N1,Hill,0\n"
 
 abbrev pub trips_txt : List ℕ
 trips_txt = trips_with (codes "R7,WK,T1,Hill,0\n")
@@ -43,7 +45,8 @@ trips_txt = trips_with (codes "R7,WK,T1,Hill,0\n")
 -- stop_times.txt with the rows of the first and the third place of the trip T1
 abbrev pub stop_times_with : List ℕ → List ℕ → List ℕ
 stop_times_with first third =
-    codes "trip_id,arrival_time,departure_time,stop_id,stop_sequence,pickup_type\n" ++ first ++ codes "T1,,,S3,2,\n" ++ third
+    codes "trip_id,arrival_time,departure_time,stop_id,stop_sequence,pickup_type\n" ++ first
+    ++ codes "T1,,,S3,2,\n" ++ third
     ++ codes "T1,08:30:00,08:30:00,S4,9,\nT2,08:21:00,08:21:00,S2,1,0\nT2,8:40:00,8:40:00,S4,2,0\nN1,25:10:00,25:10:00,S1,1,\nN1,25:40:00,25:40:00,S4,2,\n"
 
 abbrev pub first_place : List ℕ
@@ -57,10 +60,12 @@ stop_times_txt = stop_times_with first_place third_place
 
 -- stop_times.txt without the column stop_sequence
 abbrev pub stop_times_short : List ℕ
-stop_times_short = codes "trip_id,arrival_time,departure_time,stop_id,pickup_type\nT1,08:00:00,08:00:00,S1,\n"
+stop_times_short =
+    codes "trip_id,arrival_time,departure_time,stop_id,pickup_type\nT1,08:00:00,08:00:00,S1,\n"
 
 abbrev pub calendar_txt : List ℕ
-calendar_txt = codes "service_id,monday,tuesday,wednesday,thursday,friday,saturday,sunday,start_date,end_date\nWK,1,1,1,1,1,1,1,20250329,20250331\n"
+calendar_txt =
+    codes "service_id,monday,tuesday,wednesday,thursday,friday,saturday,sunday,start_date,end_date\nWK,1,1,1,1,1,1,1,20250329,20250331\n"
 
 -- the files, of which stops.txt, trips.txt and stop_times.txt are given, without agency.txt
 abbrev pub behind_agency : List ℕ → List ℕ → List ℕ → List (List ℕ × List ℕ)
@@ -74,4 +79,5 @@ behind_agency stops trips stop_times =
 
 -- the files, of which stops.txt, trips.txt and stop_times.txt are given
 abbrev pub files_with : List ℕ → List ℕ → List ℕ → List (List ℕ × List ℕ)
-files_with stops trips stop_times = (path_of city_folder file.Agency, agency_txt) ∷ behind_agency stops trips stop_times
+files_with stops trips stop_times = (path_of city_folder file.Agency, agency_txt)
+    ∷ behind_agency stops trips stop_times

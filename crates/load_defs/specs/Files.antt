@@ -34,14 +34,17 @@ of_file name (Err e) = Err (fault.Rows name e)
 -- the rows of a file with these bytes, which must not be too many
 abbrev pub rows_within : {R : Type 0} → File → Columns R → List ℕ → Result (List R) LoadFault
 rows_within name columns bytes =
-    if nat_lt longest_file (length bytes) then Err (fault.TooLong name) else of_file name (rows_of columns bytes)
+    if nat_lt longest_file (length bytes) then Err (fault.TooLong name)
+    else of_file name (rows_of columns bytes)
 
 -- the rows of a file that a dataset must have
-abbrev pub required_rows : {R : Type 0} → File → Columns R → Option (List ℕ) → Result (List R) LoadFault
+abbrev pub required_rows : {R : Type 0} → File → Columns R → Option (List ℕ)
+    → Result (List R) LoadFault
 required_rows name columns None = Err (fault.MissingFile name)
 required_rows name columns (Some bytes) = rows_within name columns bytes
 
 -- the rows of a file that may be absent, and has no rows then
-abbrev pub optional_rows : {R : Type 0} → File → Columns R → Option (List ℕ) → Result (List R) LoadFault
+abbrev pub optional_rows : {R : Type 0} → File → Columns R → Option (List ℕ)
+    → Result (List R) LoadFault
 optional_rows name columns None = Ok []
 optional_rows name columns (Some bytes) = rows_within name columns bytes

@@ -24,24 +24,41 @@ zone_of text = ok_or (rule_of text) fault.BadZone
 -- before it is compared with itself and with the files before it.
 unfoldable pub dataset_in : List (List ℕ × List ℕ) → List ℕ → Result Dataset LoadFault
 dataset_in files folder = do
-  agency_rows ← required_rows file.Agency agency (file_at files (path_of folder file.Agency)) >>= consistent_agencies
-  stop_rows ← required_rows file.Stops stops (file_at files (path_of folder file.Stops)) >>= consistent_stops
-  route_rows ← required_rows file.Routes routes (file_at files (path_of folder file.Routes)) >>= consistent_routes agency_rows
-  trip_rows ← required_rows file.Trips trips (file_at files (path_of folder file.Trips)) >>= consistent_trips route_rows
-  stop_time_rows ← required_rows file.StopTimes stop_times (file_at files (path_of folder file.StopTimes)) >>= consistent_stop_times trip_rows stop_rows
-  calendar_rows ← optional_rows file.Calendar calendar (file_at files (path_of folder file.Calendar)) >>= consistent_calendar
-  exception_rows ← optional_rows file.CalendarDates exceptions (file_at files (path_of folder file.CalendarDates)) >>= consistent_exceptions
-  Ok (record { agencies = agency_rows; stops = stop_rows; routes = route_rows; trips = trip_rows; stop_times = stop_time_rows; calendar = calendar_rows; exceptions = exception_rows })
+  agency_rows ← required_rows file.Agency agency
+      (file_at files (path_of folder file.Agency)) >>= consistent_agencies
+  stop_rows ← required_rows file.Stops stops
+      (file_at files (path_of folder file.Stops)) >>= consistent_stops
+  route_rows ← required_rows file.Routes routes
+      (file_at files (path_of folder file.Routes)) >>= consistent_routes agency_rows
+  trip_rows ← required_rows file.Trips trips
+      (file_at files (path_of folder file.Trips)) >>= consistent_trips route_rows
+  stop_time_rows ← required_rows file.StopTimes stop_times
+      (file_at files (path_of folder file.StopTimes)) >>= consistent_stop_times trip_rows stop_rows
+  calendar_rows ← optional_rows file.Calendar calendar
+      (file_at files (path_of folder file.Calendar)) >>= consistent_calendar
+  exception_rows ← optional_rows file.CalendarDates exceptions
+      (file_at files (path_of folder file.CalendarDates)) >>= consistent_exceptions
+  Ok (record {
+    agencies = agency_rows;
+    stops = stop_rows;
+    routes = route_rows;
+    trips = trip_rows;
+    stop_times = stop_time_rows;
+    calendar = calendar_rows;
+    exceptions = exception_rows;
+  })
 
 -- the times of a trip, by the place of its row in trips.txt, are not in order
 abbrev pub times_fault : Dataset → ℕ × TripRow → Option LoadFault
 times_fault dataset (place, row) =
-    if are_times (given_times (stop_times_of dataset.stop_times row.trip_id)) then None else Some (fault.TripTimes (row_at place))
+    if are_times (given_times (stop_times_of dataset.stop_times row.trip_id)) then None
+    else Some (fault.TripTimes (row_at place))
 
 -- the same rows where the times of all trips are in order, or else the fault of the first trip of trips.txt
 -- whose times are not
 unfoldable pub with_times : Dataset → Result Dataset LoadFault
-with_times dataset = unless (first_fault (times_fault dataset) (enumerate_from 0 dataset.trips)) dataset
+with_times dataset =
+    unless (first_fault (times_fault dataset) (enumerate_from 0 dataset.trips)) dataset
 
 -- The timetable of a folder, or the first fault: of the zone, then of the files, then of the trips' times.
 unfoldable pub timetable : List (List ℕ × List ℕ) → List ℕ → PlanConf → Result Timetable LoadFault

@@ -63,7 +63,8 @@ trip_rows dataset = by_id (λ row. row.trip_id) dataset.trips
 abbrev pub service_ids : Dataset → List (List ℕ)
 service_ids dataset =
     by_id (λ id. id)
-    (map (λ row. row.service_id) dataset.trips ++ map (λ row. row.service_id) dataset.calendar ++ map (λ row. row.service_id) dataset.exceptions)
+    (map (λ row. row.service_id) dataset.trips ++ map (λ row. row.service_id) dataset.calendar
+    ++ map (λ row. row.service_id) dataset.exceptions)
 
 -- the number of a row that is there
 abbrev pub known_number : {R : Type 0} → (R → List ℕ) → List R → List ℕ → ℕ
@@ -103,7 +104,9 @@ trip_of dataset row = record {
 
 -- the stop times of a trip, in order of stop_sequence
 abbrev pub stop_times_of : List StopTimeRow → List ℕ → List StopTimeRow
-stop_times_of rows trip_id = rows_by_key nat_cmp (λ row. row.stop_sequence) (filter (λ row. bytes_eq row.trip_id trip_id) rows)
+stop_times_of rows trip_id =
+    rows_by_key nat_cmp (λ row. row.stop_sequence)
+    (filter (λ row. bytes_eq row.trip_id trip_id) rows)
 
 -- their times, where they have any
 abbrev pub given_times : List StopTimeRow → List (Option Times)
@@ -130,7 +133,8 @@ timetable_of rule first days dataset = record {
   stops = map (stop_of dataset) (stop_rows dataset);
   routes = map (route_of dataset) (route_rows dataset);
   trips = map (trip_of dataset) (trip_rows dataset);
-  places = map (λ trip. places_with dataset (stop_times_of dataset.stop_times trip.trip_id)) (trip_rows dataset);
+  places = map (λ trip. places_with dataset (stop_times_of dataset.stop_times trip.trip_id))
+      (trip_rows dataset);
   active = map (active_days dataset.calendar dataset.exceptions first days) (service_ids dataset);
   first = first;
   bases = map (λ day. base_of rule (date_plus first day)) (range_with_len 0 days);

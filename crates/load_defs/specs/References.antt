@@ -33,14 +33,17 @@ is_twin same rows place row = list_any (λ earlier. same earlier row) (take plac
 
 -- what is wrong with a row first: a reference to no row, in the order of the columns, or an earlier row
 -- that is the same one
-abbrev pub row_fault : {R : Type 0} → File → (R → Option Column) → (R → R → Bool) → List R → ℕ × R → Option LoadFault
+abbrev pub row_fault : {R : Type 0} → File → (R → Option Column) → (R → R → Bool) → List R → ℕ × R
+    → Option LoadFault
 row_fault name unknown same rows (place, row) =
     or_else (option_map (λ column. fault.UnknownRef name (row_at place) column) (unknown row))
     (if is_twin same rows place row then Some (fault.Duplicate name (row_at place)) else None)
 
 -- the rows of a file, of which none is at fault, or the fault of the first that is
-abbrev pub consistent : {R : Type 0} → File → (R → Option Column) → (R → R → Bool) → List R → Result (List R) LoadFault
-consistent name unknown same rows = unless (first_fault (row_fault name unknown same rows) (enumerate_from 0 rows)) rows
+abbrev pub consistent : {R : Type 0} → File → (R → Option Column) → (R → R → Bool) → List R
+    → Result (List R) LoadFault
+consistent name unknown same rows =
+    unless (first_fault (row_fault name unknown same rows) (enumerate_from 0 rows)) rows
 
 -- a row has this id
 abbrev pub has_id : {R : Type 0} → (R → List ℕ) → List R → List ℕ → Bool
@@ -56,12 +59,14 @@ refers_to_none row = None
 
 -- an agency has its agency_id alone, and an empty one is an id like any other here
 abbrev pub consistent_agencies : List AgencyRow → Result (List AgencyRow) LoadFault
-consistent_agencies = consistent file.Agency refers_to_none (λ a b. bytes_eq a.agency_id b.agency_id)
+consistent_agencies =
+    consistent file.Agency refers_to_none (λ a b. bytes_eq a.agency_id b.agency_id)
 
 -- a stop's parent_station, which may be empty, is a stop
 abbrev pub parent_fault : List StopRow → ℕ × StopRow → Option LoadFault
 parent_fault rows (place, row) =
-    if bytes_eq row.parent_station [] || has_id (λ stop. stop.stop_id) rows row.parent_station then None
+    if bytes_eq row.parent_station [] || has_id (λ stop. stop.stop_id) rows row.parent_station
+    then None
     else Some (fault.UnknownRef file.Stops (row_at place) column.ParentStation)
 
 -- the stops whose parent_station, if they have one, is a stop of the file, or the fault of the first row
@@ -71,24 +76,29 @@ with_parents rows = unless (first_fault (parent_fault rows) (enumerate_from 0 ro
 
 -- no two stops have one stop_id, and then each parent_station is a stop
 abbrev pub consistent_stops : List StopRow → Result (List StopRow) LoadFault
-consistent_stops rows = consistent file.Stops refers_to_none (λ a b. bytes_eq a.stop_id b.stop_id) rows >>= with_parents
+consistent_stops rows =
+    consistent file.Stops refers_to_none (λ a b. bytes_eq a.stop_id b.stop_id) rows >>= with_parents
 
 -- a route's agency_id, which may be empty, is an agency's
 abbrev pub unknown_in_route : List AgencyRow → RouteRow → Option Column
 unknown_in_route agencies row =
-    unless_known column.AgencyId (bytes_eq row.agency_id [] || has_id (λ agency. agency.agency_id) agencies row.agency_id)
+    unless_known column.AgencyId (bytes_eq row.agency_id []
+    || has_id (λ agency. agency.agency_id) agencies row.agency_id)
 
 -- and no two routes have one route_id
 abbrev pub consistent_routes : List AgencyRow → List RouteRow → Result (List RouteRow) LoadFault
-consistent_routes agencies = consistent file.Routes (unknown_in_route agencies) (λ a b. bytes_eq a.route_id b.route_id)
+consistent_routes agencies =
+    consistent file.Routes (unknown_in_route agencies) (λ a b. bytes_eq a.route_id b.route_id)
 
 -- a trip's route_id is a route's; its service_id need stand in no other file
 abbrev pub unknown_in_trip : List RouteRow → TripRow → Option Column
-unknown_in_trip routes row = unless_known column.RouteId (has_id (λ route. route.route_id) routes row.route_id)
+unknown_in_trip routes row =
+    unless_known column.RouteId (has_id (λ route. route.route_id) routes row.route_id)
 
 -- and no two trips have one trip_id
 abbrev pub consistent_trips : List RouteRow → List TripRow → Result (List TripRow) LoadFault
-consistent_trips routes = consistent file.Trips (unknown_in_trip routes) (λ a b. bytes_eq a.trip_id b.trip_id)
+consistent_trips routes =
+    consistent file.Trips (unknown_in_trip routes) (λ a b. bytes_eq a.trip_id b.trip_id)
 
 -- a stop time's trip_id is a trip's, and its stop_id is a stop's
 abbrev pub unknown_in_stop_time : List TripRow → List StopRow → StopTimeRow → Option Column
@@ -97,16 +107,19 @@ unknown_in_stop_time trips stops row =
     (unless_known column.StopId (has_id (λ stop. stop.stop_id) stops row.stop_id))
 
 -- and no two stop times of a trip have one stop_sequence
-abbrev pub consistent_stop_times : List TripRow → List StopRow → List StopTimeRow → Result (List StopTimeRow) LoadFault
+abbrev pub consistent_stop_times : List TripRow → List StopRow → List StopTimeRow
+    → Result (List StopTimeRow) LoadFault
 consistent_stop_times trips stops =
     consistent file.StopTimes (unknown_in_stop_time trips stops)
     (λ a b. bytes_eq a.trip_id b.trip_id && (a.stop_sequence == b.stop_sequence))
 
 -- no two rows of calendar.txt have one service_id
 abbrev pub consistent_calendar : List CalendarRow → Result (List CalendarRow) LoadFault
-consistent_calendar = consistent file.Calendar refers_to_none (λ a b. bytes_eq a.service_id b.service_id)
+consistent_calendar =
+    consistent file.Calendar refers_to_none (λ a b. bytes_eq a.service_id b.service_id)
 
 -- no two rows of calendar_dates.txt have one service_id and one date
 abbrev pub consistent_exceptions : List ExceptionRow → Result (List ExceptionRow) LoadFault
 consistent_exceptions =
-    consistent file.CalendarDates refers_to_none (λ a b. bytes_eq a.service_id b.service_id && (a.date == b.date))
+    consistent file.CalendarDates refers_to_none (λ a b. bytes_eq a.service_id b.service_id
+    && (a.date == b.date))

@@ -10,7 +10,8 @@ pub record Times : Type 0 where
 
 -- an empty time takes the other time of its row; a place where both are empty is untimed
 abbrev pub times_of : Option ℕ → Option ℕ → Option Times
-times_of (Some arrival) (Some departure) = Some (record { arrival = arrival; departure = departure })
+times_of (Some arrival) (Some departure) =
+    Some (record { arrival = arrival; departure = departure })
 times_of (Some arrival) None = Some (record { arrival = arrival; departure = arrival })
 times_of None (Some departure) = Some (record { arrival = departure; departure = departure })
 times_of None None = None
@@ -54,7 +55,8 @@ next_timed steps (None ∷ places) = next_timed (steps + 1) places
 -- behind it. In order, a departure isn't after the arrival that follows it
 abbrev pub share_between : ℕ → ℕ → Option (ℕ × ℕ) → ℕ
 share_between departure behind None = 0
-share_between departure behind (Some (ahead, arrival)) = departure + (arrival - departure) * behind / (behind + ahead)
+share_between departure behind (Some (ahead, arrival)) =
+    departure + (arrival - departure) * behind / (behind + ahead)
 
 -- a place that is left in the second at which it is reached
 abbrev pub times_at : ℕ → Times
@@ -66,7 +68,8 @@ unfoldable pub times_behind : ℕ → ℕ → List (Option Times) → List Times
 times_behind departure behind [] = []
 times_behind departure behind (Some times ∷ places) = times ∷ times_behind times.departure 1 places
 times_behind departure behind (None ∷ places) =
-    times_at (share_between departure behind (next_timed 1 places)) ∷ times_behind departure (behind + 1) places
+    times_at (share_between departure behind (next_timed 1 places))
+    ∷ times_behind departure (behind + 1) places
 
 -- the times of all places of a trip, untimed places between timed ones lying evenly by their number; the
 -- one untimed place of a trip has 0

@@ -62,7 +62,8 @@ rule_3_added_trip relation.Deleted id = None
 abbrev pub run_on : Timetable → ℕ → Option ℕ → Found
 run_on t trip None = found.NoMatch why.NoDay
 run_on t trip (Some day) =
-    if is_run t (record { trip = trip; day = day }) then found.Run (record { trip = trip; day = day }) else found.NoMatch why.NotActive
+    if is_run t (record { trip = trip; day = day })
+    then found.Run (record { trip = trip; day = day }) else found.NoMatch why.NotActive
 
 abbrev pub run_on_date : Timetable → ℕ → Option ℕ → Option Found
 run_on_date t trip None = None
@@ -84,7 +85,8 @@ rule_4_trip_id t (Some id) date = run_of_trip t (trip_with t id) date
 -- A day is near an instant that lies less than a day and a half before its noon, or so long behind it: without
 -- a clock change the day of the instant, the day before it and the day behind it.
 abbrev pub is_near_noon : ℤ → ℤ → Bool
-is_near_noon noon instant = int_le (noon -ℤ pos 129_600) instant && int_lt instant (noon +ℤ pos 129_600)
+is_near_noon noon instant = int_le (noon -ℤ pos 129_600) instant
+    && int_lt instant (noon +ℤ pos 129_600)
 
 abbrev pub is_near : Timetable → ℤ → ℕ → Bool
 is_near t instant day = is_near_noon (base_of t day +ℤ pos 43_200) instant
@@ -92,7 +94,8 @@ is_near t instant day = is_near_noon (base_of t day +ℤ pos 43_200) instant
 -- how far an instant lies outside of a span
 abbrev pub seconds_outside : ℤ → ℤ → ℤ → ℤ
 seconds_outside first last instant =
-    if int_lt instant first then first -ℤ instant else if int_lt last instant then instant -ℤ last else pos 0
+    if int_lt instant first then first -ℤ instant else if int_lt last instant then instant -ℤ last
+    else pos 0
 
 -- how far an instant lies outside of a run, from its first departure to its last arrival
 abbrev pub near_at : Timetable → ℕ → ℤ → ℕ → Near
@@ -100,7 +103,8 @@ near_at t trip instant day = record {
   day = day;
   gap =
       seconds_outside (unwrap_or (departure_at t (record { trip = trip; day = day }) 0) (pos 0))
-      (unwrap_or (arrival_at t (record { trip = trip; day = day }) (length (places_of t trip) - 1)) (pos 0))
+      (unwrap_or (arrival_at t (record { trip = trip; day = day }) (length (places_of t trip) - 1))
+      (pos 0))
       instant;
 }
 
@@ -114,7 +118,8 @@ runs_near t trip instant day = is_near t instant day && is_run t (record { trip 
 
 -- the nearest of some days that are near and on which the trip runs
 abbrev pub nearest : Timetable → ℕ → ℤ → List ℕ → Option Near
-nearest t trip instant days = fold nearer None (map (near_at t trip instant) (filter (runs_near t trip instant) days))
+nearest t trip instant days =
+    fold nearer None (map (near_at t trip instant) (filter (runs_near t trip instant) days))
 
 abbrev pub run_near : ℕ → Option Near → Found
 run_near trip None = found.NoMatch why.NotActive
@@ -123,7 +128,8 @@ run_near trip (Some near) = found.Run (record { trip = trip; day = near.day })
 unfoldable pub by_near : Timetable → ℤ → ℕ → Found
 by_near t instant trip =
     let days = range_with_len 0 (length t.bases) in
-    if list_any (is_near t instant) days then run_near trip (nearest t trip instant days) else found.NoMatch why.NoDay
+    if list_any (is_near t instant) days then run_near trip (nearest t trip instant days)
+    else found.NoMatch why.NoDay
 
 abbrev pub run_near_instant : Timetable → ℤ → Option ℕ → Option Found
 run_near_instant t instant None = None
@@ -145,17 +151,22 @@ trips_running t day trips = filter (λ trip. is_run t (record { trip = trip; day
 abbrev pub on_route : Timetable → Option ℕ → ℕ → ℕ → ℕ → Found
 on_route t None direction departure day = found.NoMatch why.NoTrip
 on_route t (Some route) direction departure day =
-    only_trip day (trips_running t day (filter (departs_so t route direction departure) (range_with_len 0 (length t.trips))))
+    only_trip day
+    (trips_running t day
+    (filter (departs_so t route direction departure) (range_with_len 0 (length t.trips))))
 
 abbrev pub on_day : Timetable → List ℕ → ℕ → ℕ → Option ℕ → Found
 on_day t route direction departure None = found.NoMatch why.NoDay
-on_day t route direction departure (Some day) = on_route t (number_of (λ row. row.id) t.routes route) direction departure day
+on_day t route direction departure (Some day) =
+    on_route t (number_of (λ row. row.id) t.routes route) direction departure day
 
 abbrev pub at_time : Timetable → List ℕ → ℕ → ℕ → Option ℕ → Found
 at_time t route direction date None = found.NoMatch why.BadText
-at_time t route direction date (Some departure) = on_day t route direction departure (day_with_date t date)
+at_time t route direction date (Some departure) =
+    on_day t route direction departure (day_with_date t date)
 
-abbrev pub rule_6_route_and_time : Timetable → Option (List ℕ) → Option ℕ → Option ℕ → Option (List ℕ) → Found
+abbrev pub rule_6_route_and_time : Timetable → Option (List ℕ) → Option ℕ → Option ℕ
+    → Option (List ℕ) → Found
 rule_6_route_and_time t (Some route) (Some direction) (Some date) (Some time) =
     at_time t route direction date (time_in time)
 rule_6_route_and_time t _ _ _ _ = found.NoMatch why.NoTrip
@@ -176,4 +187,5 @@ match_of t trip stamp =
     (first_rule (rule_3_added_trip (relation_of trip) (text_given trip.trip_id))
     (first_rule (rule_4_trip_id t (text_given trip.trip_id) (start_day trip))
     (first_rule (rule_5_nearest_day t (pos stamp) (text_given trip.trip_id))
-    (rule_6_route_and_time t (text_given trip.route_id) trip.direction_id (start_day trip) (text_given trip.start_time))))))
+    (rule_6_route_and_time t (text_given trip.route_id) trip.direction_id (start_day trip)
+    (text_given trip.start_time))))))

@@ -9,7 +9,7 @@ ghost use Rattle.pb_wire.specs.Parts.{Finds};
 use crate::fault::WireFault;
 
 /// The varint in front, and the bytes behind it.
-// Each field passes through these three: in line, what they answer stays in registers.
+/// Each field passes through these three: in line, what they answer stays in registers.
 #[inline(always)]
 pub fn varint_at(bytes: &[u8]) -> Result<(u64, &[u8]), WireFault>
     ensures { Finds (λ x. (x.0, x.1.now)) result (varint_at bytes.now) }
@@ -20,7 +20,7 @@ pub fn varint_at(bytes: &[u8]) -> Result<(u64, &[u8]), WireFault>
     }
 }
 
-// Few varints have more than one byte, so their loop is kept off the path of the others.
+/// Few varints have more than one byte, so their loop is kept off the path of the others.
 #[inline(never)]
 fn long_varint_at(bytes: &[u8]) -> Result<(u64, &[u8]), WireFault>
     ensures { Finds (λ x. (x.0, x.1.now)) result (varint_at bytes.now) }

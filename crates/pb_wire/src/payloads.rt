@@ -28,7 +28,7 @@ pub fn payload_at(
 }
 
 /// The payload that the wire type asks for, where none may be a group, and the bytes behind it.
-// Each field passes here: as a call of its own it takes twice the time.
+/// Each field passes here: as a call of its own it takes twice the time.
 #[tactic(auto, unfolding(wire_defs::specs::Reading::payload_at))]
 #[inline(always)]
 pub fn plain_payload_at(wire_type: u32, bytes: &[u8]) -> Result<(PartPayload<'_>, &[u8]), WireFault>

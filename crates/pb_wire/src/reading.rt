@@ -27,7 +27,7 @@ pub fn read_parts<'a>(bytes: &'a [u8], parts: &mut Vec<Part<'a>>) -> Result<(), 
     answer
 }
 
-// Pushes the fields of the bytes, in order, up to the first fault.
+/// Pushes the fields of the bytes, in order, up to the first fault.
 fn push_parts<'a>(bytes: &'a [u8], parts: &mut Vec<Part<'a>>) -> Result<(), WireFault>
     ensures read { OnOk result
         (with_front (parts_seen parts.old.items) (fields_of bytes.now)

@@ -154,7 +154,7 @@ fn varints(rt: HostRuntime) -> Result<(), Fail> {
     Ok(())
 }
 
-// Whether a run of so many bytes behind one byte has this length put before it.
+/// Whether a run of so many bytes behind one byte has this length put before it.
 fn has_length(rt: &impl AllocGlobal, count: usize, length: &[u8]) -> Result<bool, NoMemory> {
     let mut out = Vec::new(rt.alloc());
     out.extend_from_slice(&[7, 0])?;

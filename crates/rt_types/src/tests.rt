@@ -150,7 +150,7 @@ fn a_copy_is_equal_to_its_source(rt: HostRuntime) -> Result<(), Fail> {
     Ok(())
 }
 
-// The delay of the first departure of the first entity.
+/// The delay of the first departure of the first entity.
 fn first_delay(message: &FeedMessage) -> Option<i32> {
     let update = message
         .entity
@@ -163,7 +163,7 @@ fn first_delay(message: &FeedMessage) -> Option<i32> {
     stop.departure.as_ref()?.delay
 }
 
-// Whether the first entity's alert has that header.
+/// Whether the first entity's alert has that header.
 fn has_header(message: &FeedMessage, text: &str) -> bool {
     match first_header(message) {
         Some(header) => header == text,

@@ -20,7 +20,7 @@ use Rattle.gtfs_rows.specs.declared.rows.StopTimeRow.{StopTimeRow}
 use Rattle.sched_load.specs.declared.visits.Visit.{Visit}
 use Rattle.sched_load.specs.Arranged.{ReadsArranged}
 use Rattle.sched_load.specs.Tables.{ReadsTables}
-use Rattle.sched_load.specs.Answer.{Reads, Loads, Refuses, RefusesAlone, HasLoadCause, HasFaultCause, IsPlain}
+use Rattle.sched_load.specs.Answer.{AnswersFromFiles, Loads, Refuses, RefusesAlone, HasLoadCause, HasFaultCause, IsPlain}
 
 -- what is at fault in a step is at fault in the whole
 refuses_whole : {A B : Type 0} (one : Result A LoadFault) (whole : Result B LoadFault) (e : LoadFault) → ((f : LoadFault) → one ≡ Err f → whole ≡ Err f) → Refuses one e → Refuses whole e
@@ -104,7 +104,7 @@ bind_bind (Err e) next last = refl
 
 module _ {A B : Type 0} (contents : Option (List (List ℕ × List ℕ))) (told : List (List ℕ × List ℕ) → Result A LoadFault) (next : List (List ℕ × List ℕ) → A → Result B LoadFault) where
   -- a step that fails
-  pub step_fails : (before after : ℕ) (e : LoadFault) → Reads contents told before after (Err e) → Reads contents (λ fs. told fs >>= next fs) before after (Err e)
+  pub step_fails : (before after : ℕ) (e : LoadFault) → AnswersFromFiles contents told before after (Err e) → AnswersFromFiles contents (λ fs. told fs >>= next fs) before after (Err e)
   step_fails before after e r = record { loads = by contents r.loads; cause = r.cause; plain = r.plain }
     where
       by : (o : Option (List (List ℕ × List ℕ))) → IfSome o (λ fs. Refuses (told fs) e) → IfSome o (λ fs. Refuses (told fs >>= next fs) e)
@@ -112,7 +112,7 @@ module _ {A B : Type 0} (contents : Option (List (List ℕ × List ℕ))) (told 
       by (Some fs) h = refuses_whole (told fs) (told fs >>= next fs) e (λ f q. bind_fails (told fs) (next fs) f q) h
 
   -- a step that is done, and what follows
-  pub step_done : (behind : Option (List (List ℕ × List ℕ))) (before mid after : ℕ) (x : A) (answer : Result B LoadFault) → behind ≡ contents → Reads contents told before mid (Ok x) → Reads behind (λ fs. next fs x) mid after answer → Reads contents (λ fs. told fs >>= next fs) before after answer
+  pub step_done : (behind : Option (List (List ℕ × List ℕ))) (before mid after : ℕ) (x : A) (answer : Result B LoadFault) → behind ≡ contents → AnswersFromFiles contents told before mid (Ok x) → AnswersFromFiles behind (λ fs. next fs x) mid after answer → AnswersFromFiles contents (λ fs. told fs >>= next fs) before after answer
   step_done behind before mid after x answer same first second = record {
     loads = by contents first.loads (subst (λ o. IfSome o (λ fs. Loads (next fs x) answer)) same second.loads);
     cause = later answer first.cause second.cause;
@@ -132,14 +132,14 @@ if_some None P p = tt
 if_some (Some x) P p = p
 
 -- a step that reads no file
-pub step_alone : {A : Type 0} (contents : Option (List (List ℕ × List ℕ))) (told : Result A LoadFault) (count : ℕ) (e : LoadFault) → RefusesAlone told e → Reads contents (λ _. told) count count (Err e)
+pub step_alone : {A : Type 0} (contents : Option (List (List ℕ × List ℕ))) (told : Result A LoadFault) (count : ℕ) (e : LoadFault) → RefusesAlone told e → AnswersFromFiles contents (λ _. told) count count (Err e)
 step_alone contents told count e h = record { loads = if_some contents _ (refuses_told told e h); cause = (omega arith, cause_told told e count count h); plain = plain_told told e h }
 
-pub step_value : {A : Type 0} (contents : Option (List (List ℕ × List ℕ))) (told : Result A LoadFault) (count : ℕ) (x : A) → told ≡ Ok x → Reads contents (λ _. told) count count (Ok x)
+pub step_value : {A : Type 0} (contents : Option (List (List ℕ × List ℕ))) (told : Result A LoadFault) (count : ℕ) (x : A) → told ≡ Ok x → AnswersFromFiles contents (λ _. told) count count (Ok x)
 step_value contents told count x h = record { loads = if_some contents _ h; cause = omega arith; plain = tt }
 
 -- the same told in other words
-pub told_same : {A : Type 0} (contents : Option (List (List ℕ × List ℕ))) (told other : List (List ℕ × List ℕ) → Result A LoadFault) (before after : ℕ) (answer : Result A LoadFault) → ((fs : List (List ℕ × List ℕ)) → told fs ≡ other fs) → Reads contents told before after answer → Reads contents other before after answer
+pub told_same : {A : Type 0} (contents : Option (List (List ℕ × List ℕ))) (told other : List (List ℕ × List ℕ) → Result A LoadFault) (before after : ℕ) (answer : Result A LoadFault) → ((fs : List (List ℕ × List ℕ)) → told fs ≡ other fs) → AnswersFromFiles contents told before after answer → AnswersFromFiles contents other before after answer
 told_same contents told other before after answer same r = record { loads = by contents r.loads; cause = r.cause; plain = r.plain }
   where
     by : (o : Option (List (List ℕ × List ℕ))) → IfSome o (λ fs. Loads (told fs) answer) → IfSome o (λ fs. Loads (other fs) answer)
@@ -147,7 +147,7 @@ told_same contents told other before after answer same r = record { loads = by c
     by (Some fs) h = subst (λ t. Loads t answer) (same fs) h
 
 -- want of memory
-pub no_memory : {A : Type 0} (contents : Option (List (List ℕ × List ℕ))) (told : List (List ℕ × List ℕ) → Result A LoadFault) (count : ℕ) → Reads contents told count count (Err fault.NoMemory)
+pub no_memory : {A : Type 0} (contents : Option (List (List ℕ × List ℕ))) (told : List (List ℕ × List ℕ) → Result A LoadFault) (count : ℕ) → AnswersFromFiles contents told count count (Err fault.NoMemory)
 no_memory contents told count = record { loads = by contents; cause = (omega arith, tt); plain = tt }
   where
     by : (o : Option (List (List ℕ × List ℕ))) → IfSome o (λ _. ⊤)
@@ -155,22 +155,22 @@ no_memory contents told count = record { loads = by contents; cause = (omega ari
     by (Some fs) = tt
 
 -- the fault that a `?` passes on
-pub passed : {A : Type 0} (contents : Option (List (List ℕ × List ℕ))) (told : List (List ℕ × List ℕ) → Result A LoadFault) (before after : ℕ) (r : Result A LoadFault) (e : LoadFault) → IsErrAnd r (λ x. x ≡ e) → Reads contents told before after (Err e) → Reads contents told before after r
+pub passed : {A : Type 0} (contents : Option (List (List ℕ × List ℕ))) (told : List (List ℕ × List ℕ) → Result A LoadFault) (before after : ℕ) (r : Result A LoadFault) (e : LoadFault) → IsErrAnd r (λ x. x ≡ e) → AnswersFromFiles contents told before after (Err e) → AnswersFromFiles contents told before after r
 passed contents told before after (Ok x) e p h = absurd p
 passed contents told before after (Err y) e p h = rw p h
 
 -- the same of the tables that are read
-pub tables_passed : (contents : Option (List (List ℕ × List ℕ))) (told : List (List ℕ × List ℕ) → Result Dataset LoadFault) (before after : ℕ) (r : Result Tables LoadFault) (e : LoadFault) → IsErrAnd r (λ x. x ≡ e) → Reads contents told before after (Err e) → ReadsTables contents told before after r
+pub tables_passed : (contents : Option (List (List ℕ × List ℕ))) (told : List (List ℕ × List ℕ) → Result Dataset LoadFault) (before after : ℕ) (r : Result Tables LoadFault) (e : LoadFault) → IsErrAnd r (λ x. x ≡ e) → AnswersFromFiles contents told before after (Err e) → ReadsTables contents told before after r
 tables_passed contents told before after (Ok x) e p h = absurd p
 tables_passed contents told before after (Err y) e p h = rw p h
 
 -- the same of visits that are arranged
-pub visits_passed : (trips : List TripRow) (stops : List StopRow) (contents : Option (List (List ℕ × List ℕ))) (told : List (List ℕ × List ℕ) → Result (List StopTimeRow) LoadFault) (before after : ℕ) (r : Result (Vec Visit Global) LoadFault) (e : LoadFault) → IsErrAnd r (λ x. x ≡ e) → Reads contents told before after (Err e) → ReadsArranged trips stops contents told before after r
+pub visits_passed : (trips : List TripRow) (stops : List StopRow) (contents : Option (List (List ℕ × List ℕ))) (told : List (List ℕ × List ℕ) → Result (List StopTimeRow) LoadFault) (before after : ℕ) (r : Result (Vec Visit Global) LoadFault) (e : LoadFault) → IsErrAnd r (λ x. x ≡ e) → AnswersFromFiles contents told before after (Err e) → ReadsArranged trips stops contents told before after r
 visits_passed trips stops contents told before after (Ok x) e p h = absurd p
 visits_passed trips stops contents told before after (Err y) e p h = rw p h
 
 -- a plan that was built, or want of memory
-pub built : (contents : Option (List (List ℕ × List ℕ))) (t : Timetable) (count : ℕ) (r : Result Timetable LoadFault) → IsBuilt t r → Reads contents (λ _. Ok t) count count r
+pub built : (contents : Option (List (List ℕ × List ℕ))) (t : Timetable) (count : ℕ) (r : Result Timetable LoadFault) → IsBuilt t r → AnswersFromFiles contents (λ _. Ok t) count count r
 built contents t count (Ok plan) h = record { loads = if_some contents _ (ap (λ x. Ok x) (sym h)); cause = omega arith; plain = tt }
 built contents t count (Err e) h = rw h (no_memory contents (λ _. Ok t) count)
 

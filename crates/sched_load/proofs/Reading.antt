@@ -9,7 +9,7 @@ use Rattle.gtfs_rows.specs.declared.fault.RowFault.TheVariants as rows
 use Rattle.load_defs.specs.declared.fault.File.{File}
 use Rattle.load_defs.specs.declared.fault.LoadFault.TheVariants as fault
 use Rattle.load_defs.specs.Files.{of_file, longest_file}
-use Rattle.sched_load.specs.Answer.{Reads, fault_of}
+use Rattle.sched_load.specs.Answer.{AnswersFromFiles, fault_of}
 use Rattle.sched_load.specs.Listed.{file_rows}
 use Rattle.std.proofs.lemmas.Bool.Decides.{nat_tests}
 
@@ -30,7 +30,7 @@ refused_row required name columns bytes left e is h told = ap (file_rows require
 -- a file that was read has the fault that its reader gave
 pub read_fault : {R : Type 0} (contents : Option (List (List ℕ × List ℕ))) (at : List (List ℕ × List ℕ) → Option (List ℕ)) (required : Bool) (name : File) (columns : Columns R) (before after : ℕ) (left : List ℕ) (e : RowFault)
     → (length left ≤ longest_file) × IfSome contents (λ fs. at fs ≡ Some left) → IsCause (rows_of columns left) (cause_of e) → before ≤ after
-    → Reads contents (λ fs. file_rows required name columns (at fs)) before after (Err (fault_of name e))
+    → AnswersFromFiles contents (λ fs. file_rows required name columns (at fs)) before after (Err (fault_of name e))
 read_fault None at required name columns before after left (rows.MissingColumn column) h told count = record { loads = tt; cause = (count, tt); plain = tt }
 read_fault None at required name columns before after left (rows.BadValue row column) h told count = record { loads = tt; cause = (count, tt); plain = tt }
 read_fault None at required name columns before after left (rows.NotText row column) h told count = record { loads = tt; cause = (count, tt); plain = tt }
@@ -45,6 +45,6 @@ read_fault (Some fs) at required name columns before after left rows.NoMemory h 
 -- a file that was read has the rows that its reader gave
 pub read_whole : {R : Type 0} (contents : Option (List (List ℕ × List ℕ))) (at : List (List ℕ × List ℕ) → Option (List ℕ)) (required : Bool) (name : File) (columns : Columns R) (before after : ℕ) (left : List ℕ) (xs : List R)
     → (length left ≤ longest_file) × IfSome contents (λ fs. at fs ≡ Some left) → rows_of columns left ≡ Ok xs → before ≤ after
-    → Reads contents (λ fs. file_rows required name columns (at fs)) before after (Ok xs)
+    → AnswersFromFiles contents (λ fs. file_rows required name columns (at fs)) before after (Ok xs)
 read_whole None at required name columns before after left xs h told count = record { loads = tt; cause = count; plain = tt }
 read_whole (Some fs) at required name columns before after left xs h told count = record { loads = ap (file_rows required name columns) h.1 ∙ rows_ok required name columns left xs h.0 told; cause = count; plain = tt }

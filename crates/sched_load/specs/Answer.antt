@@ -69,9 +69,12 @@ abbrev pub RefusesAlone : {A : Type 0} → Result A LoadFault → LoadFault → 
 RefusesAlone told fault.BadZone = told ≡ Err fault.BadZone
 RefusesAlone told (fault.MissingFile name) = told ≡ Err (fault.MissingFile name)
 RefusesAlone told (fault.TooLong name) = told ≡ Err (fault.TooLong name)
-RefusesAlone told (fault.Rows name (rows.MissingColumn column)) = told ≡ Err (fault.Rows name (rows.MissingColumn column))
-RefusesAlone told (fault.Rows name (rows.BadValue row column)) = told ≡ Err (fault.Rows name (rows.BadValue row column))
-RefusesAlone told (fault.Rows name (rows.NotText row column)) = told ≡ Err (fault.Rows name (rows.NotText row column))
+RefusesAlone told (fault.Rows name (rows.MissingColumn column)) = told
+    ≡ Err (fault.Rows name (rows.MissingColumn column))
+RefusesAlone told (fault.Rows name (rows.BadValue row column)) = told
+    ≡ Err (fault.Rows name (rows.BadValue row column))
+RefusesAlone told (fault.Rows name (rows.NotText row column)) = told
+    ≡ Err (fault.Rows name (rows.NotText row column))
 RefusesAlone told (fault.Rows name rows.TooMany) = told ≡ Err (fault.Rows name rows.TooMany)
 RefusesAlone told (fault.Rows name rows.NoMemory) = ⊥
 RefusesAlone told (fault.UnknownRef name row column) = told ≡ Err (fault.UnknownRef name row column)
@@ -81,12 +84,14 @@ RefusesAlone told fault.FileFault = ⊥
 RefusesAlone told fault.NoMemory = ⊤
 
 -- the answer of a step that reads no file is what is told
-abbrev pub Judges : {A : Type 0} → Result A LoadFault → Result A LoadFault → Type 0
-Judges told (Ok x) = told ≡ Ok x
-Judges told (Err e) = RefusesAlone told e
+abbrev pub AnswersAlone : {A : Type 0} → Result A LoadFault → Result A LoadFault → Type 0
+AnswersAlone told (Ok x) = told ≡ Ok x
+AnswersAlone told (Err e) = RefusesAlone told e
 
 -- The answer of a step that reads files is what is told of them, where they are told; it has a cause, and is plain.
-pub record Reads {A : Type 0} (contents : Option (List (List ℕ × List ℕ))) (told : List (List ℕ × List ℕ) → Result A LoadFault) (before after : ℕ) (answer : Result A LoadFault) : Type 0 where
+pub record AnswersFromFiles {A : Type 0} (contents : Option (List (List ℕ × List ℕ)))
+    (told : List (List ℕ × List ℕ) → Result A LoadFault) (before after : ℕ)
+    (answer : Result A LoadFault) : Type 0 where
   pub loads : IfSome contents (λ files. Loads (told files) answer)
   pub cause : HasLoadCause answer before after
   pub plain : IsPlainAnswer answer
@@ -105,5 +110,6 @@ fault_of name rows.TooMany = fault.Rows name rows.TooMany
 fault_of name rows.NoMemory = fault.NoMemory
 
 -- a step, and what follows from its value
-abbrev pub and_next : {A B : Type 0} → Result A LoadFault → (A → Result B LoadFault) → Result B LoadFault
+abbrev pub and_next : {A B : Type 0} → Result A LoadFault → (A → Result B LoadFault)
+    → Result B LoadFault
 and_next told next = told >>= next

@@ -34,7 +34,13 @@ IsBuilt t (Err e) = e ≡ fault.NoMemory
 
 -- a stop, among the rows of stops.txt
 abbrev pub stop_in : List StopRow → StopRow → Stop
-stop_in stops row = record { id = row.stop_id; name = row.stop_name; parent = number_of (λ stop. stop.stop_id) (by_id (λ stop. stop.stop_id) stops) row.parent_station }
+stop_in stops row =
+    record {
+      id = row.stop_id;
+      name = row.stop_name;
+      parent = number_of (λ stop. stop.stop_id)
+          (by_id (λ stop. stop.stop_id) stops) row.parent_station;
+    }
 
 -- the number of the agency with an id: an empty one is the only agency's, where there is one agency
 abbrev pub agency_in : List AgencyRow → List ℕ → Option ℕ
@@ -44,13 +50,21 @@ agency_in agencies id =
 
 -- a route, by the rows of agency.txt
 abbrev pub route_in : List AgencyRow → RouteRow → Route
-route_in agencies row = record { id = row.route_id; agency = agency_in agencies row.agency_id; short = row.route_short_name; long = row.route_long_name; kind = row.route_type }
+route_in agencies row =
+    record {
+      id = row.route_id;
+      agency = agency_in agencies row.agency_id;
+      short = row.route_short_name;
+      long = row.route_long_name;
+      kind = row.route_type;
+    }
 
 -- a trip, by the rows of routes.txt and the services
 abbrev pub trip_in : List RouteRow → List (List ℕ) → TripRow → Trip
 trip_in routes services row = record {
   id = row.trip_id;
-  route = known_number (λ route. route.route_id) (by_id (λ route. route.route_id) routes) row.route_id;
+  route = known_number (λ route. route.route_id)
+      (by_id (λ route. route.route_id) routes) row.route_id;
   service = known_number (λ id. id) services row.service_id;
   headsign = row.trip_headsign;
   direction = row.direction_id;

@@ -37,15 +37,24 @@ IsNearer (Some far) near = ahead_seen near ≡ Some (far.steps - 1, far.arrival)
 
 -- a place of a trip, with its times
 abbrev pub place_in : Visit × Times → Place
-place_in (visit, times) = record { stop = visit.stop; sequence = visit.sequence; arrival = times.arrival; departure = times.departure; pickup = visit.pickup }
+place_in (visit, times) =
+    record {
+      stop = visit.stop;
+      sequence = visit.sequence;
+      arrival = times.arrival;
+      departure = times.departure;
+      pickup = visit.pickup;
+    }
 
 -- the places of visits
 abbrev pub places_in : List Visit → List Place
 places_in visits = map place_in (zip visits (all_times (given_of visits)))
 
 -- the next place's times, and where the places behind it begin
-pub record Steps (before after : Course) (stay : Stay) (visit : Visit) (rest : List Visit) : Type 0 where
-  pub times : times_behind before.departure before.behind (given_of (visit ∷ rest)) ≡ stay_times stay ∷ times_behind after.departure after.behind (given_of rest)
+pub record Steps (before after : Course) (stay : Stay) (visit : Visit)
+    (rest : List Visit) : Type 0 where
+  pub times : times_behind before.departure before.behind (given_of (visit ∷ rest))
+      ≡ stay_times stay ∷ times_behind after.departure after.behind (given_of rest)
   pub ahead : Remembers after.ahead rest
   pub behind : after.behind ≤ before.behind + 1
 

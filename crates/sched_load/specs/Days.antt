@@ -22,7 +22,9 @@ runs_by row (Some exception) date = exception.kind == 1
 -- the days of a window on which a service with these exceptions is active
 abbrev pub active_by : List CalendarRow → ℕ → ℕ → List ℕ × List (ℕ × Exception) → List ℕ
 active_by calendar first days (service, exceptions) =
-    filter (λ day. runs_by (find (λ row. bytes_eq row.service_id service) calendar) (find_at nat_cmp (date_plus first day) exceptions) (date_plus first day)) (range_with_len 0 days)
+    filter (λ day. runs_by (find (λ row. bytes_eq row.service_id service) calendar)
+    (find_at nat_cmp (date_plus first day) exceptions)
+    (date_plus first day)) (range_with_len 0 days)
 
 -- the bases of a window are small
 abbrev pub EachSmall : List ℤ → Type 0

@@ -19,8 +19,10 @@ use Rattle.sched_load.specs.declared.visits.Visit.{Visit}
 use Rattle.sched_load.specs.Answer.{RefusesAlone}
 
 -- the rows of a file that must or may be there, of which the bytes are given if there are any
-abbrev pub file_rows : {R : Type 0} → Bool → File → Columns R → Option (List ℕ) → Result (List R) LoadFault
-file_rows required name columns bytes = if required then required_rows name columns bytes else optional_rows name columns bytes
+abbrev pub file_rows : {R : Type 0} → Bool → File → Columns R → Option (List ℕ)
+    → Result (List R) LoadFault
+file_rows required name columns bytes = if required then required_rows name columns bytes
+    else optional_rows name columns bytes
 
 -- the most rows of a file
 abbrev pub most_rows : ℕ
@@ -35,7 +37,8 @@ pub record IsOrder {R : Type 0} (id_of : R → List ℕ) (rows : List R) (order 
   pub rows_are : map (slice_get rows) order ≡ map (λ row. Some row) (by_id id_of rows)
 
 -- a file's rows that are consistent, with their places by rising ids, or the first fault
-abbrev pub Orders : {R : Type 0} → Result (List R) LoadFault → (R → List ℕ) → List R → Result (Vec ℕ Global) LoadFault → Type 0
+abbrev pub Orders : {R : Type 0} → Result (List R) LoadFault → (R → List ℕ) → List R
+    → Result (Vec ℕ Global) LoadFault → Type 0
 Orders told id_of rows (Ok order) = (told ≡ Ok rows) × IsOrder id_of rows order.items
 Orders told id_of rows (Err e) = RefusesAlone told e
 
@@ -66,8 +69,10 @@ visit_of trips stops row = record {
 }
 
 -- the rows of a group, by rising keys
-abbrev pub group_of : {R V : Type 0} → (R → List ℕ) → (V → ℕ) → (R → V) → List R → List ℕ → List (ℕ × V)
-group_of id_of key value rows id = rows_with_keys nat_cmp key (map value (filter (λ row. bytes_eq (id_of row) id) rows))
+abbrev pub group_of : {R V : Type 0} → (R → List ℕ) → (V → ℕ) → (R → V) → List R → List ℕ
+    → List (ℕ × V)
+group_of id_of key value rows id =
+    rows_with_keys nat_cmp key (map value (filter (λ row. bytes_eq (id_of row) id) rows))
 
 -- the entries of maps
 abbrev pub entries_of : {V : Type 0} → List (BTreeMap ℕ V Global) → List (List (ℕ × V))
@@ -78,7 +83,9 @@ abbrev pub entry_in : {V : Type 0} → List (List (ℕ × V)) → ℕ → ℕ �
 entry_in maps number key = find nat_cmp key (unwrap_or (slice_get maps number) [])
 
 -- a value stands under a key in one of the maps, where nothing stood before
-abbrev pub PutsNew : {V : Type 0} → List (List (ℕ × V)) → List (List (ℕ × V)) → ℕ → ℕ → V → Bool → Type 0
+abbrev pub PutsNew : {V : Type 0} → List (List (ℕ × V)) → List (List (ℕ × V)) → ℕ → ℕ → V → Bool
+    → Type 0
 PutsNew before after number key value fresh =
     (fresh ≡ is_none (entry_in before number key))
-    × (after ≡ slice_set before number (put nat_cmp key value (unwrap_or (slice_get before number) [])))
+    × (after ≡ slice_set before number
+    (put nat_cmp key value (unwrap_or (slice_get before number) [])))

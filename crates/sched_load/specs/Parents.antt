@@ -4,6 +4,7 @@ use Rattle.load_defs.specs.declared.fault.LoadFault.{LoadFault}
 use Rattle.sched_load.specs.Answer.{RefusesAlone}
 
 -- the rows pass, or have this fault
-abbrev pub Checks : {R : Type 0} → Result (List R) LoadFault → List R → Result (Unit {0}) LoadFault → Type 0
+abbrev pub Checks : {R : Type 0} → Result (List R) LoadFault → List R → Result (Unit {0}) LoadFault
+    → Type 0
 Checks told rows (Ok _) = told ≡ Ok rows
 Checks told rows (Err e) = RefusesAlone told e

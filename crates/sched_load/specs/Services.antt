@@ -14,4 +14,5 @@ ids_gathered ids = map (λ entry. (entry.0, tt)) (rows_with_keys (slice_cmp nat_
 -- every service_id that a file names
 abbrev pub services_of : List TripRow → List CalendarRow → List ExceptionRow → List (List ℕ)
 services_of trips calendar exceptions =
-    by_id (λ id. id) (map (λ row. row.service_id) trips ++ map (λ row. row.service_id) calendar ++ map (λ row. row.service_id) exceptions)
+    by_id (λ id. id) (map (λ row. row.service_id) trips ++ map (λ row. row.service_id) calendar
+    ++ map (λ row. row.service_id) exceptions)

@@ -8,18 +8,28 @@ use Rattle.load_defs.specs.declared.fault.LoadFault.{LoadFault}
 use Rattle.load_defs.specs.Numbers.{Dataset, service_ids}
 use Rattle.load_defs.specs.References.{consistent_agencies, consistent_stops, consistent_routes, consistent_trips, consistent_stop_times, consistent_calendar, consistent_exceptions}
 use Rattle.sched_load.specs.declared.tables.Tables.{Tables}
-use Rattle.sched_load.specs.Answer.{Reads}
+use Rattle.sched_load.specs.Answer.{AnswersFromFiles}
 use Rattle.sched_load.specs.Listed.{entries_of, file_rows, visit_of}
 use Rattle.sched_load.specs.Visits.{AreArranged}
 use Rattle.sched_load.specs.Groups.{exceptions_of}
 
 -- the rows, file by file, of which those of stop_times.txt are not kept
 abbrev pub dataset_of : Tables → List StopTimeRow → Dataset
-dataset_of t rows = record { agencies = t.agencies; stops = t.stops; routes = t.routes; trips = t.trips; stop_times = rows; calendar = t.calendar; exceptions = t.exceptions.items }
+dataset_of t rows =
+    record {
+      agencies = t.agencies;
+      stops = t.stops;
+      routes = t.routes;
+      trips = t.trips;
+      stop_times = rows;
+      calendar = t.calendar;
+      exceptions = t.exceptions.items;
+    }
 
 -- rows are those of a file
 abbrev pub AreOf : {R : Type 0} → Bool → File → Columns R → List R → Type 0
-AreOf required name columns rows = (bytes : Option (List ℕ)) × (file_rows required name columns bytes ≡ Ok rows)
+AreOf required name columns rows = (bytes : Option (List ℕ))
+    × (file_rows required name columns bytes ≡ Ok rows)
 
 -- rows of seven files that are consistent
 pub record IsConsistent (d : Dataset) : Type 0 where
@@ -50,7 +60,9 @@ abbrev pub WereRead : Tables → Type 0
 WereRead t = (rows : List StopTimeRow) × AreRead t rows
 
 -- what is read of the files, or the first fault
-abbrev pub ReadsTables : Option (List (List ℕ × List ℕ)) → (List (List ℕ × List ℕ) → Result Dataset LoadFault) → ℕ → ℕ → Result Tables LoadFault → Type 0
+abbrev pub ReadsTables : Option (List (List ℕ × List ℕ))
+    → (List (List ℕ × List ℕ) → Result Dataset LoadFault) → ℕ → ℕ → Result Tables LoadFault → Type 0
 ReadsTables contents told before after (Ok t) =
-    (rows : List StopTimeRow) × AreRead t rows × Reads contents told before after (Ok (dataset_of t rows))
-ReadsTables contents told before after (Err e) = Reads contents told before after (Err e)
+    (rows : List StopTimeRow) × AreRead t rows
+    × AnswersFromFiles contents told before after (Ok (dataset_of t rows))
+ReadsTables contents told before after (Err e) = AnswersFromFiles contents told before after (Err e)

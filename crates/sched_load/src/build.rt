@@ -29,7 +29,8 @@ use std::alloc::{AllocError, Global};
 
 /// The agency_ids, rising.
 fn agency_ids(alloc: Global, agencies: &Table<AgencyRow>) -> Result<Vec<PlanName>, AllocError>
-    ensures { IfOk result (λ ids. ids.items ≡ map (λ row. row.agency_id) (by_id (λ row. row.agency_id) agencies.now)) }
+    ensures { IfOk result (λ ids. ids.items
+        ≡ map (λ row. row.agency_id) (by_id (λ row. row.agency_id) agencies.now)) }
 {
     let mut ids = Vec::with_capacity(alloc, agencies.len())?;
     for number in 0..agencies.len() {
@@ -65,7 +66,8 @@ fn stop_of(alloc: Global, stops: &Table<StopRow>, row: &StopRow) -> Result<Stop,
 /// The stops by rising ids.
 fn stops_of(alloc: Global, stops: &Table<StopRow>) -> Result<Vec<Stop>, AllocError>
     requires { length (by_id (λ row. row.stop_id) stops.now) ≤ most_rows }
-    ensures { IfOk result (λ xs. xs.items ≡ map (stop_in stops.now) (by_id (λ row. row.stop_id) stops.now)) }
+    ensures { IfOk result (λ xs. xs.items
+        ≡ map (stop_in stops.now) (by_id (λ row. row.stop_id) stops.now)) }
 {
     let mut list = Vec::with_capacity(alloc, stops.len())?;
     for number in 0..stops.len() {
@@ -109,7 +111,8 @@ fn routes_of(
     agencies: &Table<AgencyRow>,
 ) -> Result<Vec<Route>, AllocError>
     requires { length (by_id (λ row. row.agency_id) agencies.now) ≤ most_rows }
-    ensures { IfOk result (λ xs. xs.items ≡ map (route_in agencies.now) (by_id (λ row. row.route_id) routes.now)) }
+    ensures { IfOk result (λ xs. xs.items
+        ≡ map (route_in agencies.now) (by_id (λ row. row.route_id) routes.now)) }
 {
     let mut list = Vec::with_capacity(alloc, routes.len())?;
     for number in 0..routes.len() {
@@ -160,7 +163,8 @@ fn trips_of(
     requires routes { length (by_id (λ row. row.route_id) routes.now) ≤ most_rows }
     requires services { length services.now < 2 ^ 32 }
     requires rise { RisesById (λ id. id) services.now }
-    ensures { IfOk result (λ xs. xs.items ≡ map (trip_in routes.now services.now) (by_id (λ row. row.trip_id) trips.now)) }
+    ensures { IfOk result (λ xs. xs.items
+        ≡ map (trip_in routes.now services.now) (by_id (λ row. row.trip_id) trips.now)) }
 {
     let mut list = Vec::with_capacity(alloc, trips.len())?;
     for number in 0..trips.len() {
@@ -178,7 +182,8 @@ fn places_lists(
     requires small { AreSmall visits.now }
     requires by_trip { IsNonDecreasingBy (λ (visit : Visit). visit.trip) visits.now }
     requires few { trips ≤ most_rows }
-    ensures value { IfOk result (λ lists. map (λ v. v.items) lists.items ≡ map (places_of_trip visits.now) (range_with_len 0 trips)) }
+    ensures value { IfOk result (λ lists. map (λ v. v.items) lists.items
+        ≡ map (places_of_trip visits.now) (range_with_len 0 trips)) }
     ensures fits { IfOk result (λ lists. ListsFit (map (λ v. v.items) lists.items)) }
 {
     let mut lists = Vec::with_capacity(alloc, trips)?;
@@ -201,7 +206,9 @@ fn parts_of(
     requires early { 19700201 ≤ first }
     requires late { first ≤ 29991231 }
     requires few { days ≤ 400 }
-    ensures table { (rows : List StopTimeRow) → AreRead tables.now rows → IfOk result (λ parts. table_of parts ≡ timetable_of zone.now first days (dataset_of tables.now rows)) }
+    ensures table { (rows : List StopTimeRow) → AreRead tables.now rows
+        → IfOk result (λ parts. table_of parts
+        ≡ timetable_of zone.now first days (dataset_of tables.now rows)) }
     ensures sound { IfOk result (λ parts. IsTimetable (table_of parts)) }
 {
     let services = tables.services.as_slice();
@@ -244,7 +251,8 @@ pub(crate) fn build_plan(
     requires early { 19700201 ≤ first }
     requires late { first ≤ 29991231 }
     requires few { days ≤ 400 }
-    ensures { (rows : List StopTimeRow) → AreRead tables.now rows → IsBuilt (timetable_of zone.now first days (dataset_of tables.now rows)) result }
+    ensures { (rows : List StopTimeRow) → AreRead tables.now rows
+        → IsBuilt (timetable_of zone.now first days (dataset_of tables.now rows)) result }
 {
     let parts = parts_of(alloc, zone, first, days, tables)?;
     Ok(Plan::build(alloc, parts)?)

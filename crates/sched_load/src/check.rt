@@ -15,7 +15,8 @@ use load_defs::LoadFault;
 /// Whether the times of all trips are in order, or the first row of trips.txt whose trip's are not.
 pub(crate) fn check_times(tables: &Tables) -> Result<(), LoadFault>
     requires { WereRead tables.now }
-    ensures { (rows : List StopTimeRow) → AreRead tables.now rows → TimesAre (dataset_of tables.now rows) result }
+    ensures { (rows : List StopTimeRow) → AreRead tables.now rows
+        → TimesAre (dataset_of tables.now rows) result }
 {
     for (place, row) in tables.trips.rows().iter().enumerate() {
         let Some(trip) = tables.trips.number_of(row.trip_id.as_str()) else {

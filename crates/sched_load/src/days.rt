@@ -61,7 +61,8 @@ fn runs_on(row: Option<&CalendarRow>, exception: Option<Exception>, date: u32) -
 
 /// Appends a day if the service runs on it.
 fn push_if(list: &mut Vec<u32>, day: u32, runs: bool) -> Result<(), AllocError>
-    ensures { OnOk result (list.new.items ≡ (if runs then list.old.items ++ day ∷ [] else list.old.items)) }
+    ensures { OnOk result (list.new.items
+        ≡ (if runs then list.old.items ++ day ∷ [] else list.old.items)) }
 {
     if runs {
         list.push(day)?;
@@ -80,7 +81,10 @@ pub(crate) fn days_of(
     requires valid { IsTrue (is_day first) }
     requires in_time { day_number first + days < 3_652_425 }
     requires flags { Flagged (option_copied row) }
-    ensures { IfOk result (λ list. list.items ≡ filter (λ day. runs_by (option_copied row.entry) (find nat_cmp (date_plus first day) exceptions.now.entries) (date_plus first day)) (range_with_len 0 days)) }
+    ensures { IfOk result (λ list. list.items
+        ≡ filter (λ day. runs_by (option_copied row.entry)
+        (find nat_cmp (date_plus first day) exceptions.now.entries)
+        (date_plus first day)) (range_with_len 0 days)) }
 {
     let mut list = Vec::new(alloc);
     let mut date = first;
@@ -104,8 +108,10 @@ pub(crate) fn active_lists(
     requires valid { IsTrue (is_day first) }
     requires in_time { day_number first + days < 3_652_425 }
     requires each { length exceptions.now ≡ length services.now }
-    requires flags { (i : ℕ) (row : CalendarRow) → slice_get calendar.now i ≡ Some row → flags_of row ≤ 127 }
-    ensures { IfOk result (λ lists. map (λ v. v.items) lists.items ≡ map (active_by calendar.now first days) (zip services.now (entries_of exceptions.now))) }
+    requires flags { (i : ℕ) (row : CalendarRow) → slice_get calendar.now i ≡ Some row
+        → flags_of row ≤ 127 }
+    ensures { IfOk result (λ lists. map (λ v. v.items) lists.items
+        ≡ map (active_by calendar.now first days) (zip services.now (entries_of exceptions.now))) }
 {
     let mut lists = Vec::with_capacity(alloc, services.len())?;
     for (number, service) in services.iter().enumerate() {
@@ -136,7 +142,8 @@ pub(crate) fn bases_of(
     requires late { first ≤ 29991231 }
     requires few { days ≤ 400 }
     requires in_time { day_number first + days < 3_652_425 }
-    ensures bases { IfOk result (λ bases. bases.items ≡ map (λ day. base_of zone.now (date_plus first day)) (range_with_len 0 days)) }
+    ensures bases { IfOk result (λ bases. bases.items
+        ≡ map (λ day. base_of zone.now (date_plus first day)) (range_with_len 0 days)) }
     ensures small { IfOk result (λ bases. EachSmall bases.items) }
 {
     let mut bases = Vec::new(alloc);

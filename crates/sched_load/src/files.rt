@@ -8,7 +8,7 @@ ghost use Rattle.sched_load.specs.Gathering.{BelowAll};
 ghost use Rattle.sched_load.specs.Visits.{ReadsVisits};
 ghost use Rattle.load_defs.specs.Files.{path_of};
 ghost use Rattle.hub_outside.specs.Files.{file_at};
-ghost use Rattle.sched_load.specs.Answer.{Reads, fault_of, items_in};
+ghost use Rattle.sched_load.specs.Answer.{AnswersFromFiles, fault_of, items_in};
 ghost use Rattle.std.specs.String.{string_bytes};
 ghost use Rattle.sched_load.specs.Listed.{file_rows, most_rows};
 
@@ -51,8 +51,11 @@ pub(crate) fn read_rows<F: Files, R: FileRow>(
     files: &mut F,
     folder: &str,
 ) -> Result<Vec<R>, LoadFault>
-    ensures reads { Reads (F.contents files.old) (λ fs. file_rows R.required R.name R.columns (file_at fs (path_of folder.now R.name))) (F.faults files.old) (F.faults files.new) (items_in result) }
-    ensures seen { IfOk result (λ rows. (bytes : Option (List ℕ)) × (file_rows R.required R.name R.columns bytes ≡ Ok rows.items)) }
+    ensures reads { AnswersFromFiles (F.contents files.old)
+        (λ fs. file_rows R.required R.name R.columns (file_at fs (path_of folder.now R.name)))
+        (F.faults files.old) (F.faults files.new) (items_in result) }
+    ensures seen { IfOk result (λ rows. (bytes : Option (List ℕ))
+        × (file_rows R.required R.name R.columns bytes ≡ Ok rows.items)) }
     ensures few { IfOk result (λ rows. length rows.items ≤ most_rows) }
     ensures same { F.contents files.new ≡ F.contents files.old }
 {
@@ -82,8 +85,12 @@ pub(crate) fn read_visits<F: Files>(
 ) -> Result<Gathered, LoadFault>
     requires trips { length trips.now ≤ most_rows }
     requires stops { length stops.now ≤ most_rows }
-    ensures reads { ReadsVisits trips.now stops.now (F.contents files.old) (λ fs. file_rows true file.StopTimes stop_times (file_at fs (path_of folder.now file.StopTimes))) (F.faults files.old) (F.faults files.new) result }
-    ensures below { IfOk result (λ g. BelowAll (length (by_id (λ trip. trip.trip_id) trips.now)) g.visits.items) }
+    ensures reads { ReadsVisits trips.now stops.now (F.contents files.old)
+        (λ fs. file_rows true file.StopTimes stop_times
+        (file_at fs (path_of folder.now file.StopTimes)))
+        (F.faults files.old) (F.faults files.new) result }
+    ensures below { IfOk result
+        (λ g. BelowAll (length (by_id (λ trip. trip.trip_id) trips.now)) g.visits.items) }
     ensures same { F.contents files.new ≡ F.contents files.old }
 {
     let path = path_of(alloc, folder, File::StopTimes)?;

@@ -29,7 +29,7 @@ fn stay_of(arrival: Option<u32>, departure: Option<u32>) -> Option<Stay>
     }
 }
 
-// The visit of a row, or its first column that refers to nothing. The trip is looked for first at a number.
+/// The visit of a row, or its first column that refers to nothing. The trip is looked for first at a number.
 fn visit_of(
     trips: &Table<TripRow>,
     stops: &Table<StopRow>,
@@ -39,7 +39,8 @@ fn visit_of(
     requires trips { length trips.now ≤ most_rows }
     requires stops { length stops.now ≤ most_rows }
     ensures value { IsVisit trips.now stops.now row.now result }
-    ensures below { IfOk result (λ visit. visit.trip < length (by_id (λ trip. trip.trip_id) trips.now)) }
+    ensures below { IfOk result
+        (λ visit. visit.trip < length (by_id (λ trip. trip.trip_id) trips.now)) }
 {
     let Some(trip) = trips.number_near(near as usize, row.trip_id.as_str()) else {
         return Err(Column::TripId);
@@ -56,7 +57,7 @@ fn visit_of(
     })
 }
 
-// Passes over the rows to come, or gives the first fault of theirs.
+/// Passes over the rows to come, or gives the first fault of theirs.
 fn skip(alloc: Global, rows: &mut StopTimes<'_>) -> Result<(), RowFault>
     requires { IsOpen rows.old }
     ensures { Skips (rows_to_come rows.old) result }
@@ -68,8 +69,8 @@ fn skip(alloc: Global, rows: &mut StopTimes<'_>) -> Result<(), RowFault>
     }
 }
 
-// Gathers the visits of the rows to come, up to the first that refers to nothing, and passes over those
-// behind it.
+/// Gathers the visits of the rows to come, up to the first that refers to nothing, and passes over those
+/// behind it.
 fn gather(
     alloc: Global,
     rows: &mut StopTimes<'_>,
@@ -80,7 +81,8 @@ fn gather(
     requires trips { length trips.now ≤ most_rows }
     requires stops { length stops.now ≤ most_rows }
     ensures value { Gathers trips.now stops.now (rows_to_come rows.old) result }
-    ensures below { IfOk result (λ g. BelowAll (length (by_id (λ trip. trip.trip_id) trips.now)) g.visits.items) }
+    ensures below { IfOk result
+        (λ g. BelowAll (length (by_id (λ trip. trip.trip_id) trips.now)) g.visits.items) }
 {
     let mut visits: Vec<Visit> = Vec::new(alloc);
     let mut near = 0;
@@ -118,7 +120,8 @@ pub(crate) fn gather_bytes(
     requires trips { length trips.now ≤ most_rows }
     requires stops { length stops.now ≤ most_rows }
     ensures value { Gathers trips.now stops.now (rows_of stop_times bytes.now) result }
-    ensures below { IfOk result (λ g. BelowAll (length (by_id (λ trip. trip.trip_id) trips.now)) g.visits.items) }
+    ensures below { IfOk result
+        (λ g. BelowAll (length (by_id (λ trip. trip.trip_id) trips.now)) g.visits.items) }
 {
     let mut rows = StopTimes::open(alloc, bytes)?;
     gather(alloc, &mut rows, trips, stops)

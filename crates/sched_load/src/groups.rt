@@ -29,7 +29,9 @@ pub(crate) fn put_new<V: Drop>(
     value: V,
 ) -> Result<bool, AllocError>
     requires { number < length maps.old.items }
-    ensures { IfOk result (λ fresh. PutsNew (entries_of maps.old.items) (entries_of maps.new.items) number key value fresh) }
+    ensures { IfOk result
+        (λ fresh. PutsNew (entries_of maps.old.items)
+        (entries_of maps.new.items) number key value fresh) }
 {
     let map = &mut maps[number];
     Ok(map.insert(key, value)?.is_none())

@@ -3,7 +3,7 @@
 ghost use Rattle.std.specs.Prelude.{◌≡◌, ◌≤◌, IfSome, IfOk};
 ghost use Rattle.load_defs.specs.Loading.{timetable, with_times, zone_of};
 ghost use Rattle.load_defs.specs.Numbers.{timetable_of};
-ghost use Rattle.sched_load.specs.Answer.{HasLoadCause, IsPlainAnswer, Judges, Loads};
+ghost use Rattle.sched_load.specs.Answer.{HasLoadCause, IsPlainAnswer, AnswersAlone, Loads};
 ghost use Rattle.sched_load.specs.Built.{IsBuilt, IsInOrder};
 ghost use Rattle.sched_load.specs.Tables.{AreRead, dataset_of};
 ghost use Rattle.sched_load.specs.Window.{HasWindow};
@@ -19,7 +19,7 @@ use std::alloc::Global;
 
 /// The zone of a rule.
 fn zone_of(rule: &str) -> Result<Zone, LoadFault>
-    ensures { Judges (zone_of rule.now) result }
+    ensures { AnswersAlone (zone_of rule.now) result }
 {
     match read_zone(rule) {
         Ok(zone) => Ok(zone),
@@ -42,7 +42,8 @@ pub fn load<F: Files>(
     conf: &PlanConf,
 ) -> Result<Plan, LoadFault>
     requires { HasWindow conf.now }
-    ensures loads { IfSome (F.contents files.old) (λ fs. Loads (timetable fs folder.now conf.now) result) }
+    ensures loads { IfSome (F.contents files.old)
+        (λ fs. Loads (timetable fs folder.now conf.now) result) }
     ensures cause { HasLoadCause result (F.faults files.old) (F.faults files.new) }
     ensures plain { IsPlainAnswer result }
     ensures same { F.contents files.new ≡ F.contents files.old }

@@ -20,7 +20,8 @@ pub(crate) fn row_number(place: usize) -> u32
 
 /// The values of a map by rising keys.
 fn values(alloc: Global, places: &BTreeMap<&str, u32>) -> Result<Vec<u32>, AllocError>
-    ensures { IfOk result (λ xs. xs.items ≡ map (λ entry. entry.1) (texts_seen places.now.entries)) }
+    ensures { IfOk result (λ xs. xs.items
+        ≡ map (λ entry. entry.1) (texts_seen places.now.entries)) }
 {
     let mut values = Vec::with_capacity(alloc, places.len())?;
     for (_, value) in places {
@@ -37,7 +38,9 @@ pub(crate) fn order_of<R: IdRow, J: Judge<R>>(
     judge: &J,
 ) -> Result<Vec<u32>, LoadFault>
     requires { length rows.now ≤ most_rows }
-    ensures { Orders (consistent R.name (J.unknown_of judge.now) (same_id R.id_of) rows.now) R.id_of rows.now result }
+    ensures { Orders
+        (consistent R.name (J.unknown_of judge.now)
+        (same_id R.id_of) rows.now) R.id_of rows.now result }
 {
     let mut places = BTreeMap::new(alloc);
     for (place, row) in rows.iter().enumerate() {

@@ -55,7 +55,9 @@ fn add_services<'a, R: ServiceRow>(
     rows: &'a [R],
     ids: &mut BTreeMap<&'a str, ()>,
 ) -> Result<(), AllocError>
-    ensures { (before : List (List ℕ)) → texts_seen ids.old.entries ≡ ids_gathered before → OnOk result (texts_seen ids.new.entries ≡ ids_gathered (before ++ map R.service_of rows.entry.now)) }
+    ensures { (before : List (List ℕ)) → texts_seen ids.old.entries ≡ ids_gathered before
+        → OnOk result (texts_seen ids.new.entries
+        ≡ ids_gathered (before ++ map R.service_of rows.entry.now)) }
 {
     for row in rows {
         ids.insert(row.service(), ())?;
@@ -65,7 +67,8 @@ fn add_services<'a, R: ServiceRow>(
 
 /// The ids of a map.
 fn names_of(alloc: Global, ids: &BTreeMap<&str, ()>) -> Result<Vec<PlanName>, AllocError>
-    ensures { IfOk result (λ names. names.items ≡ map (λ entry. entry.0) (texts_seen ids.now.entries)) }
+    ensures { IfOk result (λ names. names.items
+        ≡ map (λ entry. entry.0) (texts_seen ids.now.entries)) }
 {
     let mut names = Vec::with_capacity(alloc, ids.len())?;
     for (id, _) in ids {
@@ -111,9 +114,12 @@ pub(crate) fn group_exceptions(
 ) -> Result<Vec<BTreeMap<u32, Exception>>, LoadFault>
     requires few { length rows.now ≤ most_rows }
     requires rise { RisesById (λ id. id) services.now }
-    requires known { (i : ℕ) (row : ExceptionRow) → slice_get rows.now i ≡ Some row → (number : ℕ) × (number_of (λ id. id) services.now row.service_id ≡ Some number) }
-    requires kinds { (i : ℕ) (row : ExceptionRow) → slice_get rows.now i ≡ Some row → row.exception_type ≤ 2 }
-    ensures { Groups (consistent_exceptions rows.now) rows.now (exceptions_of services.now rows.now) result }
+    requires known { (i : ℕ) (row : ExceptionRow) → slice_get rows.now i ≡ Some row → (number : ℕ)
+        × (number_of (λ id. id) services.now row.service_id ≡ Some number) }
+    requires kinds { (i : ℕ) (row : ExceptionRow) → slice_get rows.now i ≡ Some row
+        → row.exception_type ≤ 2 }
+    ensures { Groups (consistent_exceptions rows.now) rows.now
+        (exceptions_of services.now rows.now) result }
 {
     let mut exceptions = empty_maps(alloc, services.len())?;
     for (place, row) in rows.iter().enumerate() {

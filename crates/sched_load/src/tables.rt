@@ -5,7 +5,7 @@ ghost use Rattle.hub_outside.specs.Files.{file_at};
 ghost use Rattle.load_defs.specs.Files.{path_of};
 ghost use Rattle.load_defs.specs.Loading.{dataset_in};
 ghost use Rattle.load_defs.specs.References.{consistent, consistent_stop_times, consistent_stops, has_id, with_parents};
-ghost use Rattle.sched_load.specs.Answer.{Reads, and_next};
+ghost use Rattle.sched_load.specs.Answer.{AnswersFromFiles, and_next};
 ghost use Rattle.sched_load.specs.Listed.{file_rows, most_rows, same_id};
 ghost use Rattle.sched_load.specs.Parents.{Checks};
 ghost use Rattle.sched_load.specs.Tables.{ReadsTables};
@@ -52,9 +52,16 @@ fn read_table<F: Files, R: IdRow, J: Judge<R>>(
     folder: &str,
     judge: &J,
 ) -> Result<Table<R>, LoadFault>
-    ensures reads { Reads (F.contents files.old) (λ fs. and_next (file_rows R.required R.name R.columns (file_at fs (path_of folder.now R.name))) (consistent R.name (J.unknown_of judge.now) (same_id R.id_of))) (F.faults files.old) (F.faults files.new) result }
-    ensures seen { IfOk result (λ rows. (bytes : Option (List ℕ)) × (file_rows R.required R.name R.columns bytes ≡ Ok rows)) }
-    ensures consistent { IfOk result (λ rows. consistent R.name (J.unknown_of judge.now) (same_id R.id_of) rows ≡ Ok rows) }
+    ensures reads { AnswersFromFiles (F.contents files.old)
+        (λ fs. and_next
+        (file_rows R.required R.name R.columns (file_at fs (path_of folder.now R.name)))
+        (consistent R.name (J.unknown_of judge.now)
+        (same_id R.id_of)))
+        (F.faults files.old) (F.faults files.new) result }
+    ensures seen { IfOk result (λ rows. (bytes : Option (List ℕ))
+        × (file_rows R.required R.name R.columns bytes ≡ Ok rows)) }
+    ensures consistent { IfOk result
+        (λ rows. consistent R.name (J.unknown_of judge.now) (same_id R.id_of) rows ≡ Ok rows) }
     ensures few { IfOk result (λ rows. length rows ≤ most_rows) }
     ensures same { F.contents files.new ≡ F.contents files.old }
 {
@@ -65,7 +72,9 @@ fn read_table<F: Files, R: IdRow, J: Judge<R>>(
 
 /// Whether the stop's `parent_station` is a stop, where it has one.
 fn has_parent(stops: &Table<StopRow>, row: &StopRow) -> bool
-    ensures { result ≡ (bytes_eq row.now.parent_station [] || has_id (λ stop. stop.stop_id) stops.now row.now.parent_station) }
+    ensures { result
+        ≡ (bytes_eq row.now.parent_station []
+        || has_id (λ stop. stop.stop_id) stops.now row.now.parent_station) }
 {
     let parent = row.parent_station.as_str();
     parent.is_empty() || stops.has(parent)
@@ -94,8 +103,13 @@ fn read_stops<F: Files>(
     files: &mut F,
     folder: &str,
 ) -> Result<Table<StopRow>, LoadFault>
-    ensures reads { Reads (F.contents files.old) (λ fs. and_next (file_rows true file.Stops stops (file_at fs (path_of folder.now file.Stops))) consistent_stops) (F.faults files.old) (F.faults files.new) result }
-    ensures seen { IfOk result (λ rows. (bytes : Option (List ℕ)) × (file_rows true file.Stops stops bytes ≡ Ok rows)) }
+    ensures reads { AnswersFromFiles (F.contents files.old)
+        (λ fs. and_next
+        (file_rows true file.Stops stops
+        (file_at fs (path_of folder.now file.Stops))) consistent_stops)
+        (F.faults files.old) (F.faults files.new) result }
+    ensures seen { IfOk result (λ rows. (bytes : Option (List ℕ))
+        × (file_rows true file.Stops stops bytes ≡ Ok rows)) }
     ensures consistent { IfOk result (λ rows. consistent_stops rows ≡ Ok rows) }
     ensures few { IfOk result (λ rows. length rows ≤ most_rows) }
     ensures same { F.contents files.new ≡ F.contents files.old }
@@ -115,7 +129,11 @@ fn arranged_visits<F: Files>(
 ) -> Result<Vec<Visit>, LoadFault>
     requires trips { length trips.now ≤ most_rows }
     requires stops { length stops.now ≤ most_rows }
-    ensures reads { ReadsArranged trips.now stops.now (F.contents files.old) (λ fs. and_next (file_rows true file.StopTimes stop_times (file_at fs (path_of folder.now file.StopTimes))) (consistent_stop_times trips.now stops.now)) (F.faults files.old) (F.faults files.new) result }
+    ensures reads { ReadsArranged trips.now stops.now (F.contents files.old)
+        (λ fs. and_next
+        (file_rows true file.StopTimes stop_times
+        (file_at fs (path_of folder.now file.StopTimes)))
+        (consistent_stop_times trips.now stops.now)) (F.faults files.old) (F.faults files.new) result }
     ensures same { F.contents files.new ≡ F.contents files.old }
 {
     let gathered = read_visits(alloc, files, folder, trips, stops)?;
@@ -129,7 +147,8 @@ pub(crate) fn read_tables<F: Files>(
     files: &mut F,
     folder: &str,
 ) -> Result<Tables, LoadFault>
-    ensures reads { ReadsTables (F.contents files.old) (λ fs. dataset_in fs folder.now) (F.faults files.old) (F.faults files.new) result }
+    ensures reads { ReadsTables (F.contents files.old) (λ fs. dataset_in fs folder.now)
+        (F.faults files.old) (F.faults files.new) result }
     ensures same { F.contents files.new ≡ F.contents files.old }
 {
     let agencies: Table<AgencyRow> = read_table(alloc, files, folder, &NoReference)?;

@@ -35,7 +35,9 @@ pub(crate) struct Course {
 
 /// Whether no place is left before it is reached, nor reached before the timed place in front of it is left.
 fn are_in_order(visits: &[Visit]) -> bool
-    ensures { result ≡ (list_all is_stay (known_times (given_of visits.now)) && are_moves (known_times (given_of visits.now))) }
+    ensures { result
+        ≡ (list_all is_stay (known_times (given_of visits.now))
+        && are_moves (known_times (given_of visits.now))) }
 {
     let mut before = 0;
     for visit in visits {
@@ -173,7 +175,8 @@ fn place_at(visit: Visit, stay: Stay) -> Place
 /// The places of a trip with their times, untimed ones lying evenly between timed ones.
 pub(crate) fn places_of(alloc: Global, visits: &[Visit]) -> Result<Vec<Place>, AllocError>
     requires few { length visits.now ≤ most_rows }
-    requires pickups { (i : ℕ) (visit : Visit) → slice_get visits.now i ≡ Some visit → visit.pickup ≤ 3 }
+    requires pickups { (i : ℕ) (visit : Visit) → slice_get visits.now i ≡ Some visit
+        → visit.pickup ≤ 3 }
     ensures value { IfOk result (λ places. places.items ≡ places_in visits.now) }
     ensures fits { IfOk result (λ places. AllFit places.items) }
 {

@@ -56,7 +56,7 @@ fn key_of(trip: u32, sequence: u32) -> u64
     u64::from(trip) * 4_294_967_296 + u64::from(sequence)
 }
 
-// The first visit that has the trip and the stop_sequence of an earlier one.
+/// The first visit that has the trip and the stop_sequence of an earlier one.
 fn first_twin(alloc: Global, visits: &[Visit]) -> Result<Option<usize>, AllocError>
     ensures value { IfOk result (FirstTwin visits.now) }
     ensures within { IfOk result (λ found. IfSome found (λ place. place < length visits.now)) }
@@ -73,7 +73,7 @@ fn first_twin(alloc: Global, visits: &[Visit]) -> Result<Option<usize>, AllocErr
     Ok(None)
 }
 
-// Whether the visits of each trip stand by rising stop_sequence, as they do in most files.
+/// Whether the visits of each trip stand by rising stop_sequence, as they do in most files.
 fn rises(alloc: Global, visits: &[Visit], trips: usize) -> Result<bool, AllocError>
     requires { BelowAll trips visits.now }
     ensures { IfOk result (λ rises. OnTrue rises (RisesByTrip visits.now)) }
@@ -90,7 +90,7 @@ fn rises(alloc: Global, visits: &[Visit], trips: usize) -> Result<bool, AllocErr
     Ok(true)
 }
 
-// A function of its own, so that its proof is found: where its branches join, what is known of the twin.
+/// A function of its own, so that its proof is found: where its branches join, what is known of the twin.
 fn twin_of(alloc: Global, visits: &[Visit], is_rising: bool) -> Result<Option<usize>, AllocError>
     requires { OnTrue is_rising (RisesByTrip visits.now) }
     ensures value { IfOk result (FirstTwin visits.now) }
@@ -116,7 +116,7 @@ fn by_trip(visits: &mut Vec<Visit>) -> Result<(), AllocError>
     Ok(())
 }
 
-// A function of its own, so that its proof is found: where its branches join, what the visits are then.
+/// A function of its own, so that its proof is found: where its branches join, what the visits are then.
 fn sort_unless(visits: &mut Vec<Visit>, is_rising: bool) -> Result<(), AllocError>
     ensures { OnOk result (IsSortedUnless is_rising visits.old.items visits.new.items) }
 {
@@ -126,7 +126,7 @@ fn sort_unless(visits: &mut Vec<Visit>, is_rising: bool) -> Result<(), AllocErro
     by_sequence(visits)
 }
 
-// Puts the visits trip by trip, those of a trip by rising stop_sequence.
+/// Puts the visits trip by trip, those of a trip by rising stop_sequence.
 fn sort(visits: &mut Vec<Visit>, is_rising: bool) -> Result<(), AllocError>
     requires rising { OnTrue is_rising (RisesByTrip visits.old.items) }
     requires apart { AreApart visits.old.items (length visits.old.items) }
@@ -147,7 +147,9 @@ pub(crate) fn arrange(
     requires below { BelowAll trips gathered.visits.items }
     requires few { length gathered.visits.items ≤ most_rows }
     requires room { IfSome gathered.unknown (λ _. length gathered.visits.items < most_rows) }
-    ensures { (ts : List TripRow) (ss : List StopRow) (rows : List StopTimeRow) → AreGathered ts ss rows gathered.visits.items gathered.unknown → Arranges ts ss rows result }
+    ensures { (ts : List TripRow) (ss : List StopRow) (rows : List StopTimeRow)
+        → AreGathered ts ss rows gathered.visits.items gathered.unknown
+        → Arranges ts ss rows result }
 {
     let Gathered {
         mut visits,

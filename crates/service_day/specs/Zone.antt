@@ -44,7 +44,8 @@ rule_in (Tzif table) = utc
 -- would leave the year stays at its edge, and a day that the year lacks is its end
 abbrev pub moment : ℤ → Day × ℤ → ℤ
 moment year d = match_some (rule_day year d.0) (last_nanosecond year) (λ day.
-    clamp_to (first_nanosecond year) (last_nanosecond year) (day *ℤ nanos_per_day +ℤ nanos_of_seconds d.1))
+    clamp_to (first_nanosecond year) (last_nanosecond year)
+    (day *ℤ nanos_per_day +ℤ nanos_of_seconds d.1))
 
 -- how far daylight saving time is ahead of standard time, in nanoseconds
 abbrev pub shift : ℤ → ℤ → ℤ
@@ -91,7 +92,8 @@ noon_of date = epoch_day date *ℤ pos 86_400 +ℤ pos 43_200
 -- a service day from it, so that a day of 23 or 25 hours moves none of them
 unfoldable pub base_of : TzText → ℕ → ℤ
 base_of rule date =
-    noon_of date -ℤ offset_of rule (pos (year_of date)) (nanos_of_seconds (noon_of date)) -ℤ pos 43_200
+    noon_of date -ℤ offset_of rule (pos (year_of date))
+    (nanos_of_seconds (noon_of date)) -ℤ pos 43_200
 
 -- the same by the text of the rule, if it is one
 abbrev pub base_in : List ℕ → ℕ → Option ℤ

@@ -14,7 +14,7 @@ use std::alloc::Global;
 use std::cmp::Ordering;
 use std::sync::Arc;
 
-// How the chunk's first key stands to another.
+/// How the chunk's first key stands to another.
 fn lead_order<T: Keyed>(chunk: &Arc<Vec<T>>, key: &str) -> Ordering
     ensures { result ≡ key_cmp (lead T.key_of chunk.now.value.items) key.now }
 {
@@ -24,7 +24,7 @@ fn lead_order<T: Keyed>(chunk: &Arc<Vec<T>>, key: &str) -> Ordering
     }
 }
 
-// The number of the chunk in which the key stands, if it stands anywhere.
+/// The number of the chunk in which the key stands, if it stands anywhere.
 fn home<T: Keyed>(chunks: &[Arc<Vec<T>>], key: &str) -> usize
     requires some { 0 < length chunks.now }
     requires parts { AreParts T.key_of (parts_of chunks.now) }
@@ -52,7 +52,7 @@ pub(crate) fn item_in<'a, T: Keyed>(chunks: &'a [Arc<Vec<T>>], key: &str) -> Opt
     }
 }
 
-// Puts the item in its place among the items, and takes the back of them off where they are too many.
+/// Puts the item in its place among the items, and takes the back of them off where they are too many.
 fn put_and_split<T: Keyed>(items: &mut Vec<T>, item: T) -> Result<Option<Vec<T>>, NoMemory>
     requires { Rises T.key_of items.old.items }
     ensures put { IfOk result (λ rest. entries T.key_of (items.new.items ++ items_of rest)
@@ -64,7 +64,7 @@ fn put_and_split<T: Keyed>(items: &mut Vec<T>, item: T) -> Result<Option<Vec<T>>
     split_off(items)
 }
 
-// Puts the item in its place in the chunk, and takes the back of them off where they are too many.
+/// Puts the item in its place in the chunk, and takes the back of them off where they are too many.
 fn put_in<T: Keyed>(
     alloc: Global,
     chunk: &mut Arc<Vec<T>>,
@@ -85,7 +85,7 @@ fn put_in<T: Keyed>(
     Ok(rest)
 }
 
-// Takes the item at that place out of the chunk.
+/// Takes the item at that place out of the chunk.
 fn take_from<T: Keyed>(alloc: Global, chunk: &mut Arc<Vec<T>>, at: usize) -> Result<(), NoMemory>
     requires { at < length chunk.old.value.items }
     ensures { OnOk result (chunk.new.value.items ≡ remove chunk.old.value.items at) }

@@ -9,10 +9,10 @@ use crate::NoMemory;
 use crate::keyed::{Keyed, key_order};
 use std::alloc::Global;
 
-// The most items of a chunk.
+/// The most items of a chunk.
 const MOST_ITEMS: usize = 128;
 
-// The items that stay in a chunk which had more than that.
+/// The items that stay in a chunk which had more than that.
 const KEPT_ITEMS: usize = 64;
 
 /// Where the item with that key stands, or where it would.

@@ -110,7 +110,7 @@ impl<T: Keyed> SharedList<T> {
     }
 }
 
-// How many items there are with one that may be new. More than can be counted are more than memory holds.
+/// How many items there are with one that may be new. More than can be counted are more than memory holds.
 fn len_with(len: usize, is_new: bool) -> Result<usize, NoMemory>
     ensures { IfOk result (λ count. count ≡ (if is_new then len + 1 else len)) }
 {

@@ -6,7 +6,7 @@ use std::alloc::Global;
 use std::test::Fail;
 use texts::ShortText;
 
-// A name with a number.
+/// A name with a number.
 #[derive(Drop)]
 struct Numbered {
     name: ShortText,
@@ -30,7 +30,7 @@ impl Keyed for Numbered {
     }
 }
 
-// The list with that name and number.
+/// The list with that name and number.
 fn with(
     alloc: Global,
     list: SharedList<Numbered>,
@@ -41,7 +41,7 @@ fn with(
     list.with(Numbered { name, number })
 }
 
-// The sum of the numbers, each times its place from 1.
+/// The sum of the numbers, each times its place from 1.
 fn weighed(list: &SharedList<Numbered>) -> u32 {
     let mut place = 0u32;
     let mut sum = 0u32;
@@ -52,7 +52,7 @@ fn weighed(list: &SharedList<Numbered>) -> u32 {
     sum
 }
 
-// Whether a version that is changed leaves the other as it was.
+/// Whether a version that is changed leaves the other as it was.
 fn versions(alloc: Global) -> Result<bool, NoMemory> {
     let old = with(
         alloc,

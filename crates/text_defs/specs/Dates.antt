@@ -35,7 +35,8 @@ unfoldable pub is_day : ℕ → Bool
 is_day date =
     nat_lt (year_of date) 10_000
     && (nat_le 1 (month_of date) && nat_le (month_of date) 12)
-    && (nat_le 1 (day_of date) && nat_le (day_of date) (days_in_month (year_of date) (month_of date)))
+    && (nat_le 1 (day_of date)
+    && nat_le (day_of date) (days_in_month (year_of date) (month_of date)))
 
 -- the days of the years before, from the year 0 on: 365 each, and one for each leap year among them
 abbrev pub days_before_year : ℕ → ℕ
@@ -50,7 +51,8 @@ days_before_month year month =
 -- how many days lie between 1 January of the year 0 and the date
 unfoldable pub day_number : ℕ → ℕ
 day_number date =
-    days_before_year (year_of date) + days_before_month (year_of date) (month_of date) + (day_of date - 1)
+    days_before_year (year_of date) + days_before_month (year_of date) (month_of date) +
+    (day_of date - 1)
 
 -- the same from 1 January 1970, which POSIX takes as the first day of its epoch
 abbrev pub epoch_day : ℕ → ℤ

@@ -3,7 +3,7 @@
 ghost use Rattle.std.specs.Prelude.{◌≡◌, ◌≤◌, ◌<◌, ◌^◌, length, IfSome};
 ghost use Rattle.text_defs.specs.Numbers.{digits_after, number};
 
-// The number of at most 19 decimal digits, which fits.
+/// The number of at most 19 decimal digits, which fits.
 pub(crate) fn digits_of(bytes: &[u8]) -> Option<u64>
     requires { length bytes.now ≤ 19 }
     ensures value { result ≡ digits_after 0 bytes.now }

@@ -6,7 +6,7 @@ ghost use Rattle.text_defs.specs.Times.{clock_of, sixtieth, time_in};
 
 use crate::numbers::digits_of;
 
-// Two digits, below 60.
+/// Two digits, below 60.
 fn read_sixtieth(tens: u8, ones: u8) -> Option<u32>
     ensures value { result ≡ sixtieth (tens ∷ ones ∷ []) }
     ensures small { IfSome result (λ n. n < 60) }
@@ -18,7 +18,7 @@ fn read_sixtieth(tens: u8, ones: u8) -> Option<u32>
     if value < 60 { Some(value) } else { None }
 }
 
-// One to three digits of hours.
+/// One to three digits of hours.
 fn read_hours(bytes: &[u8]) -> Option<u32>
     ensures value { result ≡ digits 1 3 bytes.now }
     ensures small { IfSome result (λ n. n < 1000) }
@@ -30,7 +30,7 @@ fn read_hours(bytes: &[u8]) -> Option<u32>
     Some(hours as u32)
 }
 
-// The seconds of the hours and of what stands behind them.
+/// The seconds of the hours and of what stands behind them.
 fn read_clock(hours: &[u8], behind: &[u8]) -> Option<u32>
     ensures { result ≡ clock_of hours.now behind.now }
 {

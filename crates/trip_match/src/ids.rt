@@ -28,7 +28,9 @@ fn run_on(plan: &Plan, trip: u32, date: u32) -> Found
 
 /// The run of the trip with that id on that date, or without a date on the nearest day.
 pub(crate) fn by_id(plan: &Plan, id: &str, date: Option<u32>, stamp: u64) -> Found
-    ensures { (later : Found) → result ≡ first_rule (rule_4_trip_id plan.now (Some id.now) date) (first_rule (rule_5_nearest_day plan.now (pos stamp) (Some id.now)) later) }
+    ensures { (later : Found) → result
+        ≡ first_rule (rule_4_trip_id plan.now (Some id.now) date)
+        (first_rule (rule_5_nearest_day plan.now (pos stamp) (Some id.now)) later) }
 {
     match plan.trip_of(id) {
         Some(trip) => match date {

@@ -24,7 +24,8 @@ fn has_no_run(relation: TripRelation) -> bool
 }
 
 fn is_added(relation: TripRelation) -> bool
-    ensures { (id : Option (List ℕ)) → rule_3_added_trip relation id ≡ (if result then rule.added_trip id else None) }
+    ensures { (id : Option (List ℕ)) → rule_3_added_trip relation id
+        ≡ (if result then rule.added_trip id else None) }
 {
     matches!(relation, TripRelation::Added)
 }
@@ -44,7 +45,8 @@ fn start_day(trip: &TripRef) -> Result<Option<u32>, Why>
 
 /// What is known of an ADDED trip.
 fn added(trip: &TripRef) -> Found
-    ensures { (later : Found) → result ≡ first_rule (rule.added_trip (text.text_given trip.now.trip_id)) later }
+    ensures { (later : Found) → result
+        ≡ first_rule (rule.added_trip (text.text_given trip.now.trip_id)) later }
 {
     match given(&trip.trip_id) {
         Some(_) => Found::Added,
@@ -54,7 +56,12 @@ fn added(trip: &TripRef) -> Found
 
 /// What the descriptor of a trip of the timetable is about.
 fn scheduled(plan: &Plan, trip: &TripRef, date: Option<u32>, stamp: u64) -> Found
-    ensures { result ≡ first_rule (rule_4_trip_id plan.now (text.text_given trip.now.trip_id) date) (first_rule (rule_5_nearest_day plan.now (pos stamp) (text.text_given trip.now.trip_id)) (rule_6_route_and_time plan.now (text.text_given trip.now.route_id) trip.now.direction_id date (text.text_given trip.now.start_time))) }
+    ensures { result
+        ≡ first_rule (rule_4_trip_id plan.now (text.text_given trip.now.trip_id) date)
+        (first_rule (rule_5_nearest_day plan.now (pos stamp) (text.text_given trip.now.trip_id))
+        (rule_6_route_and_time plan.now
+        (text.text_given trip.now.route_id) trip.now.direction_id date
+        (text.text_given trip.now.start_time))) }
 {
     match given(&trip.trip_id) {
         Some(id) => by_id(plan, id, date, stamp),

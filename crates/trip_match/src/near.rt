@@ -16,7 +16,8 @@ const REACH: i64 = 129_600;
 /// The instant, if the day with that base is near it.
 fn near_instant(base: i64, stamp: u64) -> Option<i64>
     requires { IsSmall base }
-    ensures value { result ≡ (if is_near_noon (base +ℤ pos 43200) (pos stamp) then Some (pos stamp) else None) }
+    ensures value { result
+        ≡ (if is_near_noon (base +ℤ pos 43200) (pos stamp) then Some (pos stamp) else None) }
     ensures positive { IfSome result (λ instant. pos 0 ≤ℤ instant) }
     ensures early { IfSome result (λ instant. instant ≤ℤ pos 2_000_000_000_000) }
 {
@@ -95,7 +96,10 @@ fn look(plan: &Plan, trip: u32, stamp: u64, day: u32, seen: Seen) -> Seen
     requires trip { trip < length plan.now.trips }
     requires day { day < length plan.now.bases }
     ensures any { result.any_near ≡ (seen.any_near || is_near plan.now (pos stamp) day) }
-    ensures best { result.best ≡ (if runs_near plan.now trip (pos stamp) day then rule.nearer seen.best (rule.near_at plan.now trip (pos stamp) day) else seen.best) }
+    ensures best { result.best
+        ≡ (if runs_near plan.now trip (pos stamp) day
+        then rule.nearer seen.best (rule.near_at plan.now trip (pos stamp) day)
+        else seen.best) }
 {
     let base = plan.base(day);
     match near_instant(base, stamp) {

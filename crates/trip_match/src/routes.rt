@@ -56,7 +56,10 @@ fn departing_at(plan: &Plan, route: &str, direction: u32, date: u32, time: &str)
 
 /// The run of the descriptor's route, direction and time on that date, if all are given.
 pub(crate) fn by_departure(plan: &Plan, trip: &TripRef, date: Option<u32>) -> Found
-    ensures { result ≡ rule_6_route_and_time plan.now (text.text_given trip.now.route_id) trip.now.direction_id date (text.text_given trip.now.start_time) }
+    ensures { result
+        ≡ rule_6_route_and_time plan.now
+        (text.text_given trip.now.route_id) trip.now.direction_id date
+        (text.text_given trip.now.start_time) }
 {
     match (
         given(&trip.route_id),

@@ -32,7 +32,7 @@ impl<C: rt::Clock> Clock for SystemClock<C> {
     }
 }
 
-// The moment of a reading.
+/// The moment of a reading.
 fn moment_of(reading: io::Result<Duration>) -> u64
     ensures { result ≡ moment_of reading }
 {

@@ -12,7 +12,7 @@ use crate::file_stores::{FileAnswer, Files};
 use std::io::{ErrorKind, Read};
 use std::{fs, io, rt};
 
-// How many bytes are read at a time.
+/// How many bytes are read at a time.
 const PIECE: usize = 1 << 17;
 
 /// The files of the system. A path with no file is absent, and so is one of which a folder is a
@@ -53,7 +53,7 @@ impl<R: rt::Files> Files for StdFiles<R> {
     }
 }
 
-// What the opening of a file comes to: its bytes are read into the empty buffer as far as it goes.
+/// What the opening of a file comes to: its bytes are read into the empty buffer as far as it goes.
 fn fetch<F: Read + Drop>(opened: io::Result<F>, limit: u64, into: &mut Buf) -> FileAnswer
     requires { into.old.bytes ≡ [] }
     ensures unopened { IfErr opened (λ error. result ≡ answer_unopened (error_kind error)) }
@@ -68,7 +68,7 @@ fn fetch<F: Read + Drop>(opened: io::Result<F>, limit: u64, into: &mut Buf) -> F
     }
 }
 
-// What a file is that can't be opened.
+/// What a file is that can't be opened.
 fn answer_unopened(kind: ErrorKind) -> FileAnswer
     ensures { result ≡ answer_unopened kind }
 {
@@ -78,8 +78,8 @@ fn answer_unopened(kind: ErrorKind) -> FileAnswer
     }
 }
 
-// The bytes of an open file, read into the empty buffer as far as it went. It asks for memory only
-// where no room is left, so a buffer with room for the limit serves without any.
+/// The bytes of an open file, read into the empty buffer as far as it went. It asks for memory only
+/// where no room is left, so a buffer with room for the limit serves without any.
 fn fetch_bytes<F: Read>(file: &mut F, limit: u64, into: &mut Buf) -> FileAnswer
     requires { into.old.bytes ≡ [] }
     ensures answer { IsFetched result limit into.new.bytes }
@@ -103,7 +103,7 @@ fn fetch_bytes<F: Read>(file: &mut F, limit: u64, into: &mut Buf) -> FileAnswer
     end_at(file, limit)
 }
 
-// Whether the file ends at the limit, where it was read up to there.
+/// Whether the file ends at the limit, where it was read up to there.
 fn end_at<F: Read>(file: &mut F, limit: u64) -> FileAnswer
     ensures answer { IsFetched result limit [] }
     ensures present { result ≢ FileAnswer.Absent }

@@ -6,7 +6,7 @@ ghost use Rattle.hub_outside.specs.Decisions.{is_cut_short, is_interruption};
 use std::io;
 use std::io::{ErrorKind, Read, Write};
 
-// Reads once it isn't cut short. After so many tries as a u64 counts it gives up (ETIMEDOUT).
+/// Reads once it isn't cut short. After so many tries as a u64 counts it gives up (ETIMEDOUT).
 pub(crate) fn read_once<R: Read>(reader: &mut R, into: &mut [u8]) -> io::Result<usize>
     ensures count { IfOk result (λ count. count ≤ length into.new) }
     ensures bytes { ReadConsumes (R.remaining reader.old) (R.remaining reader.new) result into.new }
@@ -21,7 +21,7 @@ pub(crate) fn read_once<R: Read>(reader: &mut R, into: &mut [u8]) -> io::Result<
     Err(io::Error::from(ErrorKind::TimedOut))
 }
 
-// Writes once it isn't cut short. After so many tries as a u64 counts it gives up (ETIMEDOUT).
+/// Writes once it isn't cut short. After so many tries as a u64 counts it gives up (ETIMEDOUT).
 pub(crate) fn write_once<W: Write>(writer: &mut W, bytes: &[u8]) -> io::Result<usize>
     ensures count { IfOk result (λ count. count ≤ length bytes.now) }
     ensures bytes { WriteAppends (W.contents writer.old) (W.contents writer.new) result bytes.now }
@@ -36,7 +36,7 @@ pub(crate) fn write_once<W: Write>(writer: &mut W, bytes: &[u8]) -> io::Result<u
     Err(io::Error::from(ErrorKind::TimedOut))
 }
 
-// Whether a call of std is to be made again.
+/// Whether a call of std is to be made again.
 fn is_cut_short(answer: &io::Result<usize>) -> bool
     ensures { result ≡ is_cut_short answer.now }
 {

@@ -31,14 +31,14 @@ impl Calls {
         }
     }
 
-    // How many calls there were.
+    /// How many calls there were.
     pub(crate) fn count(&self) -> u64
         ensures { result ≡ self.now.calls }
     {
         self.calls
     }
 
-    // Counts a call, and says whether it is to fail. One that fails is counted as a fault too.
+    /// Counts a call, and says whether it is to fail. One that fails is counted as a fault too.
     pub(crate) fn begin(&mut self) -> bool
         ensures fails { result ≡ is_failing self.old }
         ensures after { self.new ≡ (if result then with_fault self.old else with_call self.old) }
@@ -52,7 +52,7 @@ impl Calls {
         fails
     }
 
-    // Counts a fault of the call that was counted last.
+    /// Counts a fault of the call that was counted last.
     pub(crate) fn fault(&mut self)
         ensures after { self.new ≡ record self.old { faults = one_more self.old.faults } }
         ensures faults { self.old.faults ≤ self.new.faults }
@@ -61,7 +61,7 @@ impl Calls {
     }
 }
 
-// How many of `most` bytes the call after `calls` others moves.
+/// How many of `most` bytes the call after `calls` others moves.
 pub(crate) fn cut(pieces: &[u32], calls: u64, most: usize) -> usize
     ensures { result ≡ cut_at pieces.now calls most }
 {

@@ -91,7 +91,7 @@ impl Files for MemoryFiles {
     }
 }
 
-// The first file of that path.
+/// The first file of that path.
 fn first_at<'a>(files: &'a [MemoryFile], path: &str) -> Option<&'a MemoryFile>
     ensures { option_copied result ≡ find (λ file. bytes_eq file.0 path.now) files.now }
 {
