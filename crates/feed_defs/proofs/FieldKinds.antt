@@ -82,7 +82,7 @@ last_none : {A : Type 0} (says : Payload → Option A) (n : ℕ) → last_of say
 unfolding last_of
 last_none says n = refl
 
-last_own : {A : Type 0} (says : Payload → Option A) (n : ℕ) (payload : Payload) (raw : List ℕ) (x : A) → says payload ≡ Some x → last_of says n (carrying n payload raw ∷ []) ≡ Some x
+pub last_own : {A : Type 0} (says : Payload → Option A) (n : ℕ) (payload : Payload) (raw : List ℕ) (x : A) → says payload ≡ Some x → last_of says n (carrying n payload raw ∷ []) ≡ Some x
 unfolding last_of
 last_own says n payload raw x e = rw (at_own says n payload raw, e) refl
 
@@ -217,7 +217,7 @@ pub span_fits : (bytes : List ℕ) → length (payload_bytes (Span bytes)) < 2 ^
 unfolding payload_bytes
 span_fits bytes small = omega (arith, length-append (varint (length bytes)) bytes)
 
-text_is : (name : Kind) (n : ℕ) (told : Option (List ℕ)) (x : List ℕ) → as_text name n told ≡ Ok (Some x) → is_utf8 x ≡ true
+pub text_is : (name : Kind) (n : ℕ) (told : Option (List ℕ)) (x : List ℕ) → as_text name n told ≡ Ok (Some x) → is_utf8 x ≡ true
 text_is name n None x e = absurd (cc)
 text_is name n (Some bytes) x e = tested (is_utf8 bytes) refl e
   where
@@ -225,7 +225,7 @@ text_is name n (Some bytes) x e = tested (is_utf8 bytes) refl e
     tested true is e = let f = rw is at e in let same : bytes ≡ x = cc in rw (← same) is
     tested false is e = let f = rw is at e in absurd (cc)
 
-text_again : (name : Kind) (n : ℕ) (x : List ℕ) → is_utf8 x ≡ true → as_text name n (Some x) ≡ Ok (Some x)
+pub text_again : (name : Kind) (n : ℕ) (x : List ℕ) → is_utf8 x ≡ true → as_text name n (Some x) ≡ Ok (Some x)
 text_again name n x e = rw e refl
 
 pub text_lawful : (n : ℕ) → IsLawfulKind n text
@@ -272,12 +272,12 @@ merged_none : {M : Type 0} (m : Message M) → merged_message m [] ≡ Ok None
 unfolding merged_message
 merged_none m = refl
 
-merged_is : {M : Type 0} (m : Message M) (payloads : List (List ℕ)) (x : M) → merged_message m payloads ≡ Ok (Some x) → value m payloads ≡ Ok x
+pub merged_is : {M : Type 0} (m : Message M) (payloads : List (List ℕ)) (x : M) → merged_message m payloads ≡ Ok (Some x) → value m payloads ≡ Ok x
 unfolding merged_message
 merged_is m [] x e = absurd (cc)
 merged_is m (bytes ∷ more) x e = let h = bind_ok (value m (bytes ∷ more)) (λ y. Ok (Some y)) (Some x) e in let same : h.0 ≡ x = cc in h.1 ∙ ap Ok same
 
-merged_again : {M : Type 0} (m : Message M) (bytes : List ℕ) (x : M) → value m (bytes ∷ []) ≡ Ok x → merged_message m (bytes ∷ []) ≡ Ok (Some x)
+pub merged_again : {M : Type 0} (m : Message M) (bytes : List ℕ) (x : M) → value m (bytes ∷ []) ≡ Ok x → merged_message m (bytes ∷ []) ≡ Ok (Some x)
 unfolding merged_message
 merged_again m bytes x e = rw e refl
 

@@ -7,3 +7,7 @@ pub mod WellFormed
 pub mod Held
 pub mod Kept
 pub mod Applied
+pub mod Under
+pub mod RenamedAgain
+pub mod DataSet
+pub mod Said

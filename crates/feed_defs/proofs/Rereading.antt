@@ -49,7 +49,7 @@ fields_are kind bytes fields e = told_fields kind (fields_of bytes) fields e
 fields_again : (kind : Kind) (bytes : List ℕ) (fields : List Field) → fields_of bytes ≡ Ok fields → fields_in kind bytes ≡ Ok fields
 fields_again kind bytes fields e = ap (λ r. named_fault kind r) e
 
-joined_were_read : (kind : Kind) (payloads : List (List ℕ)) (fields : List Field) → AllByRecursion AreBytes payloads → fields_of_all kind payloads ≡ Ok fields → AllByRecursion WasRead fields
+pub joined_were_read : (kind : Kind) (payloads : List (List ℕ)) (fields : List Field) → AllByRecursion AreBytes payloads → fields_of_all kind payloads ≡ Ok fields → AllByRecursion WasRead fields
 unfolding fields_of_all
 joined_were_read kind [] fields each e = let none : [] ≡ fields = cc in subst (AllByRecursion WasRead) none tt
 joined_were_read kind (bytes ∷ more) fields each e =
@@ -92,17 +92,22 @@ written_is : {M V : Type 0} (shape : Shape M V) → Holds shape → (v : V) (fie
 unfolding message_bytes unknown_bytes_of
 written_is shape holds v fields = rw ((holds v (unknown_bytes_of shape.rows.is_known fields)).0, (holds v (unknown_bytes_of shape.rows.is_known fields)).1) refl
 
-remade : {M V : Type 0} (shape : Shape M V) (low high : ℕ) → IsLawful low high shape.rows → 1 ≤ low → high ≤ 536870911 → Holds shape → (fields : List Field) (v : V) → AllByRecursion WasRead fields → shape.rows.read shape.kind fields ≡ Ok (Ok v) → length (message_bytes (message shape) (shape.make v (unknown_bytes_of shape.rows.is_known fields))) < 2 ^ 64 → value (message shape) (message_bytes (message shape) (shape.make v (unknown_bytes_of shape.rows.is_known fields)) ∷ []) ≡ Ok (shape.make v (unknown_bytes_of shape.rows.is_known fields))
-remade shape low high law l h holds fields v were e small =
+-- values that can be written, and are read again from that, with what was unknown of fields that were read
+pub made_again : {M V : Type 0} (shape : Shape M V) (low high : ℕ) → IsLawful low high shape.rows → 1 ≤ low → high ≤ 536870911 → Holds shape → (fields : List Field) (v : V) → AllByRecursion WasRead fields
+    → (length (flat_map field_bytes (shape.rows.write v)) < 2 ^ 64 → AllByRecursion (λ w. IsInRange w.payload) (shape.rows.write v))
+    → (length (flat_map field_bytes (shape.rows.write v)) < 2 ^ 64 → shape.rows.read shape.kind (map as_field (shape.rows.write v)) ≡ Ok (Ok v))
+    → length (message_bytes (message shape) (shape.make v (unknown_bytes_of shape.rows.is_known fields))) < 2 ^ 64
+    → value (message shape) (message_bytes (message shape) (shape.make v (unknown_bytes_of shape.rows.is_known fields)) ∷ []) ≡ Ok (shape.make v (unknown_bytes_of shape.rows.is_known fields))
+made_again shape low high law l h holds fields v were fits back small =
     let unknown : List Field = filter (λ field. not (shape.rows.is_known field)) fields in
     let known = law.knows v in
     let is = written_is shape holds v fields in
     let whole : length (flat_map field_bytes (shape.rows.write v) ++ flat_map (λ field. field.raw) unknown) < 2 ^ 64 = rw is at small in
     let short : length (flat_map field_bytes (shape.rows.write v)) < 2 ^ 64 = omega (arith, length-append (flat_map field_bytes (shape.rows.write v)) (flat_map (λ field. field.raw) unknown), whole) in
-    let spellable = all_spellable low high shape.rows law l h (shape.rows.write v) known (law.fits shape.kind fields v were e short) in
+    let spellable = all_spellable low high shape.rows law l h (shape.rows.write v) known (fits short) in
     let stood : AllByRecursion IsField unknown = AllByRecursion-filter IsField (λ field. not (shape.rows.is_known field)) fields (each_then (λ field was. was.is) fields were) in
     let found = found_again (shape.rows.write v) unknown spellable stood in
-    let again : shape.rows.read shape.kind (map as_field (shape.rows.write v) ++ unknown) ≡ Ok (Ok v) = law.same shape.kind _ _ (keeps_known shape.rows.is_known (map as_field (shape.rows.write v)) fields) ∙ law.back shape.kind fields v were e short in
+    let again : shape.rows.read shape.kind (map as_field (shape.rows.write v) ++ unknown) ≡ Ok (Ok v) = law.same shape.kind _ _ (keeps_known shape.rows.is_known (map as_field (shape.rows.write v)) fields) ∙ back short in
     rw (is, value_single (message shape) _ _ found, again, keeps_others shape.rows.is_known (shape.rows.write v) fields known) refl
 
 -- a message whose rows are lawful is read again
@@ -114,7 +119,9 @@ message_rereads {M} {V} shape low high law l h holds payloads x each e small =
     let made = bind_ok told.0 (λ v. Ok (shape.make v (unknown_bytes_of shape.rows.is_known found.0))) x told.2 in
     let same : shape.make made.0 (unknown_bytes_of shape.rows.is_known found.0) ≡ x = ok_is _ _ made.2 in
     let P : M → Type 0 = λ y. length (message_bytes (message shape) y) < 2 ^ 64 → value (message shape) (message_bytes (message shape) y ∷ []) ≡ Ok y in
-    subst P same (remade shape low high law l h holds found.0 made.0 (joined_were_read shape.kind payloads found.0 each found.1) (told.1 ∙ ap Ok made.1)) small
+    let were = joined_were_read shape.kind payloads found.0 each found.1 in
+    let was : shape.rows.read shape.kind found.0 ≡ Ok (Ok made.0) = told.1 ∙ ap Ok made.1 in
+    subst P same (made_again shape low high law l h holds found.0 made.0 were (law.fits shape.kind found.0 made.0 were was) (law.back shape.kind found.0 made.0 were was)) small
 
 -- ---- the messages of the table
 
@@ -126,7 +133,7 @@ incrementality_again : (x : Incrementality) → incrementality_named (incrementa
 incrementality_again incrementality_value.FullDataset = refl
 incrementality_again incrementality_value.Differential = refl
 
-incrementality_lawful : (n : ℕ) → IsLawfulKind n incrementality
+pub incrementality_lawful : (n : ℕ) → IsLawfulKind n incrementality
 incrementality_lawful n = choice_lawful n incrementality_named incrementality_number incrementality_small incrementality_again
 
 stop_relation_small : (x : StopRelation) → stop_relation_number x < 2 ^ 32
@@ -141,7 +148,7 @@ stop_relation_again stop_relation_value.Skipped = refl
 stop_relation_again stop_relation_value.NoData = refl
 stop_relation_again stop_relation_value.Unscheduled = refl
 
-stop_relation_lawful : (n : ℕ) → IsLawfulKind n stop_relation
+pub stop_relation_lawful : (n : ℕ) → IsLawfulKind n stop_relation
 stop_relation_lawful n = choice_lawful n stop_relation_named stop_relation_number stop_relation_small stop_relation_again
 
 trip_relation_small : (x : TripRelation) → trip_relation_number x < 2 ^ 32
@@ -162,7 +169,7 @@ trip_relation_again trip_relation_value.Replacement = refl
 trip_relation_again trip_relation_value.Duplicated = refl
 trip_relation_again trip_relation_value.Deleted = refl
 
-trip_relation_lawful : (n : ℕ) → IsLawfulKind n trip_relation
+pub trip_relation_lawful : (n : ℕ) → IsLawfulKind n trip_relation
 trip_relation_lawful n = choice_lawful n trip_relation_named trip_relation_number trip_relation_small trip_relation_again
 
 stop_status_small : (x : StopStatus) → stop_status_number x < 2 ^ 32
@@ -175,7 +182,7 @@ stop_status_again stop_status_value.IncomingAt = refl
 stop_status_again stop_status_value.StoppedAt = refl
 stop_status_again stop_status_value.InTransitTo = refl
 
-stop_status_lawful : (n : ℕ) → IsLawfulKind n stop_status
+pub stop_status_lawful : (n : ℕ) → IsLawfulKind n stop_status
 stop_status_lawful n = choice_lawful n stop_status_named stop_status_number stop_status_small stop_status_again
 
 cause_small : (x : Cause) → cause_number x < 2 ^ 32
@@ -206,7 +213,7 @@ cause_again cause_value.Construction = refl
 cause_again cause_value.PoliceActivity = refl
 cause_again cause_value.MedicalEmergency = refl
 
-cause_lawful : (n : ℕ) → IsLawfulKind n cause
+pub cause_lawful : (n : ℕ) → IsLawfulKind n cause
 cause_lawful n = choice_lawful n cause_named cause_number cause_small cause_again
 
 effect_small : (x : Effect) → effect_number x < 2 ^ 32
@@ -235,7 +242,7 @@ effect_again effect_value.StopMoved = refl
 effect_again effect_value.NoEffect = refl
 effect_again effect_value.AccessibilityIssue = refl
 
-effect_lawful : (n : ℕ) → IsLawfulKind n effect
+pub effect_lawful : (n : ℕ) → IsLawfulKind n effect
 effect_lawful n = choice_lawful n effect_named effect_number effect_small effect_again
 
 pub trip_descriptor_rereads : Rereads trip_descriptor

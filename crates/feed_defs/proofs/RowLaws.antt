@@ -31,7 +31,7 @@ pub record IsLawful {V : Type 0} (low high : ℕ) (rows : Rows V) : Type 0 where
   pub back : (name : Kind) (fields : List Field) (v : V) → AllByRecursion WasRead fields → rows.read name fields ≡ Ok (Ok v) → length (flat_map field_bytes (rows.write v)) < 2 ^ 64 → rows.read name (map as_field (rows.write v)) ≡ Ok (Ok v)
 
 -- a payload is no longer than its field
-short_payload : (w : Written) (ws : List Written) → length (flat_map field_bytes (w ∷ ws)) < 2 ^ 64 → (length (payload_bytes w.payload) < 2 ^ 64) × (length (flat_map field_bytes ws) < 2 ^ 64)
+pub short_payload : (w : Written) (ws : List Written) → length (flat_map field_bytes (w ∷ ws)) < 2 ^ 64 → (length (payload_bytes w.payload) < 2 ^ 64) × (length (flat_map field_bytes ws) < 2 ^ 64)
 unfolding field_bytes
 short_payload w ws small =
     let whole = length-append (varint (tag_of w.number w.payload) ++ payload_bytes w.payload) (flat_map field_bytes ws) in
@@ -40,7 +40,7 @@ short_payload w ws small =
 
 -- ---- one field
 
-option_is : {A : Type 0} (r : Result (Option A) Fault) (v : Option A) → ◌≡◌ {A = Result (Result (Option A) Fault) Fault} (r >>= λ x. Ok (Ok x)) (Ok (Ok v)) → r ≡ Ok v
+pub option_is : {A : Type 0} (r : Result (Option A) Fault) (v : Option A) → ◌≡◌ {A = Result (Result (Option A) Fault) Fault} (r >>= λ x. Ok (Ok x)) (Ok (Ok v)) → r ≡ Ok v
 option_is (Ok o) v e = cc
 option_is (Err f) v e = absurd (cc)
 
@@ -72,7 +72,7 @@ optional_lawful {A} n kind law =
     back name fields (Some x) each e small =
         rw (law.back name fields x (field_bytes (record { number = n; payload = kind.write x })) each (option_is (kind.read name n fields) (Some x) e) (short_payload (record { number = n; payload = kind.write x }) [] small).0) refl
 
-needed_is : {A : Type 0} (name : Kind) (n : ℕ) (r : Result (Option A) Fault) (v : A) → (r >>= λ x. Ok (required_value name n x)) ≡ Ok (Ok v) → r ≡ Ok (Some v)
+pub needed_is : {A : Type 0} (name : Kind) (n : ℕ) (r : Result (Option A) Fault) (v : A) → (r >>= λ x. Ok (required_value name n x)) ≡ Ok (Ok v) → r ≡ Ok (Some v)
 needed_is name n (Ok None) v e = absurd (cc)
 needed_is name n (Ok (Some x)) v e = cc
 needed_is name n (Err f) v e = absurd (cc)
@@ -96,19 +96,19 @@ write_all_known : {M : Type 0} (n : ℕ) (m : Message M) (xs : List M) → AllBy
 write_all_known n m [] = tt
 write_all_known n m (x ∷ xs) = (rw (at_own span_in n (Span (message_bytes m x)) (field_bytes (record { number = n; payload = Span (message_bytes m x) }))) refl, write_all_known n m xs)
 
-write_all_fits : {M : Type 0} (n : ℕ) (m : Message M) (xs : List M) → length (flat_map field_bytes (write_all n m xs)) < 2 ^ 64 → AllByRecursion (λ w. IsInRange w.payload) (write_all n m xs)
+pub write_all_fits : {M : Type 0} (n : ℕ) (m : Message M) (xs : List M) → length (flat_map field_bytes (write_all n m xs)) < 2 ^ 64 → AllByRecursion (λ w. IsInRange w.payload) (write_all n m xs)
 write_all_fits n m [] small = tt
 write_all_fits n m (x ∷ xs) small =
     let short = short_payload (record { number = n; payload = Span (message_bytes m x) }) (write_all n m xs) small in
     (span_fits (message_bytes m x) short.0, write_all_fits n m xs short.1)
 
-write_all_occurring : {M : Type 0} (n : ℕ) (m : Message M) (xs : List M) → occurrences_of span_in n (map as_field (write_all n m xs)) ≡ map (λ x. message_bytes m x) xs
+pub write_all_occurring : {M : Type 0} (n : ℕ) (m : Message M) (xs : List M) → occurrences_of span_in n (map as_field (write_all n m xs)) ≡ map (λ x. message_bytes m x) xs
 write_all_occurring n m [] = occurring_none span_in n
 write_all_occurring n m (x ∷ xs) =
     occurring_own span_in n (Span (message_bytes m x)) (field_bytes (record { number = n; payload = Span (message_bytes m x) })) (message_bytes m x) (map as_field (write_all n m xs)) refl
     ∙ ap (λ rest. message_bytes m x ∷ rest) (write_all_occurring n m xs)
 
-placed_is : {M : Type 0} (k : ℕ) (r : Result M Fault) (x : M) → with_entity_number k r ≡ Ok x → r ≡ Ok x
+pub placed_is : {M : Type 0} (k : ℕ) (r : Result M Fault) (x : M) → with_entity_number k r ≡ Ok x → r ≡ Ok x
 placed_is k (Ok y) x e = e
 placed_is k (Err f) x e = absurd (cc)
 
@@ -138,7 +138,7 @@ values_again {M} n m rereads (bytes ∷ more) xs each e small =
     let here : value m (message_bytes m first.0 ∷ []) ≡ Ok first.0 = rereads (bytes ∷ []) first.0 (each.0, tt) first.1 (span_fits (message_bytes m first.0) short.0) in
     rw (here, values_again n m rereads more rest.0 each.1 rest.1 short.1) refl) small
 
-list_is : {M : Type 0} (r : Result (List M) Fault) (v : List M) → ◌≡◌ {A = Result (Result (List M) Fault) Fault} (r >>= λ x. Ok (Ok x)) (Ok (Ok v)) → r ≡ Ok v
+pub list_is : {M : Type 0} (r : Result (List M) Fault) (v : List M) → ◌≡◌ {A = Result (Result (List M) Fault) Fault} (r >>= λ x. Ok (Ok x)) (Ok (Ok v)) → r ≡ Ok v
 list_is (Ok o) v e = cc
 list_is (Err f) v e = absurd (cc)
 
@@ -170,7 +170,7 @@ numbered_lawful n m rereads =
 
 -- ---- rows under one another
 
-both_is : {A B : Type 0} (r : Result (Result A Fault) Fault) (s : Result (Result B Fault) Fault) (v : A × B) → (r >>= λ x. s >>= λ y. Ok (both x y)) ≡ Ok (Ok v) → (r ≡ Ok (Ok v.0)) × (s ≡ Ok (Ok v.1))
+pub both_is : {A B : Type 0} (r : Result (Result A Fault) Fault) (s : Result (Result B Fault) Fault) (v : A × B) → (r >>= λ x. s >>= λ y. Ok (both x y)) ≡ Ok (Ok v) → (r ≡ Ok (Ok v.0)) × (s ≡ Ok (Ok v.1))
 both_is {A} {B} (Ok (Ok x)) (Ok (Ok y)) v e =
     let same : ◌≡◌ {A = A × B} (x, y) v = cc in
     (ap (λ (w : A × B). Ok (Ok w.0)) same, ap (λ (w : A × B). Ok (Ok w.1)) same)
@@ -200,6 +200,36 @@ fails_before : (b : Bool) (mid next low high number : ℕ) → mid < next → (b
 fails_before false mid next low high number m second k = refl
 fails_before true mid next low high number m second k = absurd (omega (arith, (second refl).0, k.1))
 
+-- what two tables write is together no shorter than what each does
+pub shorter : (us ws : List Written) → length (flat_map field_bytes (us ++ ws)) < 2 ^ 64 → (length (flat_map field_bytes us) < 2 ^ 64) × (length (flat_map field_bytes ws) < 2 ^ 64)
+shorter us ws small =
+    let h : length (flat_map field_bytes us) + length (flat_map field_bytes ws) < 2 ^ 64 = rw (flat_map-append field_bytes us ws, length-append (flat_map field_bytes us) (flat_map field_bytes ws)) at small in
+    (omega arith, omega arith)
+
+-- each of two tables knows, of what both write, only what it writes itself
+module _ {A B : Type 0} (a : Rows A) (b : Rows B) (low mid next high : ℕ) (first : IsLawful low mid a) (second : IsLawful next high b) (apart : mid < next) where
+  keeps_front : (v : A × B) → filter a.is_known (map as_field (a.write v.0 ++ b.write v.1)) ≡ filter a.is_known (map as_field (a.write v.0))
+  keeps_front v =
+      ap (λ fields. filter a.is_known fields) (map-append as_field (a.write v.0) (b.write v.1))
+      ∙ filter-append a.is_known (map as_field (a.write v.0)) (map as_field (b.write v.1))
+      ∙ ap (λ rest. filter a.is_known (map as_field (a.write v.0)) ++ rest)
+      (filter_none a.is_known as_field (b.write v.1) (each_then (λ w h. fails_beyond (a.is_known (as_field w)) mid next low high w.number apart (first.within (as_field w)) (second.within (as_field w) h)) (b.write v.1) (second.knows v.1)))
+      ∙ append-nil _
+
+  keeps_back : (v : A × B) → filter b.is_known (map as_field (a.write v.0 ++ b.write v.1)) ≡ filter b.is_known (map as_field (b.write v.1))
+  keeps_back v =
+      ap (λ fields. filter b.is_known fields) (map-append as_field (a.write v.0) (b.write v.1))
+      ∙ filter-append b.is_known (map as_field (a.write v.0)) (map as_field (b.write v.1))
+      ∙ ap (λ front. front ++ filter b.is_known (map as_field (b.write v.1)))
+      (filter_none b.is_known as_field (a.write v.0) (each_then (λ w h. fails_before (b.is_known (as_field w)) mid next low high w.number apart (second.within (as_field w)) (first.within (as_field w) h)) (a.write v.0) (first.knows v.0)))
+
+  -- so both are read again if each is by itself
+  pub joined_back : (name : Kind) (v : A × B) → a.read name (map as_field (a.write v.0)) ≡ Ok (Ok v.0) → b.read name (map as_field (b.write v.1)) ≡ Ok (Ok v.1) → (a ⊕ b).read name (map as_field ((a ⊕ b).write v)) ≡ Ok (Ok v)
+  joined_back name v one other =
+      let front : a.read name (map as_field (a.write v.0 ++ b.write v.1)) ≡ Ok (Ok v.0) = first.same name _ _ (keeps_front v) ∙ one in
+      let behind : b.read name (map as_field (a.write v.0 ++ b.write v.1)) ≡ Ok (Ok v.1) = second.same name _ _ (keeps_back v) ∙ other in
+      rw (front, behind) refl
+
 pub joined_lawful : {A B : Type 0} (a : Rows A) (b : Rows B) (low mid next high : ℕ) → IsLawful low mid a → IsLawful next high b → mid < next → IsLawful low high (a ⊕ b)
 joined_lawful {A} {B} a b low mid next high first second apart =
     record {
@@ -219,30 +249,8 @@ joined_lawful {A} {B} a b low mid next high first second apart =
       back = λ name fields v each e small.
           let parts = both_is (a.read name fields) (b.read name fields) v e in
           let short = shorter (a.write v.0) (b.write v.1) small in
-          let front : a.read name (map as_field (a.write v.0 ++ b.write v.1)) ≡ Ok (Ok v.0) = first.same name _ _ (keeps_front v) ∙ first.back name fields v.0 each parts.0 short.0 in
-          let behind : b.read name (map as_field (a.write v.0 ++ b.write v.1)) ≡ Ok (Ok v.1) = second.same name _ _ (keeps_back v) ∙ second.back name fields v.1 each parts.1 short.1 in
-          rw (front, behind) refl;
+          joined_back a b low mid next high first second apart name v (first.back name fields v.0 each parts.0 short.0) (second.back name fields v.1 each parts.1 short.1);
     }
   where
     known : Field → Bool
     known field = a.is_known field || b.is_known field
-
-    shorter : (us ws : List Written) → length (flat_map field_bytes (us ++ ws)) < 2 ^ 64 → (length (flat_map field_bytes us) < 2 ^ 64) × (length (flat_map field_bytes ws) < 2 ^ 64)
-    shorter us ws small =
-        let h : length (flat_map field_bytes us) + length (flat_map field_bytes ws) < 2 ^ 64 = rw (flat_map-append field_bytes us ws, length-append (flat_map field_bytes us) (flat_map field_bytes ws)) at small in
-        (omega arith, omega arith)
-
-    keeps_front : (v : A × B) → filter a.is_known (map as_field (a.write v.0 ++ b.write v.1)) ≡ filter a.is_known (map as_field (a.write v.0))
-    keeps_front v =
-        ap (λ fields. filter a.is_known fields) (map-append as_field (a.write v.0) (b.write v.1))
-        ∙ filter-append a.is_known (map as_field (a.write v.0)) (map as_field (b.write v.1))
-        ∙ ap (λ rest. filter a.is_known (map as_field (a.write v.0)) ++ rest)
-        (filter_none a.is_known as_field (b.write v.1) (each_then (λ w h. fails_beyond (a.is_known (as_field w)) mid next low high w.number apart (first.within (as_field w)) (second.within (as_field w) h)) (b.write v.1) (second.knows v.1)))
-        ∙ append-nil _
-
-    keeps_back : (v : A × B) → filter b.is_known (map as_field (a.write v.0 ++ b.write v.1)) ≡ filter b.is_known (map as_field (b.write v.1))
-    keeps_back v =
-        ap (λ fields. filter b.is_known fields) (map-append as_field (a.write v.0) (b.write v.1))
-        ∙ filter-append b.is_known (map as_field (a.write v.0)) (map as_field (b.write v.1))
-        ∙ ap (λ front. front ++ filter b.is_known (map as_field (b.write v.1)))
-        (filter_none b.is_known as_field (a.write v.0) (each_then (λ w h. fails_before (b.is_known (as_field w)) mid next low high w.number apart (second.within (as_field w)) (first.within (as_field w) h)) (a.write v.0) (first.knows v.0)))

@@ -1,14 +1,12 @@
 -- Whole messages, computed by the definitions.
-use Rattle.std.specs.Prelude.{◌≡◌, ℕ, List, [], ◌∷◌, ◌++◌, map, Some, None, Result, Ok, Err, pos, negsuc, true, codes, refl}
+use Rattle.std.specs.Prelude.{◌≡◌, ℕ, List, [], ◌∷◌, map, Some, None, Result, Ok, Err, pos, negsuc, true, codes, refl}
 use Rattle.std.specs.Str.{is_utf8, chars}
 use lib.Utf8.{encode}
 use Rattle.rt_types.specs.declared.alert.Alert.{Alert}
-use Rattle.rt_types.specs.declared.descriptor.TripRef.{TripRef}
 use Rattle.rt_types.specs.declared.message.FeedMessage.{FeedMessage}
 use Rattle.rt_types.specs.declared.vehicle.Vehicle.{Vehicle}
 use Rattle.rt_types.specs.declared.enums.Cause.TheVariants as cause
 use Rattle.rt_types.specs.declared.enums.Effect.TheVariants as effect
-use Rattle.rt_types.specs.declared.enums.Incrementality.TheVariants as incrementality
 use Rattle.rt_types.specs.declared.enums.StopRelation.TheVariants as stop_relation
 use Rattle.rt_types.specs.declared.enums.StopStatus.TheVariants as status
 use Rattle.rt_types.specs.declared.enums.TripRelation.TheVariants as relation
@@ -16,7 +14,6 @@ use Rattle.rt_types.specs.declared.fault.Kind.TheVariants as kind
 use Rattle.rt_types.specs.declared.fault.What.TheVariants as what
 use Rattle.wire_defs.specs.Reading.{groups_at, varint_at, span_at, tag_at, payload_at, field_with, behind_end, group_at, field_at, fields_within, fields_of}
 use Rattle.wire_defs.specs.Writing.{groups, varint, payload_bytes, field_bytes}
-use Rattle.feed_defs.specs.Enums.{trip_relation_number}
 use Rattle.feed_defs.specs.History.{is_full}
 use Rattle.feed_defs.specs.Renamed.{renamed_entity, renamed_vehicle}
 use Rattle.feed_defs.specs.Rows.{Fault, occurrences_of, last_of, unknown_bytes_of, fields_of_all, value, message_bytes, merged_message, values, numbered_values, fault}

@@ -1,6 +1,6 @@
 -- Which messages a hub accepts, and what it holds of the messages that it accepted.
 use Rattle.std.specs.Prelude.{◌≡◌, ℕ, ◌+◌, List, [], ◌∷◌, ◌++◌, length, map, reverse, filter, Option, Some, None, Result, Ok, Err, Bool, true, false, not, unwrap_or, fold, nat_lt, nat_le, codes, ◌==◌, ◌&&◌, ◌||◌, if◌then◌else◌}
-use Rattle.std.specs.List.{filter_map, flat_map, last_or, list_any, list_all}
+use Rattle.std.specs.List.{filter_map, flat_map, last_or, list_any, list_all, AllByRecursion}
 use Rattle.std.specs.Str.{bytes_eq}
 use Rattle.std.specs.Ordering.{nat_cmp}
 use Rattle.std.specs.Cmp.Lexicographic.{slice_cmp}
@@ -12,6 +12,7 @@ use Rattle.rt_types.specs.declared.message.FeedMessage.{FeedMessage}
 use Rattle.feed_defs.specs.declared.history.Entry.{Entry}
 use Rattle.feed_defs.specs.declared.history.Stored.{Stored}
 use Rattle.text_defs.specs.Moments.{last_moment}
+use Rattle.wire_defs.specs.Spelling.{AreBytes}
 use Rattle.feed_defs.specs.Rows.{Fault}
 use Rattle.feed_defs.specs.Table.{read}
 
@@ -96,6 +97,16 @@ is_legal_entry feeds entry = nat_lt entry.feed feeds && is_sound entry.message
 pub record IsLegal (feeds : ℕ) (history : List Entry) : Type 0 where
   pub entries : list_all (is_legal_entry feeds) history ≡ true
   pub rising : (feed : ℕ) → is_rising (stamps_of feed history) ≡ true
+
+-- a message that some bytes read as
+pub record IsRead (m : FeedMessage) : Type 0 where
+  pub bytes : List ℕ
+  pub are_bytes : AreBytes bytes
+  pub is : read bytes ≡ Ok m
+
+-- a history of such messages
+abbrev pub WereRead : List Entry → Type 0
+WereRead history = AllByRecursion (λ entry. IsRead entry.message) history
 
 -- the reply to an offered message, and the history after it
 pub record OfferOutcome : Type 0 where

@@ -137,7 +137,7 @@ pub(crate) fn put_shared<M: Message>(
     }
 }
 
-// Appends the messages, each as a field of that number.
+/// Appends the messages, each as a field of that number.
 fn put_all<M: Message>(number: u32, messages: &[M], out: &mut Vec<u8>) -> Result<(), NoMemory>
     requires first { 1 ≤ number }
     requires last { number ≤ 536870911 }

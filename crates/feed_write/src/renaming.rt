@@ -19,7 +19,7 @@ pub fn rename(alloc: Global, prefix: &str, entity: Entity) -> Result<Entity, NoM
     entity.renamed(alloc, prefix)
 }
 
-// A value with ids of a timetable in it.
+/// A value with ids of a timetable in it.
 trait Renamed: Drop {
     ghost under: { List ℕ → Self → Self };
 

@@ -8,3 +8,4 @@ pub mod Checks
 pub mod CityLemmas
 pub mod TimetableLaws
 pub mod DepartureOrder
+pub mod CheckedSchedules

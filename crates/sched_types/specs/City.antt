@@ -17,23 +17,33 @@ city_stops =
     ∷ []
 
 abbrev pub city_routes : List Route
-city_routes = record { id = codes "R7"; agency = Some 0; short = codes "7"; long = []; kind = 3 } ∷ []
+city_routes = record { id = codes "R7"; agency = Some 0; short = codes "7"; long = []; kind = 3 }
+    ∷ []
 
 -- a trip to the hill
 abbrev pub hill_trip : List ℕ → Trip
-hill_trip id = record { id = id; route = 0; service = 0; headsign = codes "Hill"; direction = Some 0 }
+hill_trip id =
+    record { id = id; route = 0; service = 0; headsign = codes "Hill"; direction = Some 0 }
 
 abbrev pub city_trips : List Trip
 city_trips = hill_trip (codes "N1") ∷ hill_trip (codes "T1") ∷ hill_trip (codes "T2") ∷ []
 
 -- a place where passengers may board
 abbrev pub boarding : ℕ → ℕ → ℕ → ℕ → Place
-boarding stop sequence arrival departure = record { stop = stop; sequence = sequence; arrival = arrival; departure = departure; pickup = 0 }
+boarding stop sequence arrival departure =
+    record {
+      stop = stop;
+      sequence = sequence;
+      arrival = arrival;
+      departure = departure;
+      pickup = 0;
+    }
 
 abbrev pub city_places : List (List Place)
 city_places =
     (boarding 0 1 90600 90600 ∷ boarding 3 2 92400 92400 ∷ [])
-    ∷ (boarding 0 1 28800 28800 ∷ boarding 2 2 29400 29400 ∷ boarding 1 5 30000 30060 ∷ boarding 3 9 30600 30600 ∷ [])
+    ∷ (boarding 0 1 28800 28800 ∷ boarding 2 2 29400 29400 ∷ boarding 1 5 30000 30060
+    ∷ boarding 3 9 30600 30600 ∷ [])
     ∷ (boarding 1 1 30060 30060 ∷ boarding 3 2 31200 31200 ∷ [])
     ∷ []
 

@@ -64,7 +64,8 @@ names_parent parent (Some stop) = is_given parent stop.parent
 
 -- the stops that name a stop as parent_station, one level deep, by rising numbers
 abbrev pub children_of : List Stop → ℕ → List ℕ
-children_of stops parent = filter (λ stop. names_parent parent (slice_get stops stop)) (range_with_len 0 (length stops))
+children_of stops parent =
+    filter (λ stop. names_parent parent (slice_get stops stop)) (range_with_len 0 (length stops))
 
 -- the dates of the window's days, one after another
 abbrev pub dates_of : Timetable → List ℕ
@@ -104,7 +105,17 @@ counts_of t = record {
 
 -- no rows, and a window without days
 abbrev pub no_timetable : Timetable
-no_timetable = record { agencies = []; stops = []; routes = []; trips = []; places = []; active = []; first = 19700101; bases = [] }
+no_timetable =
+    record {
+      agencies = [];
+      stops = [];
+      routes = [];
+      trips = [];
+      places = [];
+      active = [];
+      first = 19700101;
+      bases = [];
+    }
 
 -- within a trillion seconds of the epoch, so that sums with times stay far within 64 bits
 pub record IsSmall (seconds : ℤ) : Type 0 where
@@ -113,7 +124,8 @@ pub record IsSmall (seconds : ℤ) : Type 0 where
 
 -- the ids rise strictly in byte order, so no two rows have one id
 pub record RisesById {X : Type 0} (id_of : X → List ℕ) (rows : List X) : Type 0 where
-  pub rise : (i j : ℕ) (x y : X) → i < j → slice_get rows i ≡ Some x → slice_get rows j ≡ Some y → slice_cmp nat_cmp (id_of x) (id_of y) ≡ Less
+  pub rise : (i j : ℕ) (x y : X) → i < j → slice_get rows i ≡ Some x → slice_get rows j ≡ Some y
+      → slice_cmp nat_cmp (id_of x) (id_of y) ≡ Less
 
 -- what is true of every timetable
 pub record IsTimetable (t : Timetable) : Type 0 where
@@ -132,24 +144,38 @@ pub record IsTimetable (t : Timetable) : Type 0 where
   pub routes_rise : RisesById (λ route. route.id) t.routes
   pub trips_rise : RisesById (λ trip. trip.id) t.trips
   -- each number leads to a row
-  pub parent_is : (i parent : ℕ) (stop : Stop) → slice_get t.stops i ≡ Some stop → stop.parent ≡ Some parent → parent < length t.stops
-  pub agency_is : (i agency : ℕ) (route : Route) → slice_get t.routes i ≡ Some route → route.agency ≡ Some agency → agency < length t.agencies
-  pub route_is : (i : ℕ) (trip : Trip) → slice_get t.trips i ≡ Some trip → trip.route < length t.routes
-  pub service_is : (i : ℕ) (trip : Trip) → slice_get t.trips i ≡ Some trip → trip.service < length t.active
-  pub stop_is : (trip i : ℕ) (place : Place) → slice_get (places_of t trip) i ≡ Some place → place.stop < length t.stops
+  pub parent_is : (i parent : ℕ) (stop : Stop) → slice_get t.stops i ≡ Some stop → stop.parent
+      ≡ Some parent → parent < length t.stops
+  pub agency_is : (i agency : ℕ) (route : Route) → slice_get t.routes i ≡ Some route → route.agency
+      ≡ Some agency → agency < length t.agencies
+  pub route_is : (i : ℕ) (trip : Trip) → slice_get t.trips i ≡ Some trip
+      → trip.route < length t.routes
+  pub service_is : (i : ℕ) (trip : Trip) → slice_get t.trips i ≡ Some trip
+      → trip.service < length t.active
+  pub stop_is : (trip i : ℕ) (place : Place) → slice_get (places_of t trip) i ≡ Some place
+      → place.stop < length t.stops
   -- the values of the columns
   pub kind_is : (i : ℕ) (route : Route) → slice_get t.routes i ≡ Some route → route.kind ≤ 9999
-  pub direction_is : (i direction : ℕ) (trip : Trip) → slice_get t.trips i ≡ Some trip → trip.direction ≡ Some direction → direction ≤ 1
-  pub pickup_is : (trip i : ℕ) (place : Place) → slice_get (places_of t trip) i ≡ Some place → place.pickup ≤ 3
-  pub arrival_small : (trip i : ℕ) (place : Place) → slice_get (places_of t trip) i ≡ Some place → place.arrival < 2 ^ 32
-  pub departure_small : (trip i : ℕ) (place : Place) → slice_get (places_of t trip) i ≡ Some place → place.departure < 2 ^ 32
+  pub direction_is : (i direction : ℕ) (trip : Trip) → slice_get t.trips i ≡ Some trip
+      → trip.direction ≡ Some direction → direction ≤ 1
+  pub pickup_is : (trip i : ℕ) (place : Place) → slice_get (places_of t trip) i ≡ Some place
+      → place.pickup ≤ 3
+  pub arrival_small : (trip i : ℕ) (place : Place) → slice_get (places_of t trip) i ≡ Some place
+      → place.arrival < 2 ^ 32
+  pub departure_small : (trip i : ℕ) (place : Place) → slice_get (places_of t trip) i ≡ Some place
+      → place.departure < 2 ^ 32
   -- the places of a trip have rising stop_sequence, and where there are two or more, their times are in order
-  pub sequences_rise : (trip i j : ℕ) (p q : Place) → i < j → slice_get (places_of t trip) i ≡ Some p → slice_get (places_of t trip) j ≡ Some q → p.sequence < q.sequence
-  pub stays : (trip i : ℕ) (place : Place) → 1 < length (places_of t trip) → slice_get (places_of t trip) i ≡ Some place → place.arrival ≤ place.departure
-  pub moves : (trip i : ℕ) (p q : Place) → slice_get (places_of t trip) i ≡ Some p → slice_get (places_of t trip) (i + 1) ≡ Some q → p.departure ≤ q.arrival
+  pub sequences_rise : (trip i j : ℕ) (p q : Place) → i < j → slice_get (places_of t trip) i
+      ≡ Some p → slice_get (places_of t trip) j ≡ Some q → p.sequence < q.sequence
+  pub stays : (trip i : ℕ) (place : Place) → 1 < length (places_of t trip)
+      → slice_get (places_of t trip) i ≡ Some place → place.arrival ≤ place.departure
+  pub moves : (trip i : ℕ) (p q : Place) → slice_get (places_of t trip) i ≡ Some p
+      → slice_get (places_of t trip) (i + 1) ≡ Some q → p.departure ≤ q.arrival
   -- the days of a service rise and lie in the window
-  pub days_rise : (service i j a b : ℕ) → i < j → slice_get (days_of t service) i ≡ Some a → slice_get (days_of t service) j ≡ Some b → a < b
-  pub day_is : (service i day : ℕ) → slice_get (days_of t service) i ≡ Some day → day < length t.bases
+  pub days_rise : (service i j a b : ℕ) → i < j → slice_get (days_of t service) i ≡ Some a
+      → slice_get (days_of t service) j ≡ Some b → a < b
+  pub day_is : (service i day : ℕ) → slice_get (days_of t service) i ≡ Some day
+      → day < length t.bases
   -- the window begins with a day of the years 1970 to 2999, and its bases are small
   pub first_is : IsTrue (is_day t.first)
   pub first_early : 19700101 ≤ t.first

@@ -9,7 +9,8 @@ use std::alloc::{AllocError, Global};
 
 /// So many empty lists.
 fn empty_lists(alloc: Global, count: usize) -> Result<Vec<Vec<u32>>, AllocError>
-    ensures { IfOk result (λ lists. map (λ v. v.items) lists.items ≡ map (λ _. []) (range_with_len 0 count)) }
+    ensures { IfOk result (λ lists. map (λ v. v.items) lists.items
+        ≡ map (λ _. []) (range_with_len 0 count)) }
 {
     let mut lists = Vec::new(alloc);
     for _ in 0..count {
@@ -21,7 +22,8 @@ fn empty_lists(alloc: Global, count: usize) -> Result<Vec<Vec<u32>>, AllocError>
 /// For each stop the numbers of the stops that name it as parent, rising.
 pub(crate) fn children_lists(alloc: Global, stops: &[Stop]) -> Result<Vec<Vec<u32>>, AllocError>
     requires few { length stops.now < 2 ^ 32 }
-    requires parents { (i parent : ℕ) (stop : Stop) → slice_get stops.now i ≡ Some stop → stop.parent ≡ Some parent → parent < length stops.now }
+    requires parents { (i parent : ℕ) (stop : Stop) → slice_get stops.now i ≡ Some stop
+        → stop.parent ≡ Some parent → parent < length stops.now }
     ensures { IfOk result (λ lists. map (λ v. v.items) lists.items ≡ all_children stops.now) }
 {
     let mut lists = empty_lists(alloc, stops.len())?;

@@ -46,7 +46,8 @@ pub(crate) fn by_departure(
     places: &[Vec<Place>],
 ) -> Result<Vec<u32>, AllocError>
     requires { length trips.now < 2 ^ 32 }
-    ensures { IfOk result (λ order. AreInOrder trips.now (map (λ v. v.items) places.now) order.items) }
+    ensures { IfOk result
+        (λ order. AreInOrder trips.now (map (λ v. v.items) places.now) order.items) }
 {
     let mut order = numbers(alloc, trips.len() as u32)?;
     order.sort_by_key(|trip| departure_of(trips, places, *trip))?;
@@ -61,7 +62,9 @@ pub(crate) fn departing<'a>(
     wanted: Departure,
 ) -> &'a [u32]
     requires { AreInOrder trips.now (map (λ v. v.items) places.now) order.now }
-    ensures { result.now ≡ filter (leaves_so trips.now (map (λ v. v.items) places.now) wanted) (range_with_len 0 (length trips.now)) }
+    ensures { result.now
+        ≡ filter (leaves_so trips.now (map (λ v. v.items) places.now) wanted)
+        (range_with_len 0 (length trips.now)) }
 {
     let wanted = Some(wanted);
     let first = order.partition_point(|trip| departure_of(trips, places, *trip)

@@ -198,7 +198,9 @@ impl Plan {
     /// The trips of that route and direction whose first place is left at that time, in seconds, by rising
     /// numbers.
     pub fn departing(&self, route: u32, direction: u32, departure: u32) -> &[u32]
-        ensures { result.now ≡ filter (departs_so self.now route direction departure) (range_with_len 0 (length self.now.trips)) }
+        ensures { result.now
+            ≡ filter (departs_so self.now route direction departure)
+            (range_with_len 0 (length self.now.trips)) }
     {
         let wanted = Departure {
             route,

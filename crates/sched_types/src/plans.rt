@@ -41,7 +41,8 @@ impl Model for Plans {
 
     ghost view = { λ s. record { plans = s.plans.items; feeds = s.feeds.items } };
 
-    ghost invariant = { λ s. AreSchedules (record { plans = s.plans.items; feeds = s.feeds.items }) };
+    ghost invariant = { λ s. AreSchedules
+        (record { plans = s.plans.items; feeds = s.feeds.items }) };
 }
 
 impl Plans {

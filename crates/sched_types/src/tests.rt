@@ -8,7 +8,8 @@ use std::alloc::Global;
 use std::test::Fail;
 
 fn stop(alloc: Global, id: &str, name: &str, parent: Option<u32>) -> Result<Stop, NoMemory>
-    ensures { IfOk result (λ stop. stop ≡ record { id = id.now; name = name.now; parent = parent }) }
+    ensures { IfOk result (λ stop. stop
+        ≡ record { id = id.now; name = name.now; parent = parent }) }
 {
     Ok(Stop {
         id: PlanName::new(alloc, id)?,
