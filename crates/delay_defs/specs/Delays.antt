@@ -98,7 +98,8 @@ carry_of_update t run pair = carry_of (relation_of pair.1) (event_delays_at t ru
 -- else the delay of the whole trip update (GTFS Realtime, TripUpdate, delay).
 abbrev pub carry_at : Timetable → Run → List (ℕ × StopUpdate) → Option ℤ → ℕ → Option ℤ
 carry_at t run pairs delay i =
-    unwrap_or (last_or None (filter_map (carry_of_update t run) (filter (λ pair. nat_lt pair.0 i) pairs))) delay
+    unwrap_or (last_or None
+    (filter_map (carry_of_update t run) (filter (λ pair. nat_lt pair.0 i) pairs))) delay
 
 -- ---- the state of a place
 
@@ -121,12 +122,15 @@ state_by Scheduled told carry = record {
 
 abbrev pub state_with : Timetable → Run → Option (ℕ × StopUpdate) → Option ℤ → StopState
 state_with t run None carry = plain carry
-state_with t run (Some pair) carry = state_by (relation_of pair.1) (event_delays_at t run pair.0 pair.1) carry
+state_with t run (Some pair) carry =
+    state_by (relation_of pair.1) (event_delays_at t run pair.0 pair.1) carry
 
 abbrev pub state_at : Timetable → Run → List (ℕ × StopUpdate) → Option ℤ → ℕ → StopState
-state_at t run pairs delay i = state_with t run (find (λ pair. pair.0 == i) pairs) (carry_at t run pairs delay i)
+state_at t run pairs delay i =
+    state_with t run (find (λ pair. pair.0 == i) pairs) (carry_at t run pairs delay i)
 
 -- the states of all places of a run under a trip update, in order
 unfoldable pub states : Timetable → Run → TripUpdate → List StopState
 states t run update =
-    map (state_at t run (placements_of t run.trip update.stop_time_update 0) update.delay) (range_with_len 0 (length (places_of t run.trip)))
+    map (state_at t run (placements_of t run.trip update.stop_time_update 0) update.delay)
+    (range_with_len 0 (length (places_of t run.trip)))

@@ -7,14 +7,27 @@ use Rattle.sched_types.specs.Timetable.{Timetable}
 
 -- the place of that number, counted from 0
 abbrev pub line_place : ℕ → Place
-line_place i = record { stop = 0; sequence = i + 1; arrival = 28_800 + 60 * i; departure = 28_800 + 60 * i; pickup = 0 }
+line_place i =
+    record {
+      stop = 0;
+      sequence = i + 1;
+      arrival = 28_800 + 60 * i;
+      departure = 28_800 + 60 * i;
+      pickup = 0;
+    }
 
 abbrev pub line : Timetable
 line = record {
   agencies = [];
   stops = record { id = codes "P"; name = codes "Pole"; parent = None } ∷ [];
   routes = record { id = codes "L"; agency = None; short = codes "L"; long = []; kind = 3 } ∷ [];
-  trips = record { id = codes "T"; route = 0; service = 0; headsign = codes "End"; direction = None } ∷ [];
+  trips = record {
+    id = codes "T";
+    route = 0;
+    service = 0;
+    headsign = codes "End";
+    direction = None;
+  } ∷ [];
   places = map line_place (range_with_len 0 20) ∷ [];
   active = (0 ∷ []) ∷ [];
   first = 20250330;

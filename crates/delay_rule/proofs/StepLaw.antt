@@ -1,5 +1,5 @@
 -- One update more, and the places behind the last one.
-use Rattle.std.proofs.Common.{◌≡◌, ℕ, ◌+◌, ◌-◌, ◌≤◌, Option, Some, None, List, [], ◌∷◌, ◌++◌, unwrap_or, pos, length, drop, replicate, slice_get, ℤ, sym, ap, ◌∙◌, append_assoc}
+use Rattle.std.proofs.Common.{◌≡◌, ℕ, ◌+◌, ◌-◌, ◌≤◌, IfSome, Option, Some, None, List, [], ◌∷◌, ◌++◌, unwrap_or, pos, length, drop, replicate, slice_get, ℤ, sym, ap, ◌∙◌, append_assoc}
 use Rattle.std.specs.List.{position_from}
 use Rattle.rt_types.specs.declared.trip_update.StopUpdate.{StopUpdate}
 use Rattle.sched_types.specs.declared.rows.Place.{Place}
@@ -8,7 +8,9 @@ use Rattle.sched_types.specs.declared.rows.Run.{Run}
 use Rattle.sched_types.specs.Timetable.{Timetable, places_of}
 use Rattle.delay_defs.specs.declared.state.StopState.{StopState}
 use Rattle.delay_defs.specs.Delays.{fits, relation_of, plain, state_by, states}
+use Rattle.delay_rule.specs.Near.{IsNear, AddsNear}
 use Rattle.delay_rule.specs.Pass.{told_by, state_here, turned, walked, StartsWith}
+use Rattle.delay_rule.proofs.NearLaw.{adds_on}
 use Rattle.delay_rule.proofs.PassLaw.{walked_states}
 
 pub goes_nowhere : (t : Timetable) (places : List Place) (base : ℤ) (update : StopUpdate) (from : ℕ) (carry : Option ℤ) (old : List StopState) → None ≡ position_from (fits t update) from (drop from places)
@@ -36,6 +38,8 @@ pub record GoesOn (t : Timetable) (places : List Place) (base : ℤ) (updates : 
   pub within : from ≤ length places
   pub goes_on : new ++ walked t places base left from carry ≡ old ++ walked t places base updates 0 delay
   pub begins : StartsWith old new
+  pub near : AddsNear old new
+  pub carried : IfSome carry IsNear
 
 pub ends : (t : Timetable) (run : Run) (update : TripUpdate) (places : List Place) (base : ℤ) (old new : List StopState) (left : List StopUpdate) (from : ℕ) (carry : Option ℤ) (all : List StopState)
     → GoesOn t places base update.stop_time_update update.delay old new left from carry → places ≡ places_of t run.trip → slice_get t.bases run.day ≡ Some base
@@ -49,3 +53,16 @@ ends t run update places base old new left from carry all g lists bases none add
 
 pub begins_on : (old mid new : List StopState) → StartsWith old mid → StartsWith mid new → StartsWith old new
 begins_on old mid new a b = record { more = a.more ++ b.more; whole = b.whole ∙ ap (λ xs. xs ++ b.more) a.whole ∙ append_assoc old a.more b.more }
+
+-- one update on
+pub goes_by : (t : Timetable) (places : List Place) (base : ℤ) (updates : List StopUpdate) (delay : Option ℤ) (old mid new : List StopState) (left more : List StopUpdate) (update : StopUpdate) (from next : ℕ) (carry carried : Option ℤ)
+    → GoesOn t places base updates delay old mid left from carry → left ≡ update ∷ more → next ≤ length places
+    → new ++ walked t places base more next carried ≡ mid ++ walked t places base (update ∷ more) from carry
+    → StartsWith mid new → AddsNear mid new → IfSome carried IsNear → GoesOn t places base updates delay old new more next carried
+goes_by t places base updates delay old mid new left more update from next carry carried g e within goes begins near small = record {
+  within = within;
+  goes_on = goes ∙ ap (λ us. mid ++ walked t places base us from carry) (sym e) ∙ g.goes_on;
+  begins = begins_on old mid new g.begins begins;
+  near = adds_on old mid new g.near near;
+  carried = small;
+}

@@ -9,7 +9,8 @@ use Rattle.delay_defs.specs.Delays.{EventDelays, fits, event_delay, relation_of,
 
 -- the places have rising stop_sequence
 pub record SequencesRise (places : List Place) : Type 0 where
-  pub rise : (i j : ℕ) (p q : Place) → i < j → slice_get places i ≡ Some p → slice_get places j ≡ Some q → p.sequence < q.sequence
+  pub rise : (i j : ℕ) (p q : Place) → i < j → slice_get places i ≡ Some p → slice_get places j
+      ≡ Some q → p.sequence < q.sequence
 
 -- the new states begin with the old ones
 pub record StartsWith (old new : List StopState) : Type 0 where
@@ -26,10 +27,12 @@ told_by base place update = record {
 -- the state of a place, if there is one, that an update takes
 abbrev pub state_here : ℤ → StopUpdate → Option ℤ → Option Place → StopState
 state_here base update carry None = plain carry
-state_here base update carry (Some place) = state_by (relation_of update) (told_by base place update) carry
+state_here base update carry (Some place) =
+    state_by (relation_of update) (told_by base place update) carry
 
 -- what is told of the places from a place on, by the place that the next update takes
-abbrev pub turned : List Place → ℤ → StopUpdate → (ℕ → Option ℤ → List StopState) → ℕ → Option ℤ → Option ℕ → List StopState
+abbrev pub turned : List Place → ℤ → StopUpdate → (ℕ → Option ℤ → List StopState) → ℕ → Option ℤ
+    → Option ℕ → List StopState
 turned places base update behind from carry None = behind from carry
 turned places base update behind from carry (Some i) =
     replicate (i - from) (plain carry)
@@ -40,4 +43,5 @@ turned places base update behind from carry (Some i) =
 unfoldable pub walked : Timetable → List Place → ℤ → List StopUpdate → ℕ → Option ℤ → List StopState
 walked t places base [] from carry = replicate (length places - from) (plain carry)
 walked t places base (update ∷ updates) from carry =
-    turned places base update (λ next delay. walked t places base updates next delay) from carry (position_from (fits t update) from (drop from places))
+    turned places base update (λ next delay. walked t places base updates next delay) from carry
+    (position_from (fits t update) from (drop from places))

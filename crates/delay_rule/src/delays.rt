@@ -1,8 +1,9 @@
 // What an update tells of the place that it takes.
-ghost use Rattle.std.specs.Prelude.{◌≡◌, pos, ◌+ℤ◌};
+ghost use Rattle.std.specs.Prelude.{◌≡◌, true, pos, ◌+ℤ◌, ◌-ℤ◌, IfSome};
 ghost use Rattle.sched_types.specs.Timetable.{IsSmall};
 ghost use Rattle.delay_defs.specs.Delays as rule;
 ghost use Rattle.delay_defs.specs.Delays.{is_instant, relation_of, state_by};
+ghost use Rattle.delay_rule.specs.Near.{IsNear, IsNearState};
 ghost use Rattle.delay_rule.specs.Pass.{told_by};
 
 use delay_defs::StopState;
@@ -10,7 +11,7 @@ use rt_types::{Event, StopRelation, StopUpdate};
 use sched_types::Place;
 use texts::LAST_MOMENT;
 
-// The last moment, as a time of an event.
+/// The last moment, as a time of an event.
 const LAST_INSTANT: i64 = LAST_MOMENT as i64;
 
 /// Whether a time counts: from the first second of 1970 on, up to the end of the year 9999.
@@ -20,15 +21,37 @@ fn is_instant(time: i64) -> bool
     1 <= time && time <= LAST_INSTANT
 }
 
+/// How far a time that counts lies behind what is scheduled so many seconds after `base`.
+fn seconds_behind(time: i64, base: i64, seconds: u32) -> i64
+    requires counts { is_instant time ≡ true }
+    requires small { IsSmall base }
+    ensures value { result ≡ time -ℤ (base +ℤ pos seconds) }
+    ensures near { IsNear result }
+{
+    time - (base + i64::from(seconds))
+}
+
+/// An event's own delay, or that of a whole trip update, as states have it.
+pub(crate) fn widened(delay: Option<i32>) -> Option<i64>
+    ensures value { result ≡ delay }
+    ensures near { IfSome result IsNear }
+{
+    match delay {
+        Some(delay) => Some(i64::from(delay)),
+        None => None,
+    }
+}
+
 /// The delay that an event tells, if it tells one, of what is scheduled so many seconds after `base`.
 fn event_delay(event: &Option<Event>, base: i64, seconds: u32) -> Option<i64>
     requires { IsSmall base }
-    ensures { result ≡ rule.event_delay (base +ℤ pos seconds) event.now }
+    ensures value { result ≡ rule.event_delay (base +ℤ pos seconds) event.now }
+    ensures near { IfSome result IsNear }
 {
     match event {
         Some(event) => match event.time {
-            Some(time) if is_instant(time) => Some(time - (base + i64::from(seconds))),
-            _ => event.delay.map(i64::from),
+            Some(time) if is_instant(time) => Some(seconds_behind(time, base, seconds)),
+            _ => widened(event.delay),
         },
         None => None,
     }
@@ -53,8 +76,11 @@ pub(crate) fn state_of(
     base: i64,
     carry: Option<i64>,
 ) -> StopState
-    requires { IsSmall base }
-    ensures { result ≡ state_by (relation_of update.now) (told_by base place update.now) carry }
+    requires small { IsSmall base }
+    requires carry { IfSome carry IsNear }
+    ensures value { result
+        ≡ state_by (relation_of update.now) (told_by base place update.now) carry }
+    ensures near { IsNearState result }
 {
     match update.relation.unwrap_or(StopRelation::Scheduled) {
         StopRelation::Skipped => StopState {

@@ -1,12 +1,14 @@
 // The pass over the places and the updates.
-ghost use Rattle.std.specs.Prelude.{◌≡◌, ◌+◌, ◌≤◌, ◌∷◌, ◌++◌, List, length, replicate, IsTrue, IfOk, OnOk, OnErr};
+ghost use Rattle.std.specs.Prelude.{◌≡◌, ◌+◌, ◌≤◌, ◌∷◌, ◌++◌, List, length, replicate, IsTrue, IfOk, IfSome, OnOk, OnErr};
+ghost use Rattle.std.specs.List.{All};
 ghost use Rattle.rt_types.specs.declared.trip_update.StopUpdate.{StopUpdate};
 ghost use Rattle.sched_types.specs.Timetable.{IsSmall, is_run};
 ghost use Rattle.delay_defs.specs.Delays as rule;
 ghost use Rattle.delay_defs.specs.Delays.{states};
+ghost use Rattle.delay_rule.specs.Near.{IsNear, IsNearState, AddsNear};
 ghost use Rattle.delay_rule.specs.Pass.{SequencesRise, StartsWith, walked};
 
-use crate::delays::{plain, state_of};
+use crate::delays::{plain, state_of, widened};
 use crate::places::place_for;
 use crate::steps::Steps;
 use delay_defs::StopState;
@@ -24,7 +26,8 @@ struct Reached {
 
 /// Appends the states of so many places of which no update says anything.
 fn add_plain(out: &mut Vec<StopState>, count: usize, carry: Option<i64>) -> Result<(), AllocError>
-    ensures added { OnOk result (out.new.items ≡ out.old.items ++ replicate count (rule.plain carry)) }
+    ensures added { OnOk result (out.new.items ≡ out.old.items
+        ++ replicate count (rule.plain carry)) }
     ensures begins { StartsWith out.old.items out.new.items }
 {
     for _ in 0..count {
@@ -46,9 +49,14 @@ fn step(
     requires rise { SequencesRise places.now }
     requires small { IsSmall base }
     requires reached { reached.place ≤ length places.now }
+    requires carry { IfSome reached.carry IsNear }
     ensures within { IfOk result (λ next. next.place ≤ length places.now) }
-    ensures goes_on { IfOk result (λ next. (more : List StopUpdate) → out.new.items ++ walked plan.now places.now base more next.place next.carry ≡ out.old.items ++ walked plan.now places.now base (update.now ∷ more) reached.place reached.carry) }
+    ensures goes_on { IfOk result (λ next. (more : List StopUpdate) → out.new.items
+        ++ walked plan.now places.now base more next.place next.carry ≡ out.old.items
+        ++ walked plan.now places.now base (update.now ∷ more) reached.place reached.carry) }
     ensures begins { StartsWith out.old.items out.new.items }
+    ensures near { OnOk result (AddsNear out.old.items out.new.items) }
+    ensures carry { IfOk result (λ next. IfSome next.carry IsNear) }
 {
     match place_for(plan, places, reached.place, update) {
         Some(found) => {
@@ -73,8 +81,10 @@ fn fill(
     out: &mut Vec<StopState>,
 ) -> Result<(), AllocError>
     requires { IsTrue (is_run plan.now run) }
-    ensures written { OnOk result (out.new.items ≡ out.old.items ++ states plan.now run update.now) }
+    ensures written { OnOk result (out.new.items ≡ out.old.items
+        ++ states plan.now run update.now) }
     ensures begins { StartsWith out.old.items out.new.items }
+    ensures near { OnOk result (All IsNearState (states plan.now run update.now)) }
 {
     plan.sound();
     let places = plan.stop_times(run.trip);
@@ -82,7 +92,7 @@ fn fill(
     out.reserve(places.len())?;
     let mut reached = Reached {
         place: 0,
-        carry: update.delay.map(i64::from),
+        carry: widened(update.delay),
     };
     for stop_update in update.stop_time_update.as_slice() {
         reached = step(plan, places, base, stop_update, reached, out)?;
@@ -95,7 +105,7 @@ fn fill(
 /// states are as they were before, and the step is added all the same.
 ///
 /// The rules are those of GTFS Realtime (TripUpdate) as `delay_defs` says them: updates take places in
-/// order, and a delay holds up to the next place with one.
+/// order, and a delay holds up to the next place with one. Each delay is within two trillion seconds.
 pub fn walk<L: Ledger>(
     plan: &Plan,
     run: Run,
@@ -104,7 +114,9 @@ pub fn walk<L: Ledger>(
     steps: &mut Steps<L>,
 ) -> Result<(), AllocError>
     requires { IsTrue (is_run plan.now run) }
-    ensures written { OnOk result (out.new.items ≡ out.old.items ++ states plan.now run update.now) }
+    ensures written { OnOk result (out.new.items ≡ out.old.items
+        ++ states plan.now run update.now) }
+    ensures near { OnOk result (All IsNearState (states plan.now run update.now)) }
     ensures kept { OnErr result (out.new.items ≡ out.old.items) }
     ensures counted { steps.new ≡ steps.old + 1 }
 {

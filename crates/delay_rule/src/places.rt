@@ -11,7 +11,8 @@ use sched_types::{Place, Plan};
 fn with_sequence(places: &[Place], from: usize, sequence: u32) -> Option<usize>
     requires rise { SequencesRise places.now }
     requires from { from ≤ length places.now }
-    ensures value { result ≡ position_from (λ place. place.sequence == sequence) from (drop from places.now) }
+    ensures value { result
+        ≡ position_from (λ place. place.sequence == sequence) from (drop from places.now) }
     ensures within { IfSome result (λ i. i < length places.now) }
     ensures behind { IfSome result (λ i. from ≤ i) }
 {
@@ -25,7 +26,8 @@ fn with_sequence(places: &[Place], from: usize, sequence: u32) -> Option<usize>
 /// The first place at the stop of that number, at `from` or behind it.
 fn at_stop(places: &[Place], from: usize, stop: u32) -> Option<usize>
     requires from { from ≤ length places.now }
-    ensures value { result ≡ position_from (λ place. stop == place.stop) from (drop from places.now) }
+    ensures value { result
+        ≡ position_from (λ place. stop == place.stop) from (drop from places.now) }
     ensures within { IfSome result (λ i. i < length places.now) }
     ensures behind { IfSome result (λ i. from ≤ i) }
 {

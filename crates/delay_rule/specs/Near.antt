@@ -1,0 +1,20 @@
+-- How large the delays are that the pass writes.
+use Rattle.std.specs.Prelude.{◌≡◌, List, ◌++◌, IfSome, ℤ, pos, negsuc, ◌≤ℤ◌}
+use Rattle.std.specs.List.{All}
+use Rattle.delay_defs.specs.declared.state.StopState.{StopState}
+
+-- within two trillion seconds, so that its sum with a scheduled instant stays far within 64 bits
+pub record IsNear (seconds : ℤ) : Type 0 where
+  pub above : negsuc 1_999_999_999_999 ≤ℤ seconds
+  pub below : seconds ≤ℤ pos 2_000_000_000_000
+
+-- the delays of a place that are known are so near
+pub record IsNearState (state : StopState) : Type 0 where
+  pub arrival : IfSome state.arrival IsNear
+  pub departure : IfSome state.departure IsNear
+
+-- the new states are the old ones and some with such delays behind them
+pub record AddsNear (old new : List StopState) : Type 0 where
+  pub more : List StopState
+  pub whole : new ≡ old ++ more
+  pub near : All IsNearState more
