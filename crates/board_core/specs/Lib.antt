@@ -1,1 +1,4 @@
 pub mod Looks
+pub mod Told
+pub mod Departures
+pub mod Answers

@@ -17,7 +17,8 @@ Found history old new before after (Err none) =
     (new ≡ old) × (before ≤ after) × (after ≤ before + 1)
 
 -- In either case the history begins with what it was, and stays where it is said to stand still.
-pub record Looked (history next : List Entry) (old new : HubKept) (before after : ℕ) (steady : Bool) (result : Result ℕ AllocError) : Type 0 where
+pub record Looked (history next : List Entry) (old new : HubKept) (before after : ℕ) (steady : Bool)
+    (result : Result ℕ AllocError) : Type 0 where
   pub goes_on : GoesOn history next
   pub stays : steady ≡ true → next ≡ history
   pub found : Found next old new before after result

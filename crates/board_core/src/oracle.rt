@@ -27,7 +27,8 @@ pub trait Oracle {
     /// Looks up the newest view, and answers how many messages it stands for; or want of memory, which leaves
     /// the view that is shown.
     fn look(&mut self) -> Result<u64, NoMemory>
-        ensures looked { Looked (history self.old) (history self.new) (shown self.old) (shown self.new) (reads self.old) (reads self.new) (steady self.old) result }
+        ensures looked { Looked (history self.old) (history self.new) (shown self.old)
+            (shown self.new) (reads self.old) (reads self.new) (steady self.old) result }
         ensures plans { plans self.new ≡ plans self.old }
         ensures steady { steady self.new ≡ steady self.old };
 

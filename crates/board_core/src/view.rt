@@ -28,9 +28,17 @@ impl Model for HubView {
 
     ghost Value = { HubKept };
 
-    ghost view = { λ v. record { plans = v.plans.value; feeds = map (λ feed. feed.value) v.feeds.items; entries = v.entries } };
+    ghost view = { λ v. record {
+      plans = v.plans.value;
+      feeds = map (λ feed. feed.value) v.feeds.items;
+      entries = v.entries;
+    } };
 
-    ghost invariant = { λ v. IsHub (record { plans = v.plans.value; feeds = map (λ feed. feed.value) v.feeds.items; entries = v.entries }) };
+    ghost invariant = { λ v. IsHub (record {
+      plans = v.plans.value;
+      feeds = map (λ feed. feed.value) v.feeds.items;
+      entries = v.entries;
+    }) };
 }
 
 impl HubView {

@@ -28,7 +28,7 @@ schedules = record {
   feeds = record { name = codes "a"; plan = 0 } ∷ record { name = codes "b"; plan = 0 } ∷ [];
 }
 
--- the market, for an hour from 07:46:40 on
+-- the market, for an hour from 07:53:20 on
 abbrev query : ℕ → BoardQuery
 query limit = record { plan = 0; stop = codes "ST"; at = 1743314000; span = 3600; limit = limit }
 

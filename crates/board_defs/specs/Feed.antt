@@ -47,7 +47,8 @@ feed_message prefix feeds = record {
 
 -- the prefix of a schedule; none past the last
 abbrev pub prefix_of : Schedules → ℕ → List ℕ
-prefix_of schedules plan = unwrap_or (option_map (λ named. named.prefix) (slice_get schedules.plans plan)) []
+prefix_of schedules plan =
+    unwrap_or (option_map (λ named. named.prefix) (slice_get schedules.plans plan)) []
 
 -- the bytes of the message
 unfoldable pub feed_bytes : List ℕ → ℕ → List NamedFeed → List FeedFold → List ℕ
@@ -55,4 +56,5 @@ feed_bytes prefix plan feeds folds = write (feed_message prefix (feeds_of plan f
 
 -- the combined feed of a schedule, of what all feeds say
 abbrev pub combined_feed : Schedules → ℕ → List FeedFold → List ℕ
-combined_feed schedules plan folds = feed_bytes (prefix_of schedules plan) plan schedules.feeds folds
+combined_feed schedules plan folds =
+    feed_bytes (prefix_of schedules plan) plan schedules.feeds folds

@@ -45,7 +45,8 @@ pub record BoardRow : Type 0 where
 unfoldable pub all_runs : Timetable → List Run
 all_runs t =
     filter (is_run t)
-    (flat_map (λ day. map (λ trip. record { trip = trip; day = day }) (range_with_len 0 (length t.trips)))
+    (flat_map (λ day. map (λ trip. record { trip = trip; day = day })
+    (range_with_len 0 (length t.trips)))
     (range_with_len 0 (length t.bases)))
 
 -- the stop at which a place of a run stands
@@ -66,7 +67,8 @@ may_board place = not (place.pickup == 1)
 
 -- the places of a trip but the last, at which nobody boards, with their numbers
 abbrev pub departures_of : Timetable → ℕ → List (ℕ × Place)
-departures_of t trip = let places = places_of t trip in enumerate_from 0 (take (length places - 1) places)
+departures_of t trip = let places = places_of t trip in
+    enumerate_from 0 (take (length places - 1) places)
 
 -- ---- what a board says of a place
 
@@ -101,7 +103,8 @@ by_relation relation.Deleted s = None
 -- by the update that counts for the run, if there is one
 abbrev pub shown_at : Timetable → Run → Option Update → ℕ → Option Shown
 shown_at t run None i = Some as_scheduled
-shown_at t run (Some u) i = by_relation (relation_of u.update.trip) (slice_get (states t run u.update) i)
+shown_at t run (Some u) i =
+    by_relation (relation_of u.update.trip) (slice_get (states t run u.update) i)
 
 -- ---- the row of a place
 
@@ -142,7 +145,12 @@ place_row t asked run update (i, place) =
     if may_board place && is_asked t asked (stands_at place)
     then
     option_map
-    (λ shown. record { row = row_of t run place shown; subject = RunOf run; place = i; stop = stands_at place })
+    (λ shown. record {
+      row = row_of t run place shown;
+      subject = RunOf run;
+      place = i;
+      stop = stands_at place;
+    })
     (shown_at t run update i)
     else None
 
@@ -156,7 +164,8 @@ abbrev pub added_rows : Timetable → ℕ → List Update → List BoardRow
 added_rows t asked updates = []
 
 abbrev pub all_rows : Timetable → ℕ → List Update → List BoardRow
-all_rows t asked updates = flat_map (run_rows t asked updates) (all_runs t) ++ added_rows t asked updates
+all_rows t asked updates = flat_map (run_rows t asked updates) (all_runs t)
+    ++ added_rows t asked updates
 
 -- ---- their order
 
@@ -174,12 +183,14 @@ row_cmp a b =
 
 -- expected from a moment on, for so many seconds
 abbrev pub is_within : ℕ → ℕ → BoardRow → Bool
-is_within at span row = int_le (pos at) row.row.expected && int_lt row.row.expected (pos (at + span))
+is_within at span row = int_le (pos at) row.row.expected
+    && int_lt row.row.expected (pos (at + span))
 
 -- the first rows at a stop
 unfoldable pub board_at : Timetable → ℕ → List Update → BoardQuery → List BoardRow
 board_at t asked updates query =
-    take query.limit (ordered row_cmp (filter (is_within query.at query.span) (all_rows t asked updates)))
+    take query.limit
+    (ordered row_cmp (filter (is_within query.at query.span) (all_rows t asked updates)))
 
 abbrev pub board_in : Timetable → List Update → BoardQuery → Option ℕ → Option (List BoardRow)
 board_in t updates query None = None
@@ -191,7 +202,8 @@ timetable_in schedules plan = option_map (λ named. named.plan) (slice_get sched
 
 -- The rows of a board with what they are about, of what all feeds say; None where no row of stops.txt has
 -- the asked id.
-abbrev pub board_of : Schedules → List FeedFold → BoardQuery → Option Timetable → Option (List BoardRow)
+abbrev pub board_of : Schedules → List FeedFold → BoardQuery → Option Timetable
+    → Option (List BoardRow)
 board_of schedules folds query None = None
 board_of schedules folds query (Some t) =
     board_in t (updates_at query.plan query.at schedules.feeds folds) query

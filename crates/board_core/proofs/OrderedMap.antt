@@ -1,0 +1,65 @@
+-- What becomes of items that are put in order, or of the greatest of them, where each becomes another.
+use Rattle.std.proofs.Common.{◌≡◌, Bool, true, false, Option, Some, None, List, [], ◌∷◌, map, refl, sym, ap, ◌∙◌}
+use Rattle.std.specs.Prelude.{if◌then◌else◌, fold}
+use Rattle.std.specs.List.{AllByRecursion}
+use Rattle.std.specs.Option.{option_map}
+use Rattle.std.specs.Ordering.{is_gt}
+use Rattle.std.specs.declared.cmp.Ordering.{Ordering}
+use Rattle.order.specs.Order.{inserted, ordered, greater, greatest}
+
+module _ {X Y : Type 0} (f : X → Y) (cmp : X → X → Ordering) (other : Y → Y → Ordering) where
+  module _ (P : X → Type 0) where
+    each_inserted : (x : X) (xs : List X) → P x → AllByRecursion P xs → AllByRecursion P (inserted cmp x xs)
+    unfolding inserted
+    each_inserted x [] p all = (p, tt)
+    each_inserted x (y ∷ ys) p all = by_test (is_gt (cmp x y)) (each_inserted x ys p all.1) where
+      by_test : (b : Bool) → AllByRecursion P (inserted cmp x ys) → AllByRecursion P (if b then y ∷ inserted cmp x ys else x ∷ y ∷ ys)
+      by_test true rest = (all.0, rest)
+      by_test false rest = (p, all)
+
+    pub each_ordered : (xs : List X) → AllByRecursion P xs → AllByRecursion P (ordered cmp xs)
+    unfolding ordered
+    each_ordered [] all = tt
+    each_ordered (x ∷ xs) all = each_inserted x (ordered cmp xs) all.0 (each_ordered xs all.1)
+
+    module _ (same : (x y : X) → P x → P y → other (f x) (f y) ≡ cmp x y) where
+      map_inserted : (x : X) (xs : List X) → P x → AllByRecursion P xs → map f (inserted cmp x xs) ≡ inserted other (f x) (map f xs)
+      unfolding inserted
+      map_inserted x [] p all = refl
+      map_inserted x (y ∷ ys) p all =
+          by_test (is_gt (cmp x y)) (map_inserted x ys p all.1)
+          ∙ ap (λ o. if is_gt o then f y ∷ inserted other (f x) (map f ys) else f x ∷ f y ∷ map f ys) (sym (same x y p all.0))
+        where
+          by_test : (b : Bool) → map f (inserted cmp x ys) ≡ inserted other (f x) (map f ys)
+              → map f (if b then y ∷ inserted cmp x ys else x ∷ y ∷ ys) ≡ (if b then f y ∷ inserted other (f x) (map f ys) else f x ∷ f y ∷ map f ys)
+          by_test true rest = ap (λ zs. f y ∷ zs) rest
+          by_test false rest = refl
+
+      -- items in order, each of which becomes another that stands to the others as it did
+      pub map_ordered : (xs : List X) → AllByRecursion P xs → map f (ordered cmp xs) ≡ ordered other (map f xs)
+      unfolding ordered
+      map_ordered [] all = refl
+      map_ordered (x ∷ xs) all =
+          map_inserted x (ordered cmp xs) all.0 (each_ordered xs all.1)
+          ∙ ap (inserted other (f x)) (map_ordered xs all.1)
+
+  module _ (same : (x y : X) → other (f x) (f y) ≡ cmp x y) where
+    map_greater : (best : Option X) (x : X) → option_map f (greater cmp best x) ≡ greater other (option_map f best) (f x)
+    map_greater None x = refl
+    map_greater (Some best) x =
+        by_test (is_gt (cmp x best))
+        ∙ ap (λ o. if is_gt o then Some (f x) else Some (f best)) (sym (same x best))
+      where
+        by_test : (b : Bool) → option_map f (if b then Some x else Some best) ≡ (if b then Some (f x) else Some (f best))
+        by_test true = refl
+        by_test false = refl
+
+    fold_greater : (best : Option X) (xs : List X) → option_map f (fold (greater cmp) best xs) ≡ fold (greater other) (option_map f best) (map f xs)
+    fold_greater best [] = refl
+    fold_greater best (x ∷ xs) =
+        fold_greater (greater cmp best x) xs
+        ∙ ap (λ o. fold (greater other) o (map f xs)) (map_greater best x)
+
+    -- the greatest of items that become others
+    pub map_greatest : (xs : List X) → option_map f (greatest cmp xs) ≡ greatest other (map f xs)
+    map_greatest xs = fold_greater None xs

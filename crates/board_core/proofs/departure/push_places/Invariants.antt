@@ -1,0 +1,13 @@
+-- The rows of the places that were gone over were appended.
+use Rattle.std.proofs.Common.{drop}
+use Rattle.std.specs.List.{enumerate_from}
+use Rattle.sched_types.specs.Timetable.{places_of}
+use Rattle.board_core.specs.Departures.{rows_at, shown_by}
+use Rattle.board_core.proofs.Added.{IsLeft}
+use Rattle.board_core.proofs.departure.push_places.Given as goal
+
+abbrev pub invariant-loop-i : goal.invariant-loop-i
+invariant-loop-i l =
+    IsLeft l.plan l.initial.out.items l.out.items
+    (rows_at l.plan l.asked l.run (shown_by l.known) (enumerate_from l.i (drop l.i l.places)))
+    (rows_at l.plan l.asked l.run (shown_by l.known) (enumerate_from 0 l.places))

@@ -1,0 +1,100 @@
+//! The rows of a board.
+
+ghost use Rattle.std.specs.Prelude.{◌≡◌, ◌<◌, ◌≤◌, List, length, map, take, IfOk};
+ghost use Rattle.std.specs.Arc.{arc_value};
+ghost use Rattle.std.specs.List.Sorted.{IsSortedByKey};
+ghost use Rattle.text_defs.specs.Moments.{last_moment};
+ghost use Rattle.feed_defs.specs.declared.history.Entry.{Entry};
+ghost use Rattle.order.specs.Order.{ordered};
+ghost use Rattle.board_defs.specs.Choice.{updates_at};
+ghost use Rattle.board_defs.specs.Fold.{fold_of};
+ghost use Rattle.board_defs.specs.Rows.{row_cmp, board_at};
+ghost use Rattle.board_defs.specs.Views.{StandsFor, folds_of};
+ghost use Rattle.board_core.specs.Answers.{IsAnswer};
+ghost use Rattle.board_core.specs.Departures.{rows_there};
+ghost use Rattle.board_core.specs.Told.{key_told, run_cmp};
+
+use crate::candidates::{Candidate, choices};
+use crate::departure::Asked;
+use crate::row_texts::rows_of;
+use crate::runs::departures;
+use crate::sorting::first_of;
+use crate::{HubView, NoMemory, RowsFault};
+use board_defs::{BoardQuery, Row};
+use feed_view::FeedView;
+use sched_types::{NamedFeed, Plan};
+use std::alloc::Global;
+use std::sync::Arc;
+
+/// The first rows of a board, of candidates in order of their runs; or want of memory.
+fn first_rows(
+    alloc: Global,
+    plan: &Plan,
+    asked: Asked,
+    choices: &[Candidate<'_>],
+    limit: u32,
+) -> Result<Vec<Row>, NoMemory>
+    requires sorted { IsSortedByKey key_told run_cmp choices.now }
+    requires moment { asked.at ≤ last_moment }
+    ensures { IfOk result (λ rows. rows.items
+        ≡ map (λ b. b.row)
+        (take limit (ordered row_cmp (rows_there plan.now asked choices.entry.now)))) }
+{
+    plan.sound();
+    let all = departures(alloc, plan, asked, choices)?;
+    let first = first_of(all, limit)?;
+    rows_of(alloc, plan, first.as_slice())
+}
+
+/// The rows at the stop of that number; or want of memory.
+fn rows_at(
+    alloc: Global,
+    plan: &Plan,
+    feeds: &[NamedFeed],
+    views: &[Arc<FeedView>],
+    query: &BoardQuery,
+    stop: u32,
+) -> Result<Vec<Row>, NoMemory>
+    requires each { length views.now ≡ length feeds.now }
+    requires few { length feeds.now ≤ 64 }
+    requires moment { query.now.at ≤ last_moment }
+    ensures { IfOk result (λ rows. rows.items
+        ≡ map (λ b. b.row)
+        (board_at plan.now stop
+        (updates_at query.now.plan query.now.at feeds.now
+        (map (λ feed. feed.fold) (map arc_value views.now))) query.now)) }
+{
+    let choices = choices(alloc, query.plan, plan, feeds, views)?;
+    let asked = Asked {
+        stop,
+        at: query.at,
+        span: query.span,
+    };
+    first_rows(alloc, plan, asked, choices.as_slice(), query.limit)
+}
+
+/// The rows of the asked board, of what the hub's feeds hold: the places, but the last of a trip, at which
+/// passengers may board at the stop or at a stop that names it as `parent_station`, of all runs of the
+/// timetable, by the expected instant, the trip_id, the date and the place.
+///
+/// It goes once over all places of the timetable, looks once for the run of each update, and goes, for each day
+/// of the window, over the trips with a place at the stop; a run whose update counts is walked once. Texts are
+/// made for the rows that are shown.
+pub fn rows(alloc: Global, view: &HubView, query: &BoardQuery) -> Result<Vec<Row>, RowsFault>
+    requires plan { query.now.plan < length view.now.plans.plans }
+    requires moment { query.now.at ≤ last_moment }
+    ensures rows { IsAnswer view.now.plans (folds_of view.now) query.now result }
+    ensures stands { (h : List Entry) → StandsFor h view.now
+        → IsAnswer view.now.plans (fold_of (length view.now.plans.feeds) h) query.now result }
+{
+    view.sound();
+    let plans = view.plans();
+    let plan = &plans.plans()[query.plan as usize].plan;
+    match plan.stop_of(query.stop.as_str()) {
+        Some(stop) => {
+            let rows = rows_at(alloc, plan, plans.feeds(), view.feeds(), query, stop)?;
+            Ok(rows)
+        }
+        None => Err(RowsFault::NoStop),
+    }
+}

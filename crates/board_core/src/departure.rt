@@ -1,0 +1,182 @@
+//! The departures of a run at the asked stop, before their texts are made.
+
+ghost use Rattle.std.specs.Prelude.{◌≡◌, ◌+◌, ◌<◌, ◌≤◌, ◌&&◌, ◌++◌, Some, length, map, drop, take, ℤ, pos, ◌+ℤ◌, int_le, int_lt, unwrap_or, IfSome, OnOk, IsTrue};
+ghost use Rattle.std.specs.List.{All, cons_option};
+ghost use Rattle.std.specs.Option.{option_map, option_to_list};
+ghost use Rattle.text_defs.specs.Moments.{last_moment};
+ghost use Rattle.sched_types.specs.Timetable.{IsSmall, base_of, places_of, is_run};
+ghost use Rattle.delay_rule.specs.Near.{IsNear, IsNearState};
+ghost use Rattle.board_defs.specs.Rows.{is_asked, departures_of, row_of, RunOf};
+ghost use Rattle.board_core.specs.Departures.{as_row, as_shown, shown_by, in_window, row_by, rows_at, counts_at, IsThere, Adds};
+
+use crate::NoMemory;
+use crate::known::{Known, Sign, shown};
+use board_defs::RowState;
+use sched_types::{Place, Plan, Run};
+
+/// A stop, by its number, and the window in which departures count: from a moment on, for so many seconds.
+#[derive(Clone, Copy)]
+pub(crate) struct Asked {
+    pub(crate) stop: u32,
+    pub(crate) at: u64,
+    pub(crate) span: u32,
+}
+
+/// A departure, with the numbers of its run, its place and its stop. Instants and delays are in seconds.
+#[derive(Clone, Copy)]
+pub(crate) struct Departure {
+    pub(crate) expected: i64,
+    pub(crate) run: Run,
+    pub(crate) place: u32,
+    pub(crate) stop: u32,
+    pub(crate) scheduled: i64,
+    pub(crate) delay: Option<i64>,
+    pub(crate) state: RowState,
+}
+
+/// Whether a stop is the asked one or names it as its parent.
+fn is_asked(plan: &Plan, asked: u32, stop: u32) -> bool
+    requires { stop < length plan.now.stops }
+    ensures { result ≡ is_asked plan.now asked stop }
+{
+    stop == asked || plan.stop(stop).parent == Some(asked)
+}
+
+/// Whether passengers may board at a place, and it is at the asked stop.
+pub(crate) fn counts_at(plan: &Plan, asked: u32, place: Place) -> bool
+    requires { place.stop < length plan.now.stops }
+    ensures { result ≡ counts_at plan.now asked place }
+{
+    place.pickup != 1 && is_asked(plan, asked, place.stop)
+}
+
+/// When a place is left by the timetable, on a day that begins at `base`.
+fn scheduled_at(base: i64, place: Place) -> i64
+    requires { IsSmall base }
+    ensures value { result ≡ base +ℤ pos place.departure }
+{
+    base + i64::from(place.departure)
+}
+
+/// When it is expected to be left.
+fn expected_at(base: i64, place: Place, delay: Option<i64>) -> i64
+    requires small { IsSmall base }
+    requires near { IfSome delay IsNear }
+    ensures { result ≡ (base +ℤ pos place.departure) +ℤ unwrap_or delay (pos 0) }
+{
+    base + i64::from(place.departure) + delay.unwrap_or(0)
+}
+
+/// Whether an instant lies in the window.
+fn is_within(asked: Asked, instant: i64) -> bool
+    requires { asked.at ≤ last_moment }
+    ensures { result
+        ≡ (int_le (pos asked.at) instant && int_lt instant (pos (asked.at + asked.span))) }
+{
+    asked.at as i64 <= instant && instant < (asked.at + u64::from(asked.span)) as i64
+}
+
+/// The departure from a place, if it lies in the window.
+fn departing(
+    plan: &Plan,
+    asked: Asked,
+    run: Run,
+    number: u32,
+    place: Place,
+    sign: Sign,
+) -> Option<Departure>
+    requires trip { run.trip < length plan.now.trips }
+    requires day { run.day < length plan.now.bases }
+    requires stop { place.stop < length plan.now.stops }
+    requires moment { asked.at ≤ last_moment }
+    requires near { IfSome sign.delay IsNear }
+    ensures value { option_map (as_row plan.now) result
+        ≡ in_window asked
+        (record {
+          row = row_of plan.now run place (as_shown sign);
+          subject = RunOf run;
+          place = number;
+          stop = place.stop;
+        }) }
+    ensures there { IfSome result (IsThere plan.now) }
+{
+    let base = plan.base(run.day);
+    let expected = expected_at(base, place, sign.delay);
+    if is_within(asked, expected) {
+        Some(Departure {
+            expected,
+            run,
+            place: number,
+            stop: place.stop,
+            scheduled: scheduled_at(base, place),
+            delay: sign.delay,
+            state: sign.state,
+        })
+    } else {
+        None
+    }
+}
+
+/// The departure from a place of a run, if it is one of the board.
+fn departure_at(
+    plan: &Plan,
+    asked: Asked,
+    run: Run,
+    known: &Option<Known>,
+    number: u32,
+    place: Place,
+) -> Option<Departure>
+    requires trip { run.trip < length plan.now.trips }
+    requires day { run.day < length plan.now.bases }
+    requires stop { place.stop < length plan.now.stops }
+    requires moment { asked.at ≤ last_moment }
+    requires near { IfSome known.now (λ k. All IsNearState k.states.items) }
+    ensures value { option_map (as_row plan.now) result
+        ≡ row_by plan.now asked run (shown_by known.now number) (number, place) }
+    ensures there { IfSome result (IsThere plan.now) }
+{
+    if !counts_at(plan, asked.stop, place) {
+        return None;
+    }
+    match shown(known, number as usize) {
+        Some(sign) => departing(plan, asked, run, number, place, sign),
+        None => None,
+    }
+}
+
+/// Appends a departure, if there is one.
+fn push_some(out: &mut Vec<Departure>, departure: Option<Departure>) -> Result<(), NoMemory>
+    ensures { OnOk result (out.new.items ≡ out.old.items ++ option_to_list departure) }
+{
+    if let Some(departure) = departure {
+        out.push(departure)?;
+    }
+    Ok(())
+}
+
+/// Appends the departures of a run that are of the board, by what is known of it; or wants memory.
+pub(crate) fn push_places(
+    plan: &Plan,
+    asked: Asked,
+    run: Run,
+    known: &Option<Known>,
+    out: &mut Vec<Departure>,
+) -> Result<(), NoMemory>
+    requires trip { run.trip < length plan.now.trips }
+    requires day { run.day < length plan.now.bases }
+    requires many { 1 < length (places_of plan.now run.trip) }
+    requires moment { asked.at ≤ last_moment }
+    requires near { IfSome known.now (λ k. All IsNearState k.states.items) }
+    ensures { OnOk result
+        (Adds plan.now out.old.items out.new.items
+        (rows_at plan.now asked run (shown_by known.now) (departures_of plan.now run.trip))) }
+{
+    plan.sound();
+    let places = plan.stop_times(run.trip);
+    // Nobody boards at the last place.
+    let places = &places[..places.len() - 1];
+    for (i, place) in places.iter().enumerate() {
+        push_some(out, departure_at(plan, asked, run, known, i as u32, *place))?;
+    }
+    Ok(())
+}
