@@ -15,7 +15,7 @@ use Rattle.board_defs.specs.Views.{FeedKept, HubKept, StandsFor, folds_of}
 use Rattle.feed_out.specs.Feeds.{told_of}
 
 -- the message has the prefix of its schedule
-prefix_is : (plans : List NamedPlan) (plan : ℕ) (named : NamedPlan) (prefix : List ℕ) → plan < length plans → prefix ≡ (get_or plans plan named).prefix
+pub prefix_is : (plans : List NamedPlan) (plan : ℕ) (named : NamedPlan) (prefix : List ℕ) → plan < length plans → prefix ≡ (get_or plans plan named).prefix
     → prefix ≡ unwrap_or (option_map (λ n. n.prefix) (slice_get plans plan)) []
 prefix_is plans plan named prefix within is =
     is ∙ sym (ap (λ o. unwrap_or (option_map (λ n. n.prefix) o) []) (slice_get-get_or plans plan named within))

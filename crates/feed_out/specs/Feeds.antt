@@ -2,7 +2,9 @@
 use Rattle.std.specs.Prelude.{ℕ, ◌==◌, if◌then◌else◌, List, [], map, max}
 use Rattle.rt_types.specs.declared.message.Entity.{Entity}
 use Rattle.sched_types.specs.declared.plans.NamedFeed.{NamedFeed}
-use Rattle.board_defs.specs.Feed.{feeds_of, combined_entities}
+use Rattle.rt_types.specs.declared.message.FeedMessage.{FeedMessage}
+use Rattle.sched_types.specs.Schedules.{Schedules}
+use Rattle.board_defs.specs.Feed.{feeds_of, prefix_of, feed_message, combined_entities}
 use Rattle.board_defs.specs.Fold.{FeedFold}
 use Rattle.board_defs.specs.Views.{FeedKept}
 
@@ -21,3 +23,7 @@ later_of plan newest feed fold = if feed.plan == plan then max newest fold.stamp
 -- what the feed adds to the combined feed of the schedule
 abbrev pub added_of : List ℕ → ℕ → NamedFeed → FeedFold → List Entity
 added_of prefix plan feed fold = if feed.plan == plan then combined_entities prefix (feed, fold) else []
+
+-- the message of which the combined feed of a schedule is written
+abbrev pub schedule_message : Schedules → ℕ → List FeedFold → FeedMessage
+schedule_message schedules plan folds = feed_message (prefix_of schedules plan) (feeds_of plan schedules.feeds folds)

@@ -9,6 +9,8 @@
 
 mod entities;
 mod message;
+#[cfg(test)]
+mod tests;
 
 pub use message::combined;
 pub use std::alloc::AllocError as NoMemory;

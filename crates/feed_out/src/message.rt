@@ -1,12 +1,15 @@
 //! The message, and its bytes.
 
-ghost use Rattle.std.specs.Prelude.{◌≡◌, ◌<◌, List, length, map, IfOk};
+ghost use Rattle.std.specs.Prelude.{◌≡◌, ◌<◌, ◌^◌, List, length, map, true, Ok, IfOk};
+ghost use Rattle.std.specs.Str.{is_utf8};
 ghost use Rattle.std.specs.Arc.{arc_value};
 ghost use Rattle.feed_defs.specs.declared.history.Entry.{Entry};
+ghost use Rattle.feed_defs.specs.History.{WereRead};
+ghost use Rattle.feed_defs.specs.Table.{read};
 ghost use Rattle.board_defs.specs.Feed.{newest_of, prefix_of, feed_message, combined_feed};
 ghost use Rattle.board_defs.specs.Fold.{fold_of};
 ghost use Rattle.board_defs.specs.Views.{StandsFor, folds_of};
-ghost use Rattle.feed_out.specs.Feeds.{told_of, later_of};
+ghost use Rattle.feed_out.specs.Feeds.{told_of, later_of, schedule_message};
 
 use crate::NoMemory;
 use crate::entities::entities_of;
@@ -19,21 +22,30 @@ use std::alloc::Global;
 use std::sync::Arc;
 
 /// The bytes of the combined feed of the schedule of that number (GTFS Realtime 2.0, FeedMessage), of what the
-/// hub's feeds hold; or want of memory.
+/// hub's feeds hold; or want of memory. Where the hub's messages were read, they read as the message that they
+/// are written of.
 pub fn combined(alloc: Global, view: &HubView, plan: u32) -> Result<Vec<u8>, NoMemory>
     requires { plan < length view.now.plans.plans }
     ensures feed { IfOk result (λ bytes. bytes.items ≡ combined_feed view.now.plans plan (folds_of view.now)) }
     ensures stands { (h : List Entry) → StandsFor h view.now → IfOk result (λ bytes. bytes.items
         ≡ combined_feed view.now.plans plan (fold_of (length view.now.plans.feeds) h)) }
+    ensures again { (h : List Entry) → WereRead h → StandsFor h view.now → IfOk result (λ bytes. read bytes.items
+        ≡ Ok (schedule_message view.now.plans plan (folds_of view.now))) }
 {
     view.sound();
     let plans = view.plans();
     let prefix = plans.plans()[plan as usize].prefix.as_str();
+    is_text(prefix);
     let message = message_of(alloc, prefix, plan, plans.feeds(), view.feeds())?;
     let mut bytes = Vec::new(alloc);
     write_message(&message, &mut bytes)?;
     Ok(bytes)
 }
+
+/// Does nothing; its contract tells that a text is UTF-8.
+fn is_text(_text: &str)
+    ensures { is_utf8 _text.now ≡ true }
+{}
 
 /// The whole data set of the schedule's feeds, of which the views are given.
 fn message_of(
@@ -44,8 +56,9 @@ fn message_of(
     views: &[Arc<FeedView>],
 ) -> Result<FeedMessage, NoMemory>
     requires { length views.now ≡ length feeds.now }
-    ensures { IfOk result (λ message. message
+    ensures message { IfOk result (λ message. message
         ≡ feed_message prefix.now (told_of plan feeds.now (map arc_value views.now))) }
+    ensures fits { IfOk result (λ _. newest_of (told_of plan feeds.now (map arc_value views.now)) < 2 ^ 64) }
 {
     let entities = entities_of(alloc, prefix, plan, feeds, views)?;
     Ok(FeedMessage {

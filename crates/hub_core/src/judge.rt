@@ -96,7 +96,7 @@ fn has_moment(message: &FeedMessage) -> bool
 }
 
 /// When the message was made, in seconds since 1970; 0 where it doesn't say.
-pub fn stamp(message: &FeedMessage) -> u64
+fn stamp(message: &FeedMessage) -> u64
     ensures { result ≡ stamp_of message.now }
 {
     message.header.timestamp.unwrap_or(0)

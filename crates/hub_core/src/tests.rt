@@ -1,96 +1,14 @@
 //! Whole messages with their bytes, with ample memory.
 
-ghost use Rattle.std.specs.Prelude.{◌≡◌, length, IfOk};
-
-use crate::{Refusal, ReplayHub, check};
-use rt_types::{FeedMessage, Kind, Text, What};
+use crate::{Refusal, check};
+use rt_types::{FeedMessage, Kind, What};
 use std::alloc::Global;
 use std::test::Fail;
 
 /// Version 2.0, FULL_DATASET, stamp 5, and no entity.
 const PLAIN: &[u8] = b"\x0a\x09\x0a\x032.0\x10\x00\x18\x05";
 
-/// A hub with the one feed `a`.
-fn hub_of_a(alloc: Global) -> Result<ReplayHub, Fail>
-    ensures { IfOk result (λ hub. length hub.names ≡ 1) }
-{
-    let mut names = Vec::new(alloc);
-    names.push(Text::new(alloc, "a")?)?;
-    Ok(ReplayHub::plain(alloc, names)?)
-}
-
-/// Whether the hub of the feed `a` gives these bytes once it accepted this message.
-fn gives(alloc: Global, message: &[u8], feed: &[u8]) -> Result<bool, Fail> {
-    let mut hub = hub_of_a(alloc)?;
-    let count = hub.offer(0, message)?;
-    Ok(count == 1 && hub.combined()?.as_slice() == feed)
-}
-
-#[test]
-fn a_message_comes_out_as_it_came_in(rt: HostRuntime) -> Result<(), Fail> {
-    assert!(rt; gives(rt.alloc(), PLAIN, PLAIN)?);
-    Ok(())
-}
-
-#[test]
-fn an_entity_goes_out_under_its_feed(rt: HostRuntime) -> Result<(), Fail> {
-    let message = b"\x0a\x09\x0a\x032.0\x10\x00\x18\x05\x12\x03\x0a\x01x";
-    let feed = b"\x0a\x09\x0a\x032.0\x10\x00\x18\x05\x12\x05\x0a\x03a:x";
-    assert!(rt; gives(rt.alloc(), message, feed)?);
-    Ok(())
-}
-
-#[test]
-fn an_entity_that_is_deleted_is_gone(rt: HostRuntime) -> Result<(), Fail> {
-    let message = b"\x0a\x09\x0a\x032.0\x10\x01\x18\x05\x12\x03\x0a\x01x\x12\x05\x0a\x01x\x10\x01";
-    assert!(rt; gives(rt.alloc(), message, PLAIN)?);
-    Ok(())
-}
-
-#[test]
-fn two_headers_are_one(rt: HostRuntime) -> Result<(), Fail> {
-    let message = b"\x0a\x05\x0a\x032.0\x0a\x02\x18\x05";
-    assert!(rt; gives(rt.alloc(), message, PLAIN)?);
-    Ok(())
-}
-
-#[test]
-fn what_is_unknown_in_an_entity_goes_out_as_it_came(rt: HostRuntime) -> Result<(), Fail> {
-    let message = b"\x0a\x09\x0a\x032.0\x10\x00\x18\x05\x12\x07\x0a\x01x\x4a\x02hi";
-    let feed = b"\x0a\x09\x0a\x032.0\x10\x00\x18\x05\x12\x09\x0a\x03a:x\x4a\x02hi";
-    assert!(rt; gives(rt.alloc(), message, feed)?);
-    Ok(())
-}
-
-#[test]
-fn a_whole_data_set_takes_the_place_of_all(rt: HostRuntime) -> Result<(), Fail> {
-    let mut hub = hub_of_a(rt.alloc())?;
-    hub.offer(0, b"\x0a\x09\x0a\x032.0\x10\x01\x18\x01\x12\x03\x0a\x01p")?;
-    hub.offer(0, b"\x0a\x09\x0a\x032.0\x10\x01\x18\x02\x12\x03\x0a\x01q")?;
-    hub.offer(0, b"\x0a\x09\x0a\x032.0\x10\x00\x18\x04\x12\x03\x0a\x01s")?;
-    let feed = b"\x0a\x09\x0a\x032.0\x10\x00\x18\x04\x12\x05\x0a\x03a:s";
-    assert_eq!(rt; hub.combined()?.as_slice(), feed.as_slice());
-    Ok(())
-}
-
-#[test]
-fn feeds_that_sent_nothing_have_the_stamp_0(rt: HostRuntime) -> Result<(), Fail> {
-    let hub = hub_of_a(rt.alloc())?;
-    let feed = b"\x0a\x09\x0a\x032.0\x10\x00\x18\x00";
-    assert_eq!(rt; hub.combined()?.as_slice(), feed.as_slice());
-    Ok(())
-}
-
-#[test]
-fn a_message_is_taken_once(rt: HostRuntime) -> Result<(), Fail> {
-    let mut hub = hub_of_a(rt.alloc())?;
-    hub.offer(0, PLAIN)?;
-    let again = hub.offer(0, PLAIN);
-    assert!(rt; matches!(again, Err(Refusal::Stale { last: 5, got: 5 })));
-    Ok(())
-}
-
-// Whether a message is refused for that version.
+/// Whether a message is refused for that version.
 fn is_version(checked: Result<FeedMessage, Refusal>, text: &str) -> bool {
     match checked {
         Err(Refusal::Version(version)) => version.as_str() == text,
@@ -131,7 +49,7 @@ fn a_fault_is_told_with_its_place(rt: HostRuntime) {
     );
 }
 
-// Whether the bytes are refused for this fault of theirs.
+/// Whether the bytes are refused for this fault of theirs.
 fn is_malformed(bytes: &[u8], alloc: Global, place: u32, fault: What, message: Kind) -> bool {
     match check(alloc, 0, bytes) {
         Err(
