@@ -1,0 +1,4 @@
+pub mod Lines
+pub mod BoardText
+pub mod BoardJson
+pub mod Answers

@@ -1,0 +1,19 @@
+//! What a view of a hub answers to a question: scripts, the command line and HTTP ask through it alike.
+//!
+//! A `Question` is for the combined feed of a schedule or for a board of one of its stops, by their names.
+//! `answer` appends the bytes, or says that there is no such schedule or stop. Its contract is `answer_to` of
+//! `board_text_defs`, of what all feeds hold and so of the history that the view stands for.
+//!
+//! It stands on `board_core` for the rows of a board, on `feed_out` for feeds, and on `board_text` for how boards
+//! are spelled.
+#![tactic(auto)]
+
+mod answering;
+mod lookup;
+mod question;
+#[cfg(test)]
+mod tests;
+
+pub use answering::answer;
+pub use question::Question;
+pub use std::alloc::AllocError as NoMemory;
