@@ -1,0 +1,5 @@
+pub mod RequestLaws
+pub mod OnLiterals
+pub mod HeadExamples
+pub mod TargetExamples
+pub mod ResponseExamples

@@ -1,0 +1,4 @@
+pub mod FieldLemmas
+pub mod HeadEnds
+pub mod FoundLemmas
+pub mod HoldLemmas

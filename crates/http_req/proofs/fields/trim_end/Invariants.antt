@@ -1,0 +1,10 @@
+use Rattle.std.proofs.Common.{◌≡◌, length, reverse}
+use Rattle.httparse.specs.Grammar.{skip_ows}
+use Rattle.http_req.proofs.fields.trim_end.Given as goal
+
+-- what was taken off was blank
+abbrev pub invariant-loop-rest : goal.invariant-loop-rest
+invariant-loop-rest l = reverse (skip_ows (reverse l.rest)) ≡ reverse (skip_ows (reverse l.fn.bytes))
+
+abbrev pub decreases-loop-rest : goal.decreases-loop-rest
+decreases-loop-rest l = length l.rest
