@@ -1,9 +1,10 @@
 -- Doing a record, by its line.
 use Rattle.std.proofs.Common.{◌≡◌, ℕ, length, Bool, true, List, [], ◌++◌, drop, Option, Some, None, refl, ◌∙◌, append-nil}
-use Rattle.std.specs.List.{position_from}
-use Rattle.std.specs.Str.{bytes_eq}
-use Rattle.script_defs.specs.Record.{◌>>=◌, Head, Hub, Turn, turn, act, line_within, longest_line, head_of, payload_at, payload_waits, offered_turn, waits}
-use Rattle.script_defs.specs.Record.Head.{Message, End}
+use Rattle.board_text_defs.specs.Answers.{feed_number, Question}
+use Rattle.script_defs.specs.Optional.{◌>>=◌}
+use Rattle.script_defs.specs.Lines.{Head, line_within, longest_line, head_of}
+use Rattle.script_defs.specs.Record.{Hub, Turn, turn, act, payload_at, payload_waits, offered_turn, waits}
+use Rattle.script_defs.specs.Lines.Head.{Message, End}
 use Rattle.script_defs.proofs.Options.{bind_at, bind_none}
 use Rattle.script_defs.proofs.Turns.{turn_line, no_line_here, no_line_turn}
 use Rattle.script_defs.proofs.Opens.{waits_by_line, short_waits}
@@ -51,14 +52,14 @@ message_of_found hub feed None = refl
 message_of_found hub feed (Some f) = refl
 
 -- what a message for a feed that is there does, by that feed's number
-pub acts_of_number : (hub : Hub) (bytes name : List ℕ) (feed size behind : ℕ) → position_from (bytes_eq name) 0 hub.names ≡ Some feed
+pub acts_of_number : (hub : Hub) (bytes name : List ℕ) (feed size behind : ℕ) → feed_number hub.plans name ≡ Some feed
     → (more : List ℕ) → act hub (Message name size) (drop behind bytes ++ more) ≡ numbered_turn hub feed (payload_at size (drop behind bytes ++ more))
 acts_of_number hub bytes name feed size behind is more =
-    bind_at (position_from (bytes_eq name) 0 hub.names) _ feed is ∙ message_of_found hub feed (payload_at size (drop behind bytes ++ more))
+    bind_at (feed_number hub.plans name) _ feed is ∙ message_of_found hub feed (payload_at size (drop behind bytes ++ more))
 
 -- a message for a feed that isn't there
-pub no_feed : (hub : Hub) (name rest : List ℕ) (size : ℕ) → position_from (bytes_eq name) 0 hub.names ≡ None → act hub (Message name size) rest ≡ None
-no_feed hub name rest size h = bind_none (position_from (bytes_eq name) 0 hub.names) _ h
+pub no_feed : (hub : Hub) (name rest : List ℕ) (size : ℕ) → feed_number hub.plans name ≡ None → act hub (Message name size) rest ≡ None
+no_feed hub name rest size h = bind_none (feed_number hub.plans name) _ h
 
 -- bytes without a line among them wait, or are no record
 pub lacks_line : (hub : Hub) (bytes said : List ℕ) (step : Step) → line_within longest_line bytes ≡ None → LacksLine (length bytes) step → Turns step hub hub bytes said said

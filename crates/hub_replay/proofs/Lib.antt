@@ -7,3 +7,6 @@ pub mod Offering
 pub mod Skipping
 pub mod Going
 pub mod Outcomes
+pub mod Schedules
+pub mod Numbers
+pub mod Telling

@@ -11,10 +11,9 @@ use Rattle.feed_defs.proofs.WellFormed.{too_long}
 use Rattle.script_defs.specs.Record.{Hub, payload_at, payload_waits, reply_line}
 use Rattle.answer_defs.specs.Choices.{only_if}
 use Rattle.script_defs.proofs.Payloads.{payload_is, get_more, no_payload, fed_within, is_fed as is_line_end}
-use Rattle.std.specs.List.{position_from}
-use Rattle.std.specs.Str.{bytes_eq}
+use Rattle.board_text_defs.specs.Answers.{feed_number}
 use Rattle.script_defs.proofs.Opens.{payload_short}
-use Rattle.script_defs.specs.Record.Head.{Message}
+use Rattle.script_defs.specs.Lines.Head.{Message}
 use Rattle.rt_types.specs.declared.message.FeedMessage.{FeedMessage}
 use Rattle.hub_core.specs.Answers.{cause_of}
 use Rattle.hub_core.specs.declared.refusal.Refusal.{Refusal as Answer}
@@ -115,7 +114,7 @@ nothing_there (b ∷ bs) zero h = cc
 nothing_there (b ∷ bs) (suc place) h = let later = nothing_there bs place h in omega arith
 
 -- a message whose payload isn't whole waits
-pub message_waits : (hub : Hub) (name : List ℕ) (feed n behind : ℕ) (bytes more : List ℕ) → position_from (bytes_eq name) 0 hub.names ≡ Some feed → behind ≤ length bytes
+pub message_waits : (hub : Hub) (name : List ℕ) (feed n behind : ℕ) (bytes more : List ℕ) → feed_number hub.plans name ≡ Some feed → behind ≤ length bytes
     → length (bytes ++ more) ≤ behind + n → payload_waits hub (Message name n) (drop behind bytes ++ more) ≡ true
 message_waits hub name feed n behind bytes more found within few =
     let all = length-append bytes more in

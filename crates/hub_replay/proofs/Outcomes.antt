@@ -2,17 +2,17 @@
 use Rattle.std.proofs.Common.{◌≡◌, ℕ, zero, suc, ◌+◌, ◌-◌, ◌≤◌, List, [], ◌∷◌, ◌++◌, length, take, Option, Some, None, IfSome, Bool, true, false, refl, sym, ap, ◌∙◌, subst, arith, inl, inr, append-nil, append_assoc}
 use Rattle.std.specs.Prelude.{unwrap_or, min, ◌⊎◌}
 use Rattle.std.specs.Io.KnownBytes.{Appends, Consumes}
-use Rattle.std.proofs.KnownBytes.{Appends-trans, Consumes-nil}
+use Rattle.std.proofs.KnownBytes.{Appends-nil, Appends-trans, Consumes-nil}
 use Rattle.std.proofs.lemmas.List.{take-append-le, take_min}
 use Rattle.std.proofs.Math.Seq.{take-append-add, take-append_seam, take-nil}
 use Rattle.hub_outside.specs.Count.{Rose}
 use Rattle.hub_outside.proofs.Rising.{rose_later, rose_before}
-use Rattle.script_defs.specs.Record.{start}
+use Rattle.script_defs.specs.Record.{Hub}
 use Rattle.script_defs.specs.Output.{Run, Output, run, output_of, replayed, longest_script, refused_line, fault_line}
 use Rattle.hub_replay.specs.declared.steps.Ending.{Ending}
 use Rattle.hub_replay.specs.declared.steps.Ending.TheVariants.{Ended, Refused, InputFault, OutputFault, NoMemory}
 use Rattle.hub_replay.specs.Window.{remaining}
-use Rattle.hub_replay.specs.Steps.{Leaves, HasCause, at_start}
+use Rattle.hub_replay.specs.Steps.{Leaves, HasCause, at_first}
 use Rattle.hub_replay.specs.Outcome.{IsScript, IsUnfinished, IsCut, Outcome, InputFailed, OutputFailed, RanOut, Last, Finishes, fault_output, output_of_script, IsWhole}
 
 -- what is told of the script is told of all that the input had
@@ -40,18 +40,18 @@ written_front r told later h =
     (later ++ w.0, w.1 ∙ ap (λ xs. xs ++ w.0) h ∙ append_assoc told later w.0)
 
 -- the facts of an ending that its outcome takes
-pub record Told (left left' written written' : Option (List ℕ)) (told sent : List ℕ) (script : List ℕ) : Type 0 where
+pub record Told (hub : Hub) (left left' written written' : Option (List ℕ)) (told sent : List ℕ) (script : List ℕ) : Type 0 where
   pub is_script : IsScript left left' script
   pub wrote : Appends written written' sent
   pub later : List ℕ
-  pub front : (output_of_script script).written ≡ told ++ later
+  pub front : (output_of_script hub script).written ≡ told ++ later
 
-module _ (result : ℕ) (left left' written written' written'' : Option (List ℕ)) (input input' out out' out'' : ℕ) (inputs : input ≤ input') (outs : out ≤ out') (outs' : out' ≤ out'') where
+module _ (hub : Hub) (result : ℕ) (left left' written written' written'' : Option (List ℕ)) (input input' out out' out'' : ℕ) (inputs : input ≤ input') (outs : out ≤ out') (outs' : out' ≤ out'') where
   abbrev Ends : Type 0
-  Ends = Outcome output_of_script result left left' written written'' input input' out out''
+  Ends = Outcome hub (output_of_script hub) result left left' written written'' input input' out out''
 
   done : (status : ℕ) → (status ≡ 0) ⊎ (status ≡ 7) → result ≡ status
-      → IfSome left (λ script. Appends written written'' (output_of_script script).written × (result ≡ (output_of_script script).status)) → Ends
+      → IfSome left (λ script. Appends written written'' (output_of_script hub script).written × (result ≡ (output_of_script hub script).status)) → Ends
   done status (inl zero_is) is whole = record {
     is_status = inl (is ∙ zero_is);
     whole = λ _. whole;
@@ -71,7 +71,7 @@ module _ (result : ℕ) (left left' written written' written'' : Option (List �
     output_count = omega arith;
   }
 
-  input_failed : result ≡ 4 → Rose input input' × ((taken : List ℕ) × IsUnfinished left left' taken × Appends written written'' (fault_output taken)) → Ends
+  input_failed : result ≡ 4 → Rose input input' × ((taken : List ℕ) × IsUnfinished hub left left' taken × Appends written written'' (fault_output hub taken)) → Ends
   input_failed is h = record {
     is_status = inr (inl is);
     whole = elim [ inl e ↦ absurd (omega arith) | inr e ↦ absurd (omega arith) ];
@@ -82,7 +82,7 @@ module _ (result : ℕ) (left left' written written' written'' : Option (List �
     output_count = omega arith;
   }
 
-  output_failed : result ≡ 5 → Rose out out'' × IsCut output_of_script left left' written written'' input input' → Ends
+  output_failed : result ≡ 5 → Rose out out'' × IsCut hub (output_of_script hub) left left' written written'' input input' → Ends
   output_failed is h = record {
     is_status = inr (inr (inl is));
     whole = elim [ inl e ↦ absurd (omega arith) | inr e ↦ absurd (omega arith) ];
@@ -93,7 +93,7 @@ module _ (result : ℕ) (left left' written written' written'' : Option (List �
     output_count = omega arith;
   }
 
-  out_of_memory : result ≡ 6 → (script : List ℕ) × IsScript left left' script × ((n : ℕ) × Appends written written'' (take n (output_of_script script).written)) → Ends
+  out_of_memory : result ≡ 6 → (script : List ℕ) × IsScript left left' script × ((n : ℕ) × Appends written written'' (take n (output_of_script hub script).written)) → Ends
   out_of_memory is h = record {
     is_status = inr (inr (inr (inl is)));
     whole = elim [ inl e ↦ absurd (omega arith) | inr e ↦ absurd (omega arith) ];
@@ -117,21 +117,21 @@ module _ (result : ℕ) (left left' written written' written'' : Option (List �
       subst (Appends written written'') all (Appends-trans written written' written'' sent (take n (unsent ++ line)) first last)
 
   -- the output failed in the midst of what is defined
-  cut_within : (script told line : List ℕ) (m : ℕ) → Rose out out'' → IsScript left left' script → (more : List ℕ) → (output_of_script script).written ≡ told ++ line ++ more → Appends written written'' (take m (told ++ line)) → result ≡ 5 → Ends
+  cut_within : (script told line : List ℕ) (m : ℕ) → Rose out out'' → IsScript left left' script → (more : List ℕ) → (output_of_script hub script).written ≡ told ++ line ++ more → Appends written written'' (take m (told ++ line)) → result ≡ 5 → Ends
   cut_within script told line m rose is more front wrote e =
       let whole = take_front m (told ++ line) more in
-      let same : take m (told ++ line) ≡ take (min m (length (told ++ line))) (output_of_script script).written =
+      let same : take m (told ++ line) ≡ take (min m (length (told ++ line))) (output_of_script hub script).written =
       whole ∙ ap (take (min m (length (told ++ line)))) (sym front) in
       output_failed e (rose, inl (script, is, (min m (length (told ++ line)), subst (Appends written written'') same wrote)))
 
   -- memory ran out behind what is told
-  short_of : (script told : List ℕ) → IsScript left left' script → (more : List ℕ) → (output_of_script script).written ≡ told ++ more → Appends written written'' told → result ≡ 6 → Ends
+  short_of : (script told : List ℕ) → IsScript left left' script → (more : List ℕ) → (output_of_script hub script).written ≡ told ++ more → Appends written written'' told → result ≡ 6 → Ends
   short_of script told is more front wrote e =
-      let same : told ≡ take (length told) (output_of_script script).written = sym (take-append_seam told more) ∙ ap (take (length told)) (sym front) in
+      let same : told ≡ take (length told) (output_of_script hub script).written = sym (take-append_seam told more) ∙ ap (take (length told)) (sym front) in
       out_of_memory e (script, is, (length told, subst (Appends written written'') same wrote))
 
   abbrev Leaving : Ending → List ℕ → Type 0
-  Leaving ending said = Leaves ending at_start said left left' written written'
+  Leaving ending said = Leaves ending (at_first hub) said left left' written written'
 
   abbrev script_of : (ending : Ending) (said : List ℕ) → Leaving ending said → List ℕ
   script_of ending said p = p.more ++ unwrap_or left' []
@@ -142,13 +142,13 @@ module _ (result : ℕ) (left left' written written' written'' : Option (List �
   is_script_of : (ending : Ending) (said : List ℕ) (p : Leaving ending said) → IsScript left left' (script_of ending said p)
   is_script_of ending said p = record { taken = p.more; read = p.read; within = p.allowed; all = refl }
 
-  defined_of : (ending : Ending) (said : List ℕ) (p : Leaving ending said) → output_of_script (script_of ending said p) ≡ output_of (run start (p.more ++ rest_of ending said p))
-  defined_of ending said p = ap (λ xs. output_of (run start xs)) (take_over longest_script p.more (unwrap_or left' []) p.allowed)
+  defined_of : (ending : Ending) (said : List ℕ) (p : Leaving ending said) → output_of_script hub (script_of ending said p) ≡ output_of (run hub (p.more ++ rest_of ending said p))
+  defined_of ending said p = ap (λ xs. output_of (run hub xs)) (take_over longest_script p.more (unwrap_or left' []) p.allowed)
 
-  front_of : (ending : Ending) (said : List ℕ) (p : Leaving ending said) → (later : List ℕ) × ((output_of_script (script_of ending said p)).written ≡ p.told ++ later)
+  front_of : (ending : Ending) (said : List ℕ) (p : Leaving ending said) → (later : List ℕ) × ((output_of_script hub (script_of ending said p)).written ≡ p.told ++ later)
   front_of ending said p =
       let rest = rest_of ending said p in
-      let w = written_front (run start (p.more ++ rest)) p.told (p.front rest).0 (p.front rest).1 in
+      let w = written_front (run hub (p.more ++ rest)) p.told (p.front rest).0 (p.front rest).1 in
       (w.0, ap (λ (o : Output). o.written) (defined_of ending said p) ∙ w.1)
 
   from_unsent : (unsent said line : List ℕ) → unsent ≡ said → Appends written' written'' (said ++ line) → Appends written' written'' (unsent ++ line)
@@ -158,15 +158,15 @@ module _ (result : ℕ) (left left' written written' written'' : Option (List �
   cut_unsent unsent said line n e h = subst (λ s. Appends written' written'' (take n (s ++ line))) (sym e) h
 
   -- the whole of what is defined was written
-  whole_of : (ending : Ending) (said line : List ℕ) (status : ℕ) → (status ≡ 0) ⊎ (status ≡ 7) → (p : Leaving ending said) → p.unsent ≡ said → output_of_script (script_of ending said p) ≡ record { written = p.told ++ line; status = status }
+  whole_of : (ending : Ending) (said line : List ℕ) (status : ℕ) → (status ≡ 0) ⊎ (status ≡ 7) → (p : Leaving ending said) → p.unsent ≡ said → output_of_script hub (script_of ending said p) ≡ record { written = p.told ++ line; status = status }
       → result ≡ status → Appends written' written'' (said ++ line) → Ends
   whole_of ending said line status which p keeps is e wrote =
       let all = joined p.told p.sent p.unsent line p.says p.wrote (from_unsent p.unsent said line keeps wrote) in
-      let P : List ℕ → Type 0 = λ script. Appends written written'' (output_of_script script).written × (result ≡ (output_of_script script).status) in
+      let P : List ℕ → Type 0 = λ script. Appends written written'' (output_of_script hub script).written × (result ≡ (output_of_script hub script).status) in
       done status which e (script_told left left' (script_of ending said p) P (is_script_of ending said p) (rw is (all, e)))
 
   -- the output failed in the midst of the last bytes
-  cut_of : (ending : Ending) (said line later : List ℕ) → (p : Leaving ending said) → p.unsent ≡ said → (output_of_script (script_of ending said p)).written ≡ p.told ++ line ++ later
+  cut_of : (ending : Ending) (said line later : List ℕ) → (p : Leaving ending said) → p.unsent ≡ said → (output_of_script hub (script_of ending said p)).written ≡ p.told ++ line ++ later
       → result ≡ 5 → Rose out' out'' → (n : ℕ) → Appends written' written'' (take n (said ++ line)) → Ends
   cut_of ending said line later p keeps front e rose n wrote =
       cut_within (script_of ending said p) p.told line (length p.sent + n) (rose_later out out' out'' outs rose) (is_script_of ending said p) later front
@@ -185,7 +185,7 @@ module _ (result : ℕ) (left left' written written' written'' : Option (List �
       let nothing : p.told ++ [] ≡ p.told = append-nil p.told in
       cut_of ending said [] front.0 p keeps (front.1 ∙ ap (λ xs. xs ++ front.0) (sym nothing)) e rose n wrote
 
-  refused_outcome : (place : ℕ) (said : List ℕ) (p : Leaving (Refused place) said) → output_of_script (script_of (Refused place) said p) ≡ record { written = p.told ++ refused_line place; status = 7 }
+  refused_outcome : (place : ℕ) (said : List ℕ) (p : Leaving (Refused place) said) → output_of_script hub (script_of (Refused place) said p) ≡ record { written = p.told ++ refused_line place; status = 7 }
       → Finishes (Refused place) result said written' written'' out' out'' → Ends
   refused_outcome place said p is (inl (count, inl (e, wrote))) = whole_of (Refused place) said (refused_line place) 7 (inr refl) p p.keeps is e wrote
   refused_outcome place said p is (inl (count, inr (e, rose, (n, wrote)))) =
@@ -194,21 +194,21 @@ module _ (result : ℕ) (left left' written written' written'' : Option (List �
   refused_outcome place said p is (inr (count, inr (e, rose, (n, wrote)))) = cut_here (Refused place) said p p.keeps e rose n wrote
 
   -- the input failed in the midst of the script
-  unfinished : (said : List ℕ) (p : Leaving InputFault said) → IsUnfinished left left' p.more
+  unfinished : (said : List ℕ) (p : Leaving InputFault said) → IsUnfinished hub left left' p.more
   unfinished said p = record { read = p.read; within = p.allowed; goes_on = p.ends.1 }
 
   -- the outcome of a replay
   pub outcome : (ending : Ending) (said : List ℕ) → Leaving ending said → HasCause (Some ending) input input' out out' → Finishes ending result said written' written'' out' out'' → Ends
   outcome Ended said p cause (count, inl (e, wrote)) =
       let whole = p.ends (rest_of Ended said p) in
-      let is : output_of_script (script_of Ended said p) ≡ record { written = p.told ++ []; status = 0 } =
+      let is : output_of_script hub (script_of Ended said p) ≡ record { written = p.told ++ []; status = 0 } =
       defined_of Ended said p ∙ ap output_of whole.1 ∙ ap (λ (xs : List ℕ). let o : Output = record { written = xs; status = 0 } in o) (sym (append-nil p.told)) in
       whole_of Ended said [] 0 (inl refl) p p.keeps is e wrote
   outcome Ended said p cause (count, inr (e, rose, (n, wrote))) = cut_here Ended said p p.keeps e rose n wrote
   outcome (Refused place) said p cause h =
       let whole = p.ends.1 in
       let exact : place - 0 ≡ place = omega arith in
-      let is : output_of_script (script_of (Refused place) said p) ≡ record { written = p.told ++ refused_line place; status = 7 } =
+      let is : output_of_script hub (script_of (Refused place) said p) ≡ record { written = p.told ++ refused_line place; status = 7 } =
       defined_of (Refused place) said p ∙ ap output_of whole ∙ ap (λ (n : ℕ). let o : Output = record { written = p.told ++ refused_line n; status = 7 } in o) exact in
       refused_outcome place said p is h
   outcome InputFault said p cause (count, inl (e, wrote)) =
@@ -243,29 +243,41 @@ whole_given : (f g : List ℕ → Output) → ((script : List ℕ) → f script 
 whole_given f g same status None written written' h = h
 whole_given f g same status (Some xs) written written' h = λ which. rw (← same xs) (h which)
 
-cut_given : (f g : List ℕ → Output) → ((script : List ℕ) → f script ≡ g script) → (left left' written written' : Option (List ℕ)) (input input' : ℕ) → IsCut f left left' written written' input input' → IsCut g left left' written written' input input'
-cut_given f g same left left' written written' input input' (inl (script, is, (n, wrote))) = inl (script, is, (n, rw (← same script) wrote))
-cut_given f g same left left' written written' input input' (inr h) = inr h
+cut_given : (hub : Hub) (f g : List ℕ → Output) → ((script : List ℕ) → f script ≡ g script) → (left left' written written' : Option (List ℕ)) (input input' : ℕ) → IsCut hub f left left' written written' input input' → IsCut hub g left left' written written' input input'
+cut_given hub f g same left left' written written' input input' (inl (script, is, (n, wrote))) = inl (script, is, (n, rw (← same script) wrote))
+cut_given hub f g same left left' written written' input input' (inr h) = inr h
 
 -- an outcome, by another word for what is defined
-outcome_given : (f g : List ℕ → Output) → ((script : List ℕ) → f script ≡ g script) → (status : ℕ) (left left' written written' : Option (List ℕ)) (input input' out out' : ℕ)
-    → Outcome f status left left' written written' input input' out out' → Outcome g status left left' written written' input input' out out'
-outcome_given f g same status left left' written written' input input' out out' o = record {
+outcome_given : (hub : Hub) (f g : List ℕ → Output) → ((script : List ℕ) → f script ≡ g script) → (status : ℕ) (left left' written written' : Option (List ℕ)) (input input' out out' : ℕ)
+    → Outcome hub f status left left' written written' input input' out out' → Outcome hub g status left left' written written' input input' out out'
+outcome_given hub f g same status left left' written written' input input' out out' o = record {
   is_status = o.is_status;
   whole = whole_given f g same status left written written' o.whole;
   input_fault = o.input_fault;
-  output_fault = λ e. let h = o.output_fault e in (h.0, cut_given f g same left left' written written' input input' h.1);
+  output_fault = λ e. let h = o.output_fault e in (h.0, cut_given hub f g same left left' written written' input input' h.1);
   no_memory = λ e. let h = o.no_memory e in (h.0, h.1, (h.2.0, rw (← same h.0) h.2.1));
   input_count = o.input_count;
   output_count = o.output_count;
 }
 
-replayed_is : (script : List ℕ) → output_of_script script ≡ replayed script
+replayed_is : (hub : Hub) (script : List ℕ) → output_of_script hub script ≡ replayed hub script
 unfolding replayed
-replayed_is script = refl
+replayed_is hub script = refl
 
 -- the outcome in the word of the definition
-pub replay_outcome : (status : ℕ) (left left' written written' : Option (List ℕ)) (input input' out out' : ℕ) → Outcome output_of_script status left left' written written' input input' out out'
-    → Outcome replayed status left left' written written' input input' out out'
-replay_outcome status left left' written written' input input' out out' o =
-    outcome_given output_of_script replayed replayed_is status left left' written written' input input' out out' o
+pub replay_outcome : (hub : Hub) (status : ℕ) (left left' written written' : Option (List ℕ)) (input input' out out' : ℕ) → Outcome hub (output_of_script hub) status left left' written written' input input' out out'
+    → Outcome hub (replayed hub) status left left' written written' input input' out out'
+replay_outcome hub status left left' written written' input input' out out' o =
+    outcome_given hub (output_of_script hub) (replayed hub) (replayed_is hub) status left left' written written' input input' out out' o
+
+-- memory ran out before anything was done
+pub nothing_done : (hub : Hub) (left written : Option (List ℕ)) (input out : ℕ) → Outcome hub (replayed hub) 6 left left written written input input out out
+nothing_done hub left written input out = record {
+  is_status = inr (inr (inr (inl refl)));
+  whole = elim [ inl e ↦ absurd (omega arith) | inr e ↦ absurd (omega arith) ];
+  input_fault = λ e. absurd (omega arith);
+  output_fault = λ e. absurd (omega arith);
+  no_memory = λ _. (unwrap_or left [], record { taken = []; read = Consumes-nil left; within = omega arith; all = refl }, (0, Appends-nil written));
+  input_count = omega arith;
+  output_count = omega arith;
+}

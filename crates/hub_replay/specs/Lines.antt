@@ -1,17 +1,54 @@
 -- What the parts of a record's line are.
-use Rattle.std.specs.Prelude.{Option, Some, None}
-use Rattle.script_defs.specs.Record.{Head as ScriptHead}
-use Rattle.script_defs.specs.Record.Head.{Feed as FeedLine, Message as MessageLine, Combined as CombinedLine, End as EndLine}
+use Rattle.std.specs.Prelude.{◌≡◌, ℕ, List, Option, Some, None, Result, Ok, Err, ⊤}
+use Rattle.std.specs.Global.{Vec}
+use Rattle.script_defs.specs.Lines.{Head as ScriptHead}
+use Rattle.script_defs.specs.Lines.Head.{Feed as FeedLine, Message as MessageLine, Ask as AskLine, End as EndLine}
+use Rattle.board_text_defs.specs.Answers.Question.{FeedOf, BoardOf}
+use Rattle.view_answers.specs.Questions.{IsAsked}
 use Rattle.hub_replay.specs.declared.lines.Line.{Line}
-use Rattle.hub_replay.specs.declared.lines.Line.TheVariants.{Feed, Message, Combined, End}
+use Rattle.hub_replay.specs.declared.lines.Line.TheVariants.{Feed, Message, Combined, Board, End}
+use Rattle.hub_replay.specs.declared.lines.LineFault.{LineFault}
+use Rattle.hub_replay.specs.declared.lines.LineFault.TheVariants.{NotALine, NoMemory}
 
 -- what a line says, in the words of the script
 abbrev pub head_seen : Line → ScriptHead
-head_seen (Feed name) = FeedLine name.now
-head_seen (Message feed length) = MessageLine feed.now length
-head_seen (Combined schedule) = CombinedLine schedule.now
+head_seen (Feed name) = FeedLine name
+head_seen (Message feed n) = MessageLine feed n
+head_seen (Combined schedule) = AskLine (FeedOf schedule)
+head_seen (Board schedule stop moment span limit json) = AskLine (BoardOf (record {
+  schedule = schedule;
+  stop = stop;
+  at = moment;
+  span = span;
+  limit = limit;
+  json = json;
+}))
 head_seen End = EndLine
 
-abbrev pub head_told : Option Line → Option ScriptHead
-head_told None = None
-head_told (Some head) = Some (head_seen head)
+-- why there is nothing: it isn't one, or memory ran out, of which nothing is said
+abbrev pub Lacks : {A : Type 0} → Option A → LineFault → Type 0
+Lacks defined NotALine = defined ≡ None
+Lacks defined NoMemory = ⊤
+
+-- what a line asks may be asked: of a board the moment, the span and the number of rows are in
+-- range
+abbrev pub MayAsk : ScriptHead → Type 0
+MayAsk (AskLine question) = IsAsked question
+MayAsk (FeedLine name) = ⊤
+MayAsk (MessageLine feed n) = ⊤
+MayAsk EndLine = ⊤
+
+-- the line says just what is defined, with numbers in range, or is none of the records
+abbrev pub SaysHead : Option ScriptHead → Result Line LineFault → Type 0
+SaysHead defined (Ok line) = (defined ≡ Some (head_seen line)) × MayAsk (head_seen line)
+SaysHead defined (Err fault) = Lacks defined fault
+
+-- the text is the defined one, or there is none
+abbrev pub TextIs : Option (List ℕ) → Result (List ℕ) LineFault → Type 0
+TextIs defined (Ok text) = defined ≡ Some text
+TextIs defined (Err fault) = Lacks defined fault
+
+-- so of all texts
+abbrev pub TextsAre : Option (List (List ℕ)) → Result (Vec (List ℕ)) LineFault → Type 0
+TextsAre defined (Ok texts) = defined ≡ Some texts.items
+TextsAre defined (Err fault) = Lacks defined fault

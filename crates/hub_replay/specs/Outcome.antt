@@ -3,7 +3,7 @@ use Rattle.std.specs.Prelude.{◌≡◌, ℕ, ◌≤◌, List, [], ◌++◌, len
 use Rattle.std.specs.Io.KnownBytes.{Appends, Consumes}
 use Rattle.hub_outside.specs.Count.{Rose}
 use Rattle.hub_outside.specs.Outside.{Stream}
-use Rattle.script_defs.specs.Record.{start}
+use Rattle.script_defs.specs.Record.{Hub}
 use Rattle.script_defs.specs.Output.{Output, run, is_open, output_of, replayed, longest_script, refused_line, fault_line}
 use Rattle.hub_replay.specs.declared.steps.Ending.{Ending}
 use Rattle.hub_replay.specs.declared.steps.Ending.TheVariants.{Ended, Refused, InputFault, OutputFault, NoMemory}
@@ -12,9 +12,9 @@ use Rattle.hub_replay.specs.declared.steps.Ending.TheVariants.{Ended, Refused, I
 abbrev pub IsReplayStatus : ℕ → Type 0
 IsReplayStatus status = (status ≡ 0) ⊎ (status ≡ 4) ⊎ (status ≡ 5) ⊎ (status ≡ 6) ⊎ (status ≡ 7)
 
--- the output of the script of a replay, which may have so many bytes
-abbrev pub output_of_script : List ℕ → Output
-output_of_script script = output_of (run start (take longest_script script))
+-- the output of the script of a replay on a hub, which may have so many bytes
+abbrev pub output_of_script : Hub → List ℕ → Output
+output_of_script hub script = output_of (run hub (take longest_script script))
 
 -- A script that begins with what was read. Where the input tells its bytes it is all that the input
 -- had.
@@ -26,15 +26,15 @@ pub record IsScript (left left' : Option (List ℕ)) (script : List ℕ) : Type 
 
 -- What was read of a script that goes on: none of its records ended it, and what stands behind them
 -- isn't refused.
-pub record IsUnfinished (left left' : Option (List ℕ)) (taken : List ℕ) : Type 0 where
+pub record IsUnfinished (hub : Hub) (left left' : Option (List ℕ)) (taken : List ℕ) : Type 0 where
   pub read : Consumes left left' taken
   pub within : length taken ≤ longest_script
-  pub goes_on : is_open start taken ≡ true
+  pub goes_on : is_open hub taken ≡ true
 
 -- what is printed where the input fails behind those bytes: what their records print, and the
 -- fault's line
-abbrev pub fault_output : List ℕ → List ℕ
-fault_output taken = (run start taken).out ++ fault_line
+abbrev pub fault_output : Hub → List ℕ → List ℕ
+fault_output hub taken = (run hub taken).out ++ fault_line
 
 -- the output grew by all that is defined for the input, and the status is the defined one
 abbrev pub IsWhole : (List ℕ → Output) → ℕ → Option (List ℕ) → Option (List ℕ) → Option (List ℕ)
@@ -44,27 +44,28 @@ IsWhole defined status left written written' = (status ≡ 0) ⊎ (status ≡ 7)
     × (status ≡ (defined script).status))
 
 -- the input failed, in the midst of the script
-abbrev pub InputFailed : ℕ → Option (List ℕ) → Option (List ℕ) → Option (List ℕ) → Option (List ℕ)
+abbrev pub InputFailed : Hub → ℕ → Option (List ℕ) → Option (List ℕ) → Option (List ℕ)
+    → Option (List ℕ)
     → ℕ → ℕ → Type 0
-InputFailed status left left' written written' faults faults' = status ≡ 4
+InputFailed hub status left left' written written' faults faults' = status ≡ 4
     → Rose faults faults'
-    × ((taken : List ℕ) × IsUnfinished left left' taken
-    × Appends written written' (fault_output taken))
+    × ((taken : List ℕ) × IsUnfinished hub left left' taken
+    × Appends written written' (fault_output hub taken))
 
 -- a front of all that is defined was written, or, where the input failed, of what is printed there
-abbrev pub IsCut : (List ℕ → Output) → Option (List ℕ) → Option (List ℕ) → Option (List ℕ)
-    → Option (List ℕ) → ℕ → ℕ → Type 0
-IsCut defined left left' written written' faults faults' =
+abbrev pub IsCut : Hub → (List ℕ → Output) → Option (List ℕ) → Option (List ℕ)
+    → Option (List ℕ) → Option (List ℕ) → ℕ → ℕ → Type 0
+IsCut hub defined left left' written written' faults faults' =
     ((script : List ℕ) × IsScript left left' script
     × ((n : ℕ) × Appends written written' (take n (defined script).written)))
-    ⊎ (Rose faults faults' × ((taken : List ℕ) × IsUnfinished left left' taken
-    × ((n : ℕ) × Appends written written' (take n (fault_output taken)))))
+    ⊎ (Rose faults faults' × ((taken : List ℕ) × IsUnfinished hub left left' taken
+    × ((n : ℕ) × Appends written written' (take n (fault_output hub taken)))))
 
 -- the output failed
-abbrev pub OutputFailed : (List ℕ → Output) → ℕ → Option (List ℕ) → Option (List ℕ)
+abbrev pub OutputFailed : Hub → (List ℕ → Output) → ℕ → Option (List ℕ) → Option (List ℕ)
     → Option (List ℕ) → Option (List ℕ) → ℕ → ℕ → ℕ → ℕ → Type 0
-OutputFailed defined status left left' written written' input input' out out' = status ≡ 5
-    → Rose out out' × IsCut defined left left' written written' input input'
+OutputFailed hub defined status left left' written written' input input' out out' = status ≡ 5
+    → Rose out out' × IsCut hub defined left left' written written' input input'
 
 -- memory ran out: the output grew by the front of all that is defined
 abbrev pub RanOut : (List ℕ → Output) → ℕ → Option (List ℕ) → Option (List ℕ) → Option (List ℕ)
@@ -73,21 +74,22 @@ RanOut defined status left left' written written' = status ≡ 6
     → (script : List ℕ) × IsScript left left' script
     × ((n : ℕ) × Appends written written' (take n (defined script).written))
 
--- all of this, and that no count of faults fell
-pub record Outcome (defined : List ℕ → Output) (status : ℕ)
+-- all of this, of a script on a hub, and that no count of faults fell
+pub record Outcome (hub : Hub) (defined : List ℕ → Output) (status : ℕ)
     (left left' written written' : Option (List ℕ)) (input input' out out' : ℕ) : Type 0 where
   pub is_status : IsReplayStatus status
   pub whole : IsWhole defined status left written written'
-  pub input_fault : InputFailed status left left' written written' input input'
-  pub output_fault : OutputFailed defined status left left' written written' input input' out out'
+  pub input_fault : InputFailed hub status left left' written written' input input'
+  pub output_fault : OutputFailed hub defined status left left' written written' input input' out
+      out'
   pub no_memory : RanOut defined status left left' written written'
   pub input_count : input ≤ input'
   pub output_count : out ≤ out'
 
--- what a replay comes to, from its input and output before and after
-abbrev pub ReplayOutcome : Stream → Stream → Stream → Stream → ℕ → Type 0
-ReplayOutcome input input' output output' status =
-    Outcome replayed status input.told input'.told output.told output'.told input.faults
+-- what a replay on a hub comes to, from its input and output before and after
+abbrev pub ReplayOutcome : Hub → Stream → Stream → Stream → Stream → ℕ → Type 0
+ReplayOutcome hub input input' output output' status =
+    Outcome hub (replayed hub) status input.told input'.told output.told output'.told input.faults
     input'.faults output.faults output'.faults
 
 -- the last bytes were written, or the output failed in the midst of them

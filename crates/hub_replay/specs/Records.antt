@@ -4,7 +4,9 @@ use Rattle.feed_defs.specs.History.{Refusal as Cause, offer_outcome}
 use Rattle.feed_defs.specs.History.Refusal.{TooLong as LongCause}
 use Rattle.hub_core.specs.Answers.{cause_of}
 use Rattle.hub_core.specs.declared.refusal.Refusal.{Refusal}
-use Rattle.script_defs.specs.Record.{Head, Hub, Turn, turn, act, longest_line, reply_line, payload_at, payload_waits, offered_turn, waits}
+use Rattle.board_text_defs.specs.Answers.{Question, answer_to}
+use Rattle.script_defs.specs.Lines.{Head, longest_line}
+use Rattle.script_defs.specs.Record.{Hub, Turn, turn, act, reply_line, payload_at, payload_waits, offered_turn, waits, answer_reply, question_word, folds_in}
 use Rattle.answer_defs.specs.Choices.{only_if}
 use Rattle.hub_replay.specs.declared.records.Step.{Step}
 use Rattle.hub_replay.specs.declared.records.Step.TheVariants.{Whole, Ends, Short, Long, Refused, NoMemory}
@@ -115,3 +117,11 @@ OffersTo (Ok x) feed bytes old new said said' =
       begun = true;
     })
 OffersTo (Err e) feed bytes old new said said' = (extra : List ℕ) × (said' ≡ said ++ extra)
+
+-- a question was asked, its answer printed
+abbrev pub Asks : {A E : Type 0} → Result A E → Question → Hub → Hub → List ℕ → List ℕ → Type 0
+Asks (Ok x) question old new said said' =
+    (said' ≡ said ++ answer_reply (question_word question)
+    (answer_to old.plans (folds_in old) question))
+    × (new ≡ record old { begun = true })
+Asks (Err e) question old new said said' = (extra : List ℕ) × (said' ≡ said ++ extra)

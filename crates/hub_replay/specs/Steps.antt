@@ -3,7 +3,7 @@ use Rattle.std.specs.Prelude.{◌≡◌, ℕ, ◌+◌, ◌-◌, ◌*◌, ◌≤�
 use Rattle.feed_defs.specs.History.Refusal.{TooLong}
 use Rattle.std.specs.Io.KnownBytes.{Appends, Consumes}
 use Rattle.hub_outside.specs.Count.{Rose}
-use Rattle.script_defs.specs.Record.{Hub, start, reply_line}
+use Rattle.script_defs.specs.Record.{Hub, reply_line}
 use Rattle.hub_replay.specs.Records.{is_fed}
 use Rattle.script_defs.specs.Output.{run, is_open, behind, longest_script}
 use Rattle.hub_replay.specs.declared.steps.Replay.{Replay}
@@ -32,8 +32,8 @@ at r = record {
 }
 
 -- before the first record
-abbrev pub at_start : At
-at_start = record { held = []; allowed = longest_script; hub = start; said = []; place = 0 }
+abbrev pub at_first : Hub → At
+at_first hub = record { held = []; allowed = longest_script; hub = hub; said = []; place = 0 }
 
 -- the bytes of the script that were done, those in hand and those that may follow
 abbrev pub place_sum : At → ℕ

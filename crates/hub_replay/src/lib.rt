@@ -2,15 +2,17 @@
 //!
 //! [`replay`] reads a script in pieces, does its records in order and writes what they print. Its
 //! contract says which bytes were written and which status the command ends with, by the
-//! definitions of `script_defs`, which speak of the whole input as a list. [`parse_line`] says
-//! which record a line is.
+//! definitions of `script_defs`, which speak of the whole input as a list. A script works on the
+//! hub of a configuration that is given, or declares its feeds itself. [`parse_line`] says which
+//! record a line is.
 //!
 //! The parts by job: `lines` (what a record's line says), `feeds` (the hub that a script works on),
 //! `records` (one whole record), `replies` (the lines that answer an offered message), `window`
 //! (the bytes that were read and not yet used), `steps` (one step of a replay), `running` (all of
 //! them) and `ending` (the last bytes, and the status).
 //!
-//! The crate stands on `hub_core` for the messages and on `hub_outside` for input and output.
+//! The crate stands on `hub_state` for the hub, on `view_answers` for the answers to questions, and
+//! on `hub_outside` for input and output.
 #![tactic(auto)]
 
 mod ending;
@@ -21,8 +23,10 @@ mod replies;
 mod running;
 pub mod statuses;
 mod steps;
+#[cfg(test)]
+mod tests;
 mod window;
 
 pub use ending::replay;
-pub use lines::{Line, parse_line};
+pub use lines::{Line, LineFault, parse_line};
 pub use std::alloc::AllocError as NoMemory;

@@ -1,15 +1,17 @@
 //! One whole record: what it prints, and what it does to the hub.
-ghost use Rattle.std.specs.Prelude.{◌≡◌, ◌<◌, ◌≤◌, ◌+◌, ◌++◌, length, codes, slice_get};
-ghost use Rattle.std.specs.Fmt.{decimal};
-ghost use Rattle.text_defs.specs.Cleaned.{line_feed};
-ghost use Rattle.script_defs.specs.Record.Head.{Feed, Message, Combined};
-ghost use Rattle.hub_replay.specs.Records.{Turns, Acts, LacksLine, Says, OffersTo};
+ghost use Rattle.std.specs.Prelude.{◌≡◌, ◌<◌, ◌≤◌, ◌+◌, ◌++◌, length, Some, None, slice_get};
+ghost use Rattle.view_answers.specs.Questions.{question_seen, IsAsked};
+ghost use Rattle.script_defs.specs.Lines.Head.{Feed, Message, Ask};
+ghost use Rattle.script_defs.specs.Record.{answer_reply, question_word};
+ghost use Rattle.hub_replay.specs.Lines.{head_seen, MayAsk};
+ghost use Rattle.hub_replay.specs.Records.{Turns, Acts, LacksLine, Says, OffersTo, Asks};
 
 use crate::NoMemory;
 use crate::feeds::ScriptHub;
-use crate::lines::{LONGEST_LINE, Line, line_end, parse_line};
+use crate::lines::{LONGEST_LINE, Line, LineFault, line_end, parse_line};
 use crate::replies::reply_line;
 use std::alloc::Global;
+use view_answers::Question;
 
 /// The most bytes of a message that is looked at; a longer one is refused unseen.
 const LONGEST_MESSAGE: u32 = 16_777_216;
@@ -41,22 +43,64 @@ pub(crate) fn do_record(
     ensures { Turns result hub.old hub.new bytes.now said.old.items said.new.items }
 {
     match line_end(bytes) {
-        Some(end) => match parse_line(&bytes[..end]) {
-            Some(Line::Feed(name)) => do_feed(alloc, hub, name, bytes, end + 1, said),
-            Some(Line::Message(feed, size)) => {
-                do_message(alloc, hub, feed, size, bytes, end + 1, said)
-            }
-            Some(Line::Combined(schedule)) => {
-                do_combined(alloc, hub, schedule, bytes, end + 1, said)
-            }
-            Some(Line::End) => Step::Ends,
-            None => Step::Refused,
+        Some(end) => match parse_line(alloc, &bytes[..end]) {
+            Ok(line) => do_line(alloc, hub, &line, bytes, end + 1, said),
+            Err(LineFault::NotALine) => Step::Refused,
+            Err(LineFault::NoMemory) => Step::NoMemory,
         },
         None => step_without_line(bytes.len()),
     }
 }
 
-// Bytes without a line's end wait for more of them, while a line may be longer.
+/// Does the record of a line, behind which the bytes from the place `behind` on stand.
+fn do_line(
+    alloc: Global,
+    hub: &mut ScriptHub,
+    line: &Line,
+    bytes: &[u8],
+    behind: usize,
+    said: &mut Vec<u8>,
+) -> Step
+    requires range { MayAsk (head_seen line.now) }
+    requires within { behind ≤ length bytes.now }
+    requires line { behind ≤ 4096 }
+    ensures { Acts (head_seen line.now) behind result hub.old hub.new
+        bytes.now said.old.items said.new.items }
+{
+    match line {
+        Line::Feed { name } => do_feed(alloc, hub, name.as_str(), bytes, behind, said),
+        Line::Message { feed, n } => {
+            do_message(alloc, hub, feed.as_str(), *n, bytes, behind, said)
+        }
+        Line::Combined { schedule } => {
+            let question = Question::Feed {
+                schedule: schedule.as_str(),
+            };
+            do_question(alloc, hub, &question, bytes, behind, said)
+        }
+        Line::Board {
+            schedule,
+            stop,
+            moment,
+            span,
+            limit,
+            json,
+        } => {
+            let question = Question::Board {
+                schedule: schedule.as_str(),
+                stop: stop.as_str(),
+                at: *moment,
+                span: *span,
+                limit: *limit,
+                json: *json,
+            };
+            do_question(alloc, hub, &question, bytes, behind, said)
+        }
+        Line::End => Step::Ends,
+    }
+}
+
+/// Bytes without a line's end wait for more of them, while a line may be longer.
 fn step_without_line(count: usize) -> Step
     ensures { LacksLine count result }
 {
@@ -67,7 +111,7 @@ fn step_without_line(count: usize) -> Step
     }
 }
 
-// `F`: declares a feed.
+/// `F`: declares a feed.
 fn do_feed(
     alloc: Global,
     hub: &mut ScriptHub,
@@ -87,7 +131,7 @@ fn do_feed(
     }
 }
 
-// `M`: offers a message, once its last byte and the LF behind it are there.
+/// `M`: offers a message, once its last byte and the LF behind it are there.
 fn do_message(
     alloc: Global,
     hub: &mut ScriptHub,
@@ -126,39 +170,57 @@ pub(crate) fn byte_at(bytes: &[u8], place: usize) -> Option<u8>
     bytes.get(place).copied()
 }
 
-// `O`: prints the combined feed of the schedule.
-fn do_combined(
+/// `O` and `B`: prints what the question is answered.
+fn do_question(
     alloc: Global,
     hub: &mut ScriptHub,
-    schedule: &str,
+    question: &Question<'_>,
     bytes: &[u8],
     behind: usize,
     said: &mut Vec<u8>,
 ) -> Step
-    requires { behind ≤ length bytes.now }
-    ensures { Acts (Combined schedule.now) behind result hub.old hub.new bytes.now said.old.items
-        said.new.items }
+    requires asked { IsAsked (question_seen question.now) }
+    requires within { behind ≤ length bytes.now }
+    ensures { Acts (Ask (question_seen question.now)) behind result hub.old hub.new
+        bytes.now said.old.items said.new.items }
 {
-    if schedule == "plain" {
-        let Ok(feed) = hub.combined(alloc) else {
-            return Step::NoMemory;
-        };
-        match say_feed(alloc, &feed, said) {
-            Ok(()) => Step::Whole(behind),
-            Err(_) => Step::NoMemory,
-        }
-    } else {
-        if hub.begin(alloc).is_err() {
-            return Step::NoMemory;
-        }
-        match say(b"feed none\n", said) {
-            Ok(()) => Step::Whole(behind),
-            Err(_) => Step::NoMemory,
-        }
+    match ask(alloc, hub, question, said) {
+        Ok(()) => Step::Whole(behind),
+        Err(_) => Step::NoMemory,
     }
 }
 
-// Offers a message to a feed and says what came of it.
+/// Asks the hub and says what it is answered.
+fn ask(
+    alloc: Global,
+    hub: &mut ScriptHub,
+    question: &Question<'_>,
+    said: &mut Vec<u8>,
+) -> Result<(), NoMemory>
+    requires { IsAsked (question_seen question.now) }
+    ensures { Asks result (question_seen question.now) hub.old hub.new
+        said.old.items said.new.items }
+{
+    let word = question_word(question);
+    let mut answer = Vec::new(alloc);
+    if hub.tell(alloc, question, &mut answer)? {
+        say_answer(alloc, word, &answer, said)
+    } else {
+        say_none(alloc, word, said)
+    }
+}
+
+/// The word with which the answer to a question begins.
+fn question_word(question: &Question<'_>) -> &'static str
+    ensures { result.now ≡ question_word (question_seen question.now) }
+{
+    match question {
+        Question::Feed { .. } => "feed",
+        Question::Board { .. } => "board",
+    }
+}
+
+/// Offers a message to a feed and says what came of it.
 fn offer(
     alloc: Global,
     hub: &mut ScriptHub,
@@ -166,7 +228,7 @@ fn offer(
     bytes: &[u8],
     said: &mut Vec<u8>,
 ) -> Result<(), NoMemory>
-    requires { feed < length hub.old.names }
+    requires { feed < length hub.old.plans.feeds }
     ensures { OffersTo result feed bytes.now hub.old hub.new said.old.items said.new.items }
 {
     let reply = hub.offer(alloc, feed, bytes);
@@ -174,16 +236,23 @@ fn offer(
     say(&line, said)
 }
 
-// A feed, with its length before it and LF behind it.
-fn say_feed(alloc: Global, feed: &[u8], said: &mut Vec<u8>) -> Result<(), NoMemory>
-    ensures { Says result said.old.items said.new.items (codes "feed " ++ decimal (length feed.now)
-        ++ line_feed ++ feed.now ++ line_feed) }
+/// An answer, with its length before it and LF behind it.
+fn say_answer(alloc: Global, word: &str, answer: &[u8], said: &mut Vec<u8>) -> Result<(), NoMemory>
+    ensures { Says result said.old.items said.new.items (answer_reply word.now (Some answer.now)) }
 {
-    let length = feed.len();
-    let line = format!(in alloc; "feed {length}\n")?;
+    let length = answer.len();
+    let line = format!(in alloc; "{word} {length}\n")?;
     say(line.as_bytes(), said)?;
-    say(feed, said)?;
+    say(answer, said)?;
     say(b"\n", said)
+}
+
+/// That what was asked for isn't there.
+fn say_none(alloc: Global, word: &str, said: &mut Vec<u8>) -> Result<(), NoMemory>
+    ensures { Says result said.old.items said.new.items (answer_reply word.now None) }
+{
+    let line = format!(in alloc; "{word} none\n")?;
+    say(line.as_bytes(), said)
 }
 
 /// Something more to be printed.

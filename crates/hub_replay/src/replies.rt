@@ -44,15 +44,15 @@ pub(crate) fn too_long_line(alloc: Global, len: u64) -> Result<String, NoMemory>
     format!(in alloc; "refused toolong {len}\n")
 }
 
-// The line that refuses a message no newer than its feed's last; both stamps are in seconds since
-// 1970.
+/// The line that refuses a message no newer than its feed's last; both stamps are in seconds since
+/// 1970.
 fn stale_line(alloc: Global, last: u64, got: u64) -> Result<String, NoMemory>
     ensures { IfOk result (λ line. string_bytes line ≡ reply_line (Err (StaleCause last got))) }
 {
     format!(in alloc; "refused stale {last} {got}\n")
 }
 
-// The line that refuses a message with a fault.
+/// The line that refuses a message with a fault.
 fn malformed_line(
     alloc: Global,
     entity: u32,
@@ -66,7 +66,7 @@ fn malformed_line(
     fault_line(alloc, entity, what_word(what), kind_name(kind), field)
 }
 
-// The same, of words.
+/// The same, of words.
 fn fault_line(
     alloc: Global,
     entity: u32,
@@ -81,8 +81,8 @@ fn fault_line(
     format!(in alloc; "refused malformed {entity} {what} {kind} {field}\n")
 }
 
-// The line that refuses a message of another version, whose control characters would break the
-// line.
+/// The line that refuses a message of another version, whose control characters would break the
+/// line.
 fn version_line(alloc: Global, version: &str) -> Result<Vec<u8>, NoMemory>
     ensures { IfOk result (λ line. line.items ≡ reply_line (Err (VersionCause version.now))) }
 {
@@ -92,7 +92,7 @@ fn version_line(alloc: Global, version: &str) -> Result<Vec<u8>, NoMemory>
     Ok(line)
 }
 
-// What is wrong in a message.
+/// What is wrong in a message.
 fn what_word(what: What) -> &'static str
     ensures { result.now ≡ what_word what }
 {
@@ -106,7 +106,7 @@ fn what_word(what: What) -> &'static str
     }
 }
 
-// The name of a message in the reference of GTFS Realtime.
+/// The name of a message in the reference of GTFS Realtime.
 fn kind_name(kind: Kind) -> &'static str
     ensures { result.now ≡ kind_name kind }
 {

@@ -6,7 +6,7 @@ ghost use Rattle.script_defs.specs.Output.{longest_script};
 ghost use Rattle.hub_outside.specs.Writing.{WritesAll, HasWritingCause};
 ghost use Rattle.hub_replay.specs.Window.{HasRefillCause};
 ghost use Rattle.hub_replay.specs.Records.{long_turn, Says};
-ghost use Rattle.hub_replay.specs.Steps.{at, at_start, place_sum, Advances, HasCause, Skips, Flushes, RefusesLong};
+ghost use Rattle.hub_replay.specs.Steps.{at, at_first, place_sum, Advances, HasCause, Skips, Flushes, RefusesLong};
 
 use crate::NoMemory;
 use crate::feeds::ScriptHub;
@@ -47,13 +47,13 @@ pub(crate) enum Ending {
 }
 
 impl Replay {
-    /// Before the first record. It takes no memory.
-    pub(crate) fn new(alloc: Global) -> Replay
-        ensures { at result ≡ at_start }
+    /// Before the first record of a script on that hub. It takes no memory.
+    pub(crate) fn new(alloc: Global, hub: ScriptHub) -> Replay
+        ensures { at result ≡ at_first hub }
     {
         Replay {
             window: Window::new(alloc),
-            hub: ScriptHub::new(alloc),
+            hub,
             said: Vec::new(alloc),
             place: 0,
         }
@@ -95,7 +95,7 @@ pub(crate) fn advance<S: Source, K: Sink>(
     }
 }
 
-// Writes what was said, once much of it waits.
+/// Writes what was said, once much of it waits.
 fn flush_long<K: Sink>(said: &mut Vec<u8>, out: &mut K) -> Result<(), OutputFault>
     ensures bytes { Flushes result said.old.items said.new.items (K.written out.old)
         (K.written out.new) }
@@ -107,7 +107,7 @@ fn flush_long<K: Sink>(said: &mut Vec<u8>, out: &mut K) -> Result<(), OutputFaul
     flush(said, out)
 }
 
-// Writes what was said.
+/// Writes what was said.
 fn flush<K: Sink>(said: &mut Vec<u8>, out: &mut K) -> Result<(), OutputFault>
     ensures bytes { WritesAll result (K.written out.old) (K.written out.new) said.old.items }
     ensures emptied { OnOk result (said.new.items ≡ []) }
@@ -118,7 +118,7 @@ fn flush<K: Sink>(said: &mut Vec<u8>, out: &mut K) -> Result<(), OutputFault>
     Ok(())
 }
 
-// Writes what was said and reads on, where no whole record is in hand.
+/// Writes what was said and reads on, where no whole record is in hand.
 fn fetch<S: Source, K: Sink>(run: &mut Replay, input: &mut S, out: &mut K) -> Option<Ending>
     requires record { turn run.old.hub run.old.window.held ≡ None }
     requires waits { waits run.old.hub run.old.window.held ≡ true }
@@ -138,7 +138,7 @@ fn fetch<S: Source, K: Sink>(run: &mut Replay, input: &mut S, out: &mut K) -> Op
     }
 }
 
-// Writes what was said and reads past a message that is too long to be looked at.
+/// Writes what was said and reads past a message that is too long to be looked at.
 fn pass_message<S: Source, K: Sink>(
     alloc: Global,
     run: &mut Replay,
@@ -168,7 +168,7 @@ fn pass_message<S: Source, K: Sink>(
     }
 }
 
-// Refuses a message whose payload was passed, if LF stands behind it.
+/// Refuses a message whose payload was passed, if LF stands behind it.
 fn refuse_message(alloc: Global, run: &mut Replay, end: usize, size: u32) -> Option<Ending>
     requires some { 0 < length run.old.window.held }
     requires said { run.old.said.items ≡ [] }
@@ -190,7 +190,7 @@ fn refuse_message(alloc: Global, run: &mut Replay, end: usize, size: u32) -> Opt
     None
 }
 
-// Says that a message has too many bytes, and how many.
+/// Says that a message has too many bytes, and how many.
 fn say_too_long(alloc: Global, size: u32, said: &mut Vec<u8>) -> Result<(), NoMemory>
     ensures { Says result said.old.items said.new.items (reply_line (Err (TooLong size))) }
 {
@@ -198,7 +198,7 @@ fn say_too_long(alloc: Global, size: u32, said: &mut Vec<u8>) -> Result<(), NoMe
     say(line.as_bytes(), said)
 }
 
-// Lets go of so many bytes of the script, so that one at least stands behind them.
+/// Lets go of so many bytes of the script, so that one at least stands behind them.
 fn skip<S: Source>(window: &mut Window, count: usize, input: &mut S) -> Refill
     ensures skips { Skips result window.old window.new (S.left input.old) (S.left input.new) count }
     ensures cause { HasRefillCause result (S.faults input.old) (S.faults input.new) }

@@ -98,7 +98,7 @@ impl Window {
         self.read_piece(input)
     }
 
-    // One read into the room behind the bytes in hand.
+    /// One read into the room behind the bytes in hand.
     fn read_piece<S: Source>(&mut self, input: &mut S) -> Refill
         requires room { 0 < self.old.room }
         requires allowed { 0 < self.old.allowed }
@@ -122,9 +122,9 @@ impl Window {
         }
     }
 
-    // Makes room for a piece. What is in hand moves to the front only once the buffer's end is
-    // reached, and the buffer at least doubles where half of it is in use, so all moves together
-    // stay linear.
+    /// Makes room for a piece. What is in hand moves to the front only once the buffer's end is
+    /// reached, and the buffer at least doubles where half of it is in use, so all moves together
+    /// stay linear.
     fn make_room(&mut self) -> Result<(), NoMemory>
         ensures held { self.new.held ≡ self.old.held }
         ensures allowed { self.new.allowed ≡ self.old.allowed }
@@ -142,7 +142,7 @@ impl Window {
         Ok(())
     }
 
-    // Moves what is in hand to the front of the buffer.
+    /// Moves what is in hand to the front of the buffer.
     fn move_to_front(&mut self)
         ensures held { self.new.held ≡ self.old.held }
         ensures allowed { self.new.allowed ≡ self.old.allowed }
@@ -156,7 +156,7 @@ impl Window {
     }
 }
 
-// One read of up to `most` bytes behind the first `end` bytes of a buffer, which stay.
+/// One read of up to `most` bytes behind the first `end` bytes of a buffer, which stay.
 fn read_behind<S: Source>(input: &mut S, bytes: &mut [u8], end: usize, most: usize) -> ReadAnswer
     requires some { 0 < most }
     requires within { end + most ≤ length bytes.old }

@@ -1,7 +1,7 @@
 pub mod Options
 pub mod Lines
-pub mod Words
 pub mod Payloads
 pub mod Turns
 pub mod Runs
 pub mod Opens
+pub mod CityScripts

@@ -2,7 +2,8 @@
 use Rattle.std.proofs.Common.{◌≡◌, ℕ, zero, suc, ◌+◌, ◌-◌, ◌≤◌, ◌<◌, List, [], ◌∷◌, ◌++◌, length, take, drop, Option, Some, None, Bool, true, false, refl, ap, subst, arith}
 use Rattle.std.specs.Prelude.{◌==◌, if◌then◌else◌, cond}
 use Rattle.std.specs.List.{position_from}
-use Rattle.script_defs.specs.Record.{◌>>=◌, line_within}
+use Rattle.script_defs.specs.Lines.{line_within}
+use Rattle.script_defs.specs.Optional.{◌>>=◌}
 
 abbrev Found : Type 0
 Found = Option (List ℕ × List ℕ)

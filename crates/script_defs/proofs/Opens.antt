@@ -1,12 +1,12 @@
 -- Which scripts go on behind their bytes, one record at a time.
 use Rattle.std.proofs.Common.{◌≡◌, ℕ, zero, suc, ◌+◌, ◌≤◌, ◌<◌, List, ◌++◌, length, Option, Some, None, Bool, true, false, refl, sym, ◌∙◌, arith}
 use Rattle.std.specs.Prelude.{if◌then◌else◌, nat_lt, nat_le, IsTrue}
-use Rattle.std.specs.List.{position_from}
 use Rattle.std.specs.Option.{is_some}
-use Rattle.std.specs.Str.{bytes_eq}
 use Rattle.std.proofs.lemmas.Bool.Decides.{nat_tests}
-use Rattle.script_defs.specs.Record.{Head, Hub, Turn, head_of, line_waits, line_within, longest_line, payload_waits, turn, waits}
-use Rattle.script_defs.specs.Record.Head.{Message}
+use Rattle.board_text_defs.specs.Answers.{feed_number}
+use Rattle.script_defs.specs.Lines.{Head, head_of, line_within, longest_line}
+use Rattle.script_defs.specs.Record.{Hub, Turn, line_waits, payload_waits, turn, waits}
+use Rattle.script_defs.specs.Lines.Head.{Message}
 use Rattle.script_defs.specs.Output.{is_open_within, is_open}
 use Rattle.script_defs.proofs.Lines.{line_more}
 use Rattle.script_defs.proofs.Turns.{turn_rest}
@@ -75,7 +75,7 @@ waits_by_line hub bytes more line rest head there is =
 
 -- a message for a feed that is declared waits until its payload and the byte behind it are there
 pub payload_short : (hub : Hub) (name rest : List ℕ) (feed n : ℕ)
-    → position_from (bytes_eq name) 0 hub.names ≡ Some feed → length rest ≤ n
+    → feed_number hub.plans name ≡ Some feed → length rest ≤ n
     → payload_waits hub (Message name n) rest ≡ true
 payload_short hub name rest feed n found few =
     let e : nat_le (length rest) n ≡ true = grind (arith, nat_tests, few) in rw (found, e) refl

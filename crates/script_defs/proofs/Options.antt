@@ -1,6 +1,6 @@
 -- Steps that may give nothing.
 use Rattle.std.proofs.Common.{◌≡◌, Option, Some, None, Bool, true, false, refl}
-use Rattle.script_defs.specs.Record.{◌>>=◌}
+use Rattle.script_defs.specs.Optional.{◌>>=◌}
 use Rattle.answer_defs.specs.Choices.{only_if}
 
 -- a step that gave something, of what the step before it gave

@@ -1,10 +1,11 @@
 -- Whole records in front of some bytes.
 use Rattle.std.proofs.Common.{◌≡◌, ℕ, ◌≤◌, ◌<◌, List, ◌++◌, length, Some, None, Bool, true, false, refl, ap, ◌∙◌, subst, arith}
-use Rattle.std.specs.List.{position_from}
-use Rattle.std.specs.Str.{bytes_eq}
-use Rattle.script_defs.specs.Record.{◌>>=◌, longest_line, line_within, head_of, payload_at, Head, Hub, Turn, turn, act, may_declare, offered_turn}
+use Rattle.board_text_defs.specs.Answers.{feed_number}
+use Rattle.script_defs.specs.Lines.{Head, head_of, line_within, longest_line}
+use Rattle.script_defs.specs.Optional.{◌>>=◌}
+use Rattle.script_defs.specs.Record.{payload_at, Hub, Turn, turn, act, may_declare, offered_turn}
 use Rattle.answer_defs.specs.Choices.{only_if}
-use Rattle.script_defs.specs.Record.Head.{Feed, Message, Combined, End}
+use Rattle.script_defs.specs.Lines.Head.{Feed, Message, Ask, End}
 use Rattle.script_defs.proofs.Options.{bind_some, bind_at, bind_none}
 use Rattle.script_defs.proofs.Lines.{line_more, line_rest, no_line_more}
 use Rattle.script_defs.proofs.Payloads.{payload_more, payload_rest}
@@ -20,11 +21,11 @@ only_more false short long t more e h = cc
 act_more : (hub : Hub) (head : Head) (rest more : List ℕ) (t : Turn) → act hub head rest ≡ Some t → act hub head (rest ++ more) ≡ Some (followed t more)
 act_more hub (Feed name) rest more t h = only_more (may_declare hub name) _ _ t more refl h
 act_more hub (Message feed n) rest more t h =
-    let (k, named, h2) = bind_some (position_from (bytes_eq feed) 0 hub.names) _ t h in
+    let (k, named, h2) = bind_some (feed_number hub.plans feed) _ t h in
     let (found, there, h3) = bind_some (payload_at n rest) _ t h2 in
     let same : offered_turn hub k found ≡ t = cc in
     rw (named, payload_more n rest more found there) (ap (λ v. Some (followed v more)) same)
-act_more hub (Combined schedule) rest more t h = only_more true _ _ t more refl h
+act_more hub (Ask question) rest more t h = only_more true _ _ t more refl h
 act_more hub End rest more t h = only_more true _ _ t more refl h
 
 -- what follows from the line in front: its record acts on what stands behind it
@@ -48,11 +49,11 @@ only_rest false short t rest e h = cc
 act_rest : (hub : Hub) (head : Head) (rest : List ℕ) (t : Turn) → act hub head rest ≡ Some t → length t.rest ≤ length rest
 act_rest hub (Feed name) rest t h = only_rest (may_declare hub name) _ t rest refl h
 act_rest hub (Message feed n) rest t h =
-    let (k, named, h2) = bind_some (position_from (bytes_eq feed) 0 hub.names) _ t h in
+    let (k, named, h2) = bind_some (feed_number hub.plans feed) _ t h in
     let (found, there, h3) = bind_some (payload_at n rest) _ t h2 in
     let same : offered_turn hub k found ≡ t = cc in
     subst (λ v. length v.rest ≤ length rest) same (payload_rest n rest found there)
-act_rest hub (Combined schedule) rest t h = only_rest true _ t rest refl h
+act_rest hub (Ask question) rest t h = only_rest true _ t rest refl h
 act_rest hub End rest t h = only_rest true _ t rest refl h
 
 -- a record takes a byte at least

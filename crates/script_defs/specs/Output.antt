@@ -2,7 +2,7 @@
 use Rattle.std.specs.Prelude.{ℕ, zero, suc, ◌+◌, ◌-◌, List, [], ◌∷◌, ◌++◌, length, take, Some, None, Bool, true, false, codes, if◌then◌else◌}
 use Rattle.std.specs.Str.{bytes_eq}
 use Rattle.std.specs.Fmt.{decimal}
-use Rattle.script_defs.specs.Record.{Hub, start, turn, waits}
+use Rattle.script_defs.specs.Record.{Hub, turn, waits}
 use Rattle.text_defs.specs.Cleaned.{line_feed}
 
 -- the most bytes of a script
@@ -70,6 +70,6 @@ abbrev pub output_of : Run → Output
 output_of run = if run.ended then record { written = run.out; status = 0 }
     else record { written = run.out ++ refused_line run.taken; status = 7 }
 
--- what the replay of a script prints, and its status
-unfoldable pub replayed : List ℕ → Output
-replayed script = output_of (run start (take longest_script script))
+-- what the replay of a script on a hub prints, and its status
+unfoldable pub replayed : Hub → List ℕ → Output
+replayed hub script = output_of (run hub (take longest_script script))

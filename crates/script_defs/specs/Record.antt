@@ -1,88 +1,54 @@
 -- The records of a replay script: their lines, what each prints, and what it leaves behind.
 use Rattle.std.specs.Prelude.{ℕ, zero, suc, ◌+◌, List, [], ◌∷◌, ◌++◌, length, take, drop, Option, Some, None, Result, Ok, Err, Bool, true, false, not, nat_lt, nat_le, codes, slice_get, ◌==◌, ◌&&◌, if◌then◌else◌}
-use Rattle.std.specs.List.{list_any, list_all, position_from}
-use Rattle.std.specs.Str.{is_utf8, bytes_eq}
+use Rattle.std.specs.List.{list_any}
+use Rattle.std.specs.Str.{bytes_eq}
 use Rattle.std.specs.Fmt.{decimal}
 use Rattle.std.specs.Option.{is_some}
 use Rattle.answer_defs.specs.Choices.{only_if}
 use Rattle.text_defs.specs.Cleaned.{line_feed}
 use Rattle.text_defs.specs.Names.{is_name}
-use Rattle.text_defs.specs.Numbers.{number}
 use Rattle.feed_defs.specs.declared.history.Entry.{Entry}
 use Rattle.feed_defs.specs.History.{Refusal, offer_outcome}
-use Rattle.feed_defs.specs.Combined.{combined}
+use Rattle.sched_types.specs.declared.plans.NamedFeed.{NamedFeed}
+use Rattle.sched_types.specs.Schedules.{Schedules}
+use Rattle.sched_types.specs.Timetable.{no_timetable}
+use Rattle.board_defs.specs.Fold.{FeedFold, fold_of}
+use Rattle.board_text_defs.specs.Answers.{Question, answer_to, feed_number}
+use Rattle.board_text_defs.specs.Answers.Question.{FeedOf, BoardOf}
 use Rattle.script_defs.specs.Texts.{refusal_words}
-
-infixl 10 ◌>>=◌
-abbrev pub ◌>>=◌ : {A B : Type 0} → Option A → (A → Option B) → Option B
-(Some x) >>= f = f x
-None >>= f = None
-
--- the most bytes of a line, its LF included
-abbrev pub longest_line : ℕ
-longest_line = 4096
-
--- the greatest length of a message in a script
-abbrev pub longest_payload : ℕ
-longest_payload = 999999999
+use Rattle.script_defs.specs.Lines.{Head, head_of, line_within, longest_line}
+use Rattle.script_defs.specs.Lines.Head.{Feed, Message, Ask, End}
+use Rattle.script_defs.specs.Optional.{◌>>=◌}
 
 -- the most feeds
 abbrev pub most_feeds : ℕ
 most_feeds = 64
 
--- the bytes before the first LF, which stands within so many bytes, and those behind it
-unfoldable pub line_within : ℕ → List ℕ → Option (List ℕ × List ℕ)
-line_within zero bytes = None
-line_within (suc most) [] = None
-line_within (suc most) (b ∷ bs) = if b == 10 then Some ([], bs)
-    else (line_within most bs >>= λ found. Some (b ∷ found.0, found.1))
-
--- the words of a line, which single spaces part
-unfoldable pub words_of : List ℕ → List (List ℕ)
-words_of [] = [] ∷ []
-words_of (b ∷ bs) = if b == 32 then [] ∷ words_of bs else with_first b (words_of bs)
-  where
-    with_first : ℕ → List (List ℕ) → List (List ℕ)
-    with_first b [] = (b ∷ []) ∷ []
-    with_first b (word ∷ words) = (b ∷ word) ∷ words
-
--- a line is text, and for now has no percent sign
-abbrev pub is_plain_line : List ℕ → Bool
-is_plain_line line = is_utf8 line && list_all (λ b. not (b == 37)) line
-
--- a length: 1 to 12 decimal digits, up to the greatest length
-abbrev pub length_in : List ℕ → Option ℕ
-length_in word = number 12 0 longest_payload word
-
--- what a record's line says
-pub data Head : Type 0 where
-  Feed : List ℕ → Head
-  Message : List ℕ → ℕ → Head
-  Combined : List ℕ → Head
-  End : Head
-
--- a letter and its words
-abbrev pub head_of_words : List (List ℕ) → Option Head
-head_of_words [] = None
-head_of_words (letter ∷ []) = only_if (bytes_eq letter (codes "E")) End
-head_of_words (letter ∷ word ∷ []) = if bytes_eq letter (codes "F") then Some (Feed word)
-    else only_if (bytes_eq letter (codes "O")) (Combined word)
-head_of_words (letter ∷ word ∷ number ∷ []) =
-    if bytes_eq letter (codes "M") then (length_in number >>= λ n. Some (Message word n)) else None
-head_of_words (letter ∷ word ∷ number ∷ another ∷ more) = None
-
-unfoldable pub head_of : List ℕ → Option Head
-head_of line = only_if (is_plain_line line) (words_of line) >>= head_of_words
-
--- the hub of a script: the names of its feeds, what it accepted, and whether a record other than F
--- has come
+-- the hub of a script: its timetables and feeds, what it accepted, and whether no feed can be declared
+-- any more
 pub record Hub : Type 0 where
-  pub names : List (List ℕ)
+  pub plans : Schedules
   pub history : List Entry
   pub begun : Bool
 
+-- without a configuration there is one schedule, `plain`, without rows
+abbrev pub plain_schedules : List NamedFeed → Schedules
+plain_schedules feeds = record {
+  plans = record { name = codes "plain"; prefix = []; plan = no_timetable } ∷ [];
+  feeds = feeds;
+}
+
+-- without a configuration a script begins with no feeds, and declares them
 abbrev pub start : Hub
-start = record { names = []; history = []; begun = false }
+start = record { plans = plain_schedules []; history = []; begun = false }
+
+-- with one it has that one's timetables and feeds, and declares none
+abbrev pub configured : Schedules → Hub
+configured plans = record { plans = plans; history = []; begun = true }
+
+-- what each feed of the hub says
+abbrev pub folds_in : Hub → List FeedFold
+folds_in hub = fold_of (length hub.plans.feeds) hub.history
 
 -- a whole record in front: what it prints, the hub behind it, the bytes behind it, and whether it
 -- ends the script
@@ -97,22 +63,43 @@ abbrev pub reply_line : Result ℕ Refusal → List ℕ
 reply_line (Ok count) = codes "accepted " ++ decimal count ++ line_feed
 reply_line (Err refusal) = refusal_words refusal ++ line_feed
 
--- the combined feed of the schedule `plain`, the only one without a configuration
-abbrev pub feed_reply : Hub → List ℕ → List ℕ
-feed_reply hub schedule = if bytes_eq schedule (codes "plain")
-    then (let bytes = combined hub.names hub.history in codes "feed " ++ decimal (length bytes)
-    ++ line_feed ++ bytes ++ line_feed) else codes "feed none" ++ line_feed
+-- the word with which the answer to a question begins
+abbrev pub question_word : Question → List ℕ
+question_word (FeedOf schedule) = codes "feed"
+question_word (BoardOf asked) = codes "board"
+
+-- what a question is answered: how many bytes follow, and these with an LF behind them; or that what
+-- it asks for isn't there
+abbrev pub answer_reply : List ℕ → Option (List ℕ) → List ℕ
+answer_reply word None = word ++ codes " none" ++ line_feed
+answer_reply word (Some bytes) =
+    word ++ codes " " ++ decimal (length bytes) ++ line_feed ++ bytes ++ line_feed
+
+abbrev pub asked_turn : Hub → Question → List ℕ → Turn
+asked_turn hub question rest = record {
+  said = answer_reply (question_word question) (answer_to hub.plans (folds_in hub) question);
+  hub = record hub { begun = true };
+  rest = rest;
+  ended = false;
+}
 
 -- a new feed is declared before all other records
 abbrev pub may_declare : Hub → List ℕ → Bool
-may_declare hub name = not hub.begun && is_name name && not (list_any (bytes_eq name) hub.names)
-    && nat_lt (length hub.names) most_feeds
+may_declare hub name =
+    not hub.begun && is_name name
+    && not (list_any (λ feed. bytes_eq name feed.name) hub.plans.feeds)
+    && nat_lt (length hub.plans.feeds) most_feeds
+
+-- one more feed, of the first schedule
+abbrev pub with_feed : Schedules → List ℕ → Schedules
+with_feed plans name =
+    record plans { feeds = plans.feeds ++ record { name = name; plan = 0 } ∷ [] }
 
 abbrev pub declaration_turn : Hub → List ℕ → List ℕ → Option Turn
 declaration_turn hub name rest =
     only_if (may_declare hub name) (record {
       said = [];
-      hub = record hub { names = hub.names ++ name ∷ [] };
+      hub = record hub { plans = with_feed hub.plans name };
       rest = rest;
       ended = false;
     })
@@ -137,15 +124,9 @@ offered_turn hub feed (bytes, rest) = let after =
 -- the record of a line, with the bytes behind the line
 abbrev pub act : Hub → Head → List ℕ → Option Turn
 act hub (Feed name) rest = declaration_turn hub name rest
-act hub (Message feed n) rest = position_from (bytes_eq feed) 0 hub.names >>= λ k.
+act hub (Message feed n) rest = feed_number hub.plans feed >>= λ k.
     payload_at n rest >>= λ found. Some (offered_turn hub k found)
-act hub (Combined schedule) rest =
-    Some (record {
-      said = feed_reply hub schedule;
-      hub = record hub { begun = true };
-      rest = rest;
-      ended = false;
-    })
+act hub (Ask question) rest = Some (asked_turn hub question rest)
 act hub End rest = Some (record { said = []; hub = hub; rest = rest; ended = true })
 
 -- the whole record in front, if there is one
@@ -157,9 +138,9 @@ turn hub bytes = line_within longest_line bytes >>= λ line. head_of line.0 >>= 
 -- that is declared
 abbrev pub payload_waits : Hub → Head → List ℕ → Bool
 payload_waits hub (Message feed n) rest =
-    is_some (position_from (bytes_eq feed) 0 hub.names) && nat_le (length rest) n
+    is_some (feed_number hub.plans feed) && nat_le (length rest) n
 payload_waits hub (Feed name) rest = false
-payload_waits hub (Combined schedule) rest = false
+payload_waits hub (Ask question) rest = false
 payload_waits hub End rest = false
 
 -- what the line in front of bytes says is still to be whole

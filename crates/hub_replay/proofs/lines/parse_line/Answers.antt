@@ -1,10 +1,15 @@
-use Rattle.std.proofs.Common.{sym, ◌∙◌, ap}
-use Rattle.script_defs.specs.Record.{head_of_words, words_of}
-use Rattle.hub_replay.proofs.Texts.{head_plain, head_not_plain}
+use Rattle.std.proofs.Common.{sym, ◌∙◌, ap, subst, List, ℕ, Option}
+use Rattle.script_defs.specs.Lines.{Head, head_of_words}
+use Rattle.hub_replay.specs.Lines.{SaysHead}
+use Rattle.hub_replay.proofs.Texts.{bytes_of, head_passed, head_lacks, head_is}
 use Rattle.hub_replay.proofs.lines.parse_line.Goals as goal
 
-pub returns-in-Some : goal.returns-in-Some
-returns-in-Some c = c.line_in.ensures ∙ ap (λ text. head_of_words (words_of text)) c.in-Some.ensures.0 ∙ sym (head_plain c.args.line.now c.in-Some.ensures.1)
+pub returns-in_err-words : goal.returns-in_err-words
+returns-in_err-words c =
+    head_passed _ _ _ c.from_residual-in_err-words.ensures.1
+    (head_lacks c.args.line.now (bytes_of c.deref.result.now) c.in_err-words.field-0.0 (ap bytes_of c.deref.ensures.value ∙ c.in_ok-raw.ensures) c.in_err-words.ensures)
 
-pub returns-in-None : goal.returns-in-None
-returns-in-None c = sym (head_not_plain c.args.line.now c.in-None.ensures)
+pub returns : goal.returns
+returns c =
+    let is = head_is c.args.line.now (bytes_of c.deref.result.now) c.in_ok-words.words.items (ap bytes_of c.deref.ensures.value ∙ c.in_ok-raw.ensures) c.in_ok-words.ensures in
+    rw (is, ← c.deref-2.ensures.value) c.line_in.ensures

@@ -1,0 +1,58 @@
+-- Whole scripts on the hub of a configuration, with the small city.
+use Rattle.std.specs.Prelude.{◌≡◌, ℕ, List, [], ◌∷◌, ◌++◌, length, refl, codes}
+use Rattle.std.specs.Fmt.{decimal, digits}
+use Rattle.std.specs.Str.{is_utf8, chars}
+use lib.Utf8.{encode}
+use Rattle.json.specs.Print.{escape_byte, print_from}
+use Rattle.percent_encoding.specs.Percent.{percent_decode}
+use Rattle.text_defs.specs.Dates.{is_day, date_plus, next_day, date_in}
+use Rattle.text_defs.specs.Names.{is_name}
+use Rattle.text_defs.specs.Numbers.{number}
+use Rattle.wire_defs.specs.Writing.{groups, varint, payload_bytes, field_bytes}
+use Rattle.feed_defs.specs.History.{messages_of, since_full, changes_by_id, entities_of}
+use Rattle.feed_defs.specs.Rows.{fields_of_all, value, message_bytes, merged_message, values, numbered_values}
+use Rattle.feed_defs.specs.Table.{read, write}
+use Rattle.sched_types.specs.City.{city}
+use Rattle.sched_types.specs.Schedules.{Schedules}
+use Rattle.match_defs.specs.Matching.{match_of, by_near}
+use Rattle.delay_defs.specs.Delays.{states}
+use Rattle.order.specs.Order.{inserted, ordered}
+use Rattle.board_defs.specs.Choice.{chosen, updates_from}
+use Rattle.board_defs.specs.Feed.{feed_bytes}
+use Rattle.board_defs.specs.Fold.{fold_of}
+use Rattle.board_defs.specs.Rows.{all_runs, run_rows, board_at, board}
+use Rattle.board_text_defs.specs.Lines.{between_tabs}
+use Rattle.board_text_defs.specs.BoardText.{board_text}
+use Rattle.board_text_defs.specs.BoardJson.{board_json}
+use Rattle.board_text_defs.specs.Answers.{board_answer, feed_answer, schedule_number, feed_number}
+use Rattle.script_defs.specs.Lines.{line_within, texts_of, head_of}
+use Rattle.script_defs.specs.Record.{payload_at, turn, configured, waits}
+use Rattle.script_defs.specs.Output.{run_within, run, replayed}
+use Rattle.script_defs.specs.Examples.{header, line, done, feed}
+
+-- the city with the feeds a and b
+abbrev schedules : Schedules
+schedules = record {
+  plans = record { name = codes "city"; prefix = []; plan = city } ∷ [];
+  feeds = record { name = codes "a"; plan = 0 } ∷ record { name = codes "b"; plan = 0 } ∷ [];
+}
+
+-- a board of one row as JSON
+abbrev market : List ℕ
+market =
+    codes "{\"name\":\"Market\",\"rows\":[{\"date\":\"20250330\",\"delay\":null,\"expected\":1743314400,\"headsign\":\"Hill\",\"platform\":\"S1\",\"route\":\"7\",\"scheduled\":1743314400,\"state\":\"scheduled\",\"trip\":\"T1\"}],\"stop\":\"ST\"}"
+
+-- a board, one of a stop that isn't there, the combined feed of two feeds that said nothing, and the end
+questions_are_answered :
+    replayed (configured schedules)
+    (line (codes "B city ST 1743314000 3600 1 json") ++ (line (codes "B city NO 1743314000 3600 1 text")
+    ++ (line (codes "O city") ++ line (codes "E"))))
+    ≡ done (line (codes "board " ++ decimal (length market)) ++ (line market
+    ++ (line (codes "board none") ++ feed (header 0 0))))
+unfolding fold_of messages_of since_full changes_by_id entities_of updates_from chosen match_of by_near date_in is_day date_plus next_day states all_runs run_rows board_at board inserted ordered digits print_from escape_byte board_json board_text between_tabs schedule_number feed_number board_answer feed_answer feed_bytes fields_of_all value message_bytes merged_message values numbered_values read write groups varint payload_bytes field_bytes is_utf8 chars encode percent_decode texts_of head_of line_within payload_at turn run_within run replayed is_name number waits
+questions_are_answered = refl
+
+-- a line whose one word is E with its byte escaped ends a script
+escapes_are_undone : replayed (configured schedules) (line (codes "%45")) ≡ done []
+unfolding is_utf8 chars encode percent_decode texts_of head_of line_within payload_at turn run_within run replayed
+escapes_are_undone = refl
