@@ -1,13 +1,14 @@
 -- Commands on small folders of files, computed by the definitions.
-use Rattle.std.specs.Prelude.{◌≡◌, refl, [], ◌∷◌, ◌++◌, Some, None, Ok, Err, codes}
+use Rattle.std.specs.Prelude.{◌≡◌, ℕ, List, true, refl, [], ◌∷◌, ◌++◌, Some, None, Ok, Err, codes}
 use Rattle.std.specs.Fmt.{digits}
 use Rattle.answer_defs.specs.Steps.{◌>>=◌}
 use Rattle.load_defs.specs.CityFiles.{city_folder, stops_txt, trips_txt, stop_times_txt, files_with, behind_agency}
 use Rattle.load_defs.proofs.OnFiles.{loading_on_files}
 use Rattle.conf_defs.specs.declared.conf.ScheduleConf.{ScheduleConf}
 use Rattle.text_defs.specs.Cleaned.{line_feed}
+use Rattle.text_defs.specs.Numbers.{number}
 use Rattle.command_defs.specs.Words.{command_of}
-use Rattle.command_defs.specs.Words.Command.{Replay, Check}
+use Rattle.command_defs.specs.Words.Command.{Replay, ReplayWith, Check, Board}
 use Rattle.command_defs.specs.Checks.{timetables, counts_lines, conf_in}
 use Rattle.command_defs.specs.Commands.{offline, usage_line}
 
@@ -15,6 +16,30 @@ use Rattle.command_defs.specs.Commands.{offline, usage_line}
 pub replay_alone : command_of (codes "replay" ∷ []) ≡ Some Replay
 unfolding command_of
 replay_alone = refl
+
+pub replay_with : command_of (codes "replay" ∷ codes "hub.toml" ∷ []) ≡ Some (ReplayWith (codes "hub.toml"))
+unfolding command_of
+replay_with = refl
+
+-- leading zeros are fine up to 20 digits; a word more, and a limit of 0, are no board
+abbrev board_words : List ℕ → List (List ℕ)
+board_words limit =
+    codes "board" ∷ codes "hub.toml" ∷ codes "city" ∷ codes "ST" ∷ codes "00000000001743314000"
+    ∷ codes "3600" ∷ limit ∷ codes "json" ∷ []
+
+pub board_asked : (command_of (board_words (codes "50"))
+    ≡ Some (Board (codes "hub.toml") (record {
+      schedule = codes "city";
+      stop = codes "ST";
+      at = 1743314000;
+      span = 3600;
+      limit = 50;
+      json = true;
+    })))
+    × (command_of (board_words (codes "0")) ≡ None)
+    × (command_of (board_words (codes "50") ++ codes "x" ∷ []) ≡ None)
+unfolding command_of number
+board_asked = (refl, refl, refl)
 
 pub check_one : command_of (codes "check" ∷ codes "hub.toml" ∷ []) ≡ Some (Check (codes "hub.toml"))
 unfolding command_of

@@ -1,4 +1,5 @@
 pub mod Words
 pub mod Faults
 pub mod Checks
+pub mod Hubs
 pub mod Commands

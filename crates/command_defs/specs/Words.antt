@@ -1,25 +1,53 @@
 -- Which lists of words are commands.
-use Rattle.std.specs.Prelude.{ℕ, List, [], ◌∷◌, Option, None, Bool, false, ◌==◌, if◌then◌else◌, codes}
+use Rattle.std.specs.Prelude.{ℕ, List, [], ◌∷◌, Option, Some, None, Bool, false, ◌==◌, if◌then◌else◌, codes}
 use Rattle.std.specs.List.{list_any}
 use Rattle.std.specs.Str.{bytes_eq}
-use Rattle.answer_defs.specs.Choices.{only_if}
+use Rattle.board_text_defs.specs.Answers.{BoardAsked}
+use Rattle.script_defs.specs.Lines.{board_in_words}
+use Rattle.script_defs.specs.Optional.{◌>>=◌}
 
--- what `hub` is asked to do; `check` names the path of a configuration
+-- what `hub` is asked to do: the replay of a script without a configuration, or with the one at a path;
+-- a check of the configuration at a path; a board of the timetables alone
 pub data Command : Type 0 where
   Replay : Command
+  ReplayWith : List ℕ → Command
   Check : List ℕ → Command
+  Board : List ℕ → BoardAsked → Command
 
 -- a word that begins with a hyphen; there are no options, so no command has one
 abbrev pub is_option : List ℕ → Bool
 is_option [] = false
 is_option (b ∷ bs) = b == 45
 
--- the command of words that are no options: its name, and a word for each that it wants
+-- the most digits of a number among the words
+abbrev pub word_digits : ℕ
+word_digits = 20
+
+abbrev pub replay_command : List (List ℕ) → Option Command
+replay_command [] = Some Replay
+replay_command (config ∷ []) = Some (ReplayWith config)
+replay_command _ = None
+
+abbrev pub check_command : List (List ℕ) → Option Command
+check_command (config ∷ []) = Some (Check config)
+check_command _ = None
+
+-- a configuration, and then the words of a board
+abbrev pub board_command : List (List ℕ) → Option Command
+board_command [] = None
+board_command (config ∷ words) =
+    board_in_words word_digits words >>= λ asked. Some (Board config asked)
+
+-- the command of words that are no options, by the name in front
+abbrev pub command_by_name : List ℕ → List (List ℕ) → Option Command
+command_by_name name words =
+    if bytes_eq name (codes "replay") then replay_command words
+    else (if bytes_eq name (codes "check") then check_command words
+    else (if bytes_eq name (codes "board") then board_command words else None))
+
 abbrev pub command_with : List (List ℕ) → Option Command
 command_with [] = None
-command_with (name ∷ []) = only_if (bytes_eq name (codes "replay")) Replay
-command_with (name ∷ config ∷ []) = only_if (bytes_eq name (codes "check")) (Check config)
-command_with (name ∷ config ∷ another ∷ more) = None
+command_with (name ∷ words) = command_by_name name words
 
 -- the command of the words, if they are one
 unfoldable pub command_of : List (List ℕ) → Option Command

@@ -2,18 +2,14 @@
 ghost use Rattle.std.specs.Prelude.{◌≡◌, ◌≤◌, IfOk, IfSome, true};
 ghost use Rattle.std.specs.List.{list_all};
 ghost use Rattle.std.specs.String.{string_bytes};
-ghost use Rattle.load_defs.specs.Loading.{timetable};
 ghost use Rattle.conf_defs.specs.Right.{has_window};
-ghost use Rattle.command_defs.specs.Checks.{counts_line, timetable_or_line, plan_conf};
-ghost use Rattle.hub_check.specs.Told.{Adds, HasCheckCause, network_text, traffic_text, Names, Tells, line_for, lines_for};
+ghost use Rattle.command_defs.specs.Checks.{counts_line};
+ghost use Rattle.hub_load.specs.Told.{HasCause, IsAsTold};
+ghost use Rattle.hub_check.specs.Told.{Adds, line_for, lines_for, network_text, traffic_text};
 
-use crate::fault::CheckFault;
-use crate::words::load_line;
 use conf_defs::ScheduleConf;
+use hub_load::{HubFault, load_plan};
 use hub_outside::Files;
-use load_defs::{LoadFault, PlanConf};
-use rt_types::Copied;
-use sched_load::load;
 use sched_types::{Counts, Plan};
 use std::alloc::{AllocError, Global};
 
@@ -23,11 +19,11 @@ pub(crate) fn lines_of<F: Files>(
     alloc: Global,
     files: &mut F,
     schedules: &[ScheduleConf],
-) -> Result<Vec<u8>, CheckFault>
+) -> Result<Vec<u8>, HubFault>
     requires { list_all has_window schedules.now ≡ true }
     ensures told { IfSome (F.contents files.old)
-        (λ fs. Tells (λ lines. lines.items) (lines_for fs schedules.now) result) }
-    ensures cause { HasCheckCause result (F.faults files.old) (F.faults files.new) }
+        (λ fs. IsAsTold (λ lines. lines.items) (lines_for fs schedules.now) result) }
+    ensures cause { HasCause result (F.faults files.old) (F.faults files.new) }
     ensures same { F.contents files.new ≡ F.contents files.old }
 {
     let mut lines = Vec::new(alloc);
@@ -37,17 +33,17 @@ pub(crate) fn lines_of<F: Files>(
     Ok(lines)
 }
 
-// Puts the line of one schedule behind the others.
+/// Puts the line of one schedule behind the others.
 fn add_line<F: Files>(
     alloc: Global,
     files: &mut F,
     schedule: &ScheduleConf,
     lines: &mut Vec<u8>,
-) -> Result<(), CheckFault>
+) -> Result<(), HubFault>
     requires { has_window schedule.now ≡ true }
     ensures told { IfSome (F.contents files.old)
         (λ fs. Adds (line_for fs schedule.now) lines.old.items lines.new.items result) }
-    ensures cause { HasCheckCause result (F.faults files.old) (F.faults files.new) }
+    ensures cause { HasCause result (F.faults files.old) (F.faults files.new) }
     ensures same { F.contents files.new ≡ F.contents files.old }
 {
     let line = line_of(alloc, files, schedule)?;
@@ -55,68 +51,23 @@ fn add_line<F: Files>(
     Ok(())
 }
 
-// The line of one schedule.
+/// The line of one schedule.
 fn line_of<F: Files>(
     alloc: Global,
     files: &mut F,
     schedule: &ScheduleConf,
-) -> Result<Vec<u8>, CheckFault>
+) -> Result<Vec<u8>, HubFault>
     requires { has_window schedule.now ≡ true }
     ensures told { IfSome (F.contents files.old)
-        (λ fs. Tells (λ line. line.items) (line_for fs schedule.now) result) }
-    ensures cause { HasCheckCause result (F.faults files.old) (F.faults files.new) }
+        (λ fs. IsAsTold (λ line. line.items) (line_for fs schedule.now) result) }
+    ensures cause { HasCause result (F.faults files.old) (F.faults files.new) }
     ensures same { F.contents files.new ≡ F.contents files.old }
 {
-    let plan = plan_of(alloc, files, schedule)?;
+    let plan = load_plan(alloc, files, schedule)?;
     Ok(counts_line(alloc, schedule.name.as_str(), &plan)?)
 }
 
-// The timetable of a schedule.
-fn plan_of<F: Files>(
-    alloc: Global,
-    files: &mut F,
-    schedule: &ScheduleConf,
-) -> Result<Plan, CheckFault>
-    requires { has_window schedule.now ≡ true }
-    ensures told { IfSome (F.contents files.old) (λ fs.
-        Tells (λ plan. plan) (timetable_or_line schedule.now.name
-        (timetable fs schedule.now.folder (plan_conf schedule.now))) result) }
-    ensures cause { HasCheckCause result (F.faults files.old) (F.faults files.new) }
-    ensures same { F.contents files.new ≡ F.contents files.old }
-{
-    let conf = conf_of(schedule)?;
-    match load(alloc, files, schedule.folder.as_str(), &conf) {
-        Ok(plan) => Ok(plan),
-        Err(fault) => Err(load_fault(alloc, schedule.name.as_str(), fault)),
-    }
-}
-
-// How a schedule is loaded.
-fn conf_of(schedule: &ScheduleConf) -> Result<PlanConf, AllocError>
-    ensures { IfOk result (λ conf. conf ≡ plan_conf schedule.now) }
-{
-    Ok(PlanConf {
-        zone: schedule.zone.copy()?,
-        first: schedule.first,
-        days: schedule.days,
-    })
-}
-
-// What a fault of a timetable comes to.
-fn load_fault(alloc: Global, name: &str, fault: LoadFault) -> CheckFault
-    ensures { Names name.now fault result }
-{
-    match fault {
-        LoadFault::FileFault => CheckFault::FileFault,
-        LoadFault::NoMemory => CheckFault::NoMemory,
-        _ => match load_line(alloc, name, fault) {
-            Ok(line) => CheckFault::Refused(line),
-            Err(_) => CheckFault::NoMemory,
-        },
-    }
-}
-
-// The line of a timetable: its schedule's name, and how many rows and days it has.
+/// The line of a timetable: its schedule's name, and how many rows and days it has.
 fn counts_line(alloc: Global, name: &str, plan: &Plan) -> Result<Vec<u8>, AllocError>
     ensures { IfOk result (λ line. line.items ≡ counts_line name.now plan.now) }
 {

@@ -1,5 +1,5 @@
 -- Which lists of words clap takes, and which command is read of them.
-use Rattle.std.proofs.Common.{◌≡◌, ◌∙◌, ℕ, codes, ◌&&◌, ◌||◌, Bool, true, false, cond, refl, sym, ap, List, [], ◌∷◌, ◌++◌, map, Option, Some, None, is_some, true≢false, subst}
+use Rattle.std.proofs.Common.{◌≡◌, ◌∙◌, ℕ, codes, ◌||◌, Bool, true, false, cond, refl, sym, ap, List, [], ◌∷◌, map, Option, Some, None, is_some, true≢false, subst}
 use Rattle.std.proofs.lemmas.Option.{none-some, same_Some}
 use Rattle.std.specs.Prelude.{find, fold, option_map}
 use Rattle.std.specs.List.{list_any}
@@ -9,16 +9,14 @@ use Rattle.std.proofs.lemmas.Slice.Eq.{bytes_eq-Decides}
 use Rattle.clap.specs.Words.{fault_of, is_simple_and_free, subcommand_of}
 use Rattle.clap.specs.Kinds.{IsAmong, Kinds, or_else}
 use Rattle.clap.specs.declared.error.kind.ErrorKind.{ErrorKind}
-use Rattle.clap.specs.Walk.{Held, Names, Row, Text, Walk, answers_to, finished, idle, nothing_held, rows_after, settled, subcommand_met, walk_from, walked, word_met, subcommand_or_other, after_step, subcommand, Step}
+use Rattle.clap.specs.Walk.{Held, Names, Row, Text, Walk, answers_to, finished, idle, nothing_held, rows_after, settled, subcommand_met, walk_from, walked, subcommand_or_other, after_step, Step}
 use Rattle.clap.specs.Simple.{App, Shape, built, entered, label_of, names_of, new_shape, rows_at}
 use Rattle.clap.specs.Faults.{built_fault, check_fault, defaults_fault, entered_fault, level_fault, other_fault, settle_fault, step_fault, stray_fault, turn_fault, walk_fault}
 use Rattle.clap.specs.declared.error.kind.ErrorKind.TheVariants as kind
 use Rattle.clap.proofs.FaultLemmas.{stopped_fault}
 use Rattle.clap.proofs.WalkLemmas.{walk_stopped}
-use Rattle.answer_defs.specs.Choices.{only_if}
-use Rattle.command_defs.specs.Words.{Command, command_of, command_with, is_option}
-use Rattle.command_defs.specs.Words.Command.{Replay, Check}
-use Rattle.hub_words.specs.Forms.{Form, app_for, command_in, read_rows, required, fits, form_of, forms, given, takes_words}
+use Rattle.command_defs.specs.Words.{Command, board_command, check_command, command_by_name, command_of, command_with, is_option, replay_command}
+use Rattle.hub_words.specs.Forms.{Form, app_for, board_form, check_form, command_in, read_rows, replay_form, fits, form_of, forms, given, number_under, takes_words, word_under}
 use Rattle.hub_words.proofs.Leaves.{Distinct, Looks, and_false, at, leaf, leaf_fitted, or_false, passes, placed, turn_is}
 
 -- ---- commands by their names
@@ -215,7 +213,13 @@ built_is : built (app_for forms) ≡ built_for forms
 built_is = refl
 
 all_good : AllGood forms
-all_good = ((refl, tt), (((refl, refl, refl), (refl, tt)), tt))
+all_good = (((refl, refl, refl), (refl, tt)), (((refl, refl, refl), (refl, tt)), ((board_looks, board_distinct), tt)))
+  where
+    board_looks : Looks (placed 1 board_form.positionals) 1 board_form.positionals
+    board_looks = (refl, refl, (refl, refl, (refl, refl, (refl, refl, (refl, refl, (refl, refl, (refl, refl, refl)))))))
+
+    board_distinct : Distinct board_form.positionals
+    board_distinct = (refl, (refl, (refl, (refl, (refl, (refl, (refl, tt)))))))
 
 hub_parsed : (words : List Text) → list_any is_option words ≡ false
     → (passes (fault_of (app_for forms) words) ≡ takes_words forms words) × (takes_words forms words ≡ true → subcommand_of (app_for forms) words ≡ read_rows forms words)
@@ -236,29 +240,49 @@ abbrev Knows : Bool → Option (Text × List Row) → Option Command → Type 0
 Knows true rows command = command_in rows ≡ command
 Knows false rows command = command ≡ None
 
-abbrev of_names : Bool → Bool → Option Form
-of_names replay check = cond replay (Some (record { name = codes "replay"; positionals = [] })) (cond check (Some (record { name = codes "check"; positionals = required (codes "config") ∷ [] })) None)
+-- the command by whether the first word is each name
+abbrev form_by : Bool → Bool → Bool → Option Form
+form_by replay check board = cond replay (Some replay_form) (cond check (Some check_form) (cond board (Some board_form) None))
 
-abbrev KnowsBy : Option Form → Text → List Text → Type 0
-KnowsBy o word args =
-    Knows (option_map_or (λ f. fits f.positionals args) o false) (option_map (λ f. (f.name, given [] f.positionals args)) o) (command_with (word ∷ args))
+abbrev command_by : Bool → Bool → Bool → List Text → Option Command
+command_by replay check board args = cond replay (replay_command args) (cond check (check_command args) (cond board (board_command args) None))
 
-knows : (replay check : Bool) (word : Text) (args : List Text) → bytes_eq (codes "replay") word ≡ replay → bytes_eq (codes "check") word ≡ check → KnowsBy (of_names replay check) word args
-knows true check word [] r c = sym (ap (λ b. only_if b Replay) (bytes_eq_swap (codes "replay") word true r))
-knows false true word [] r c = ap (λ b. only_if b Replay) (bytes_eq_swap (codes "replay") word false r)
-knows false false word [] r c = ap (λ b. only_if b Replay) (bytes_eq_swap (codes "replay") word false r)
-knows true check word (w ∷ []) r c =
-    let named : codes "replay" ≡ word = (bytes_eq-Decides (codes "replay") word).0 r in
-    ap (λ name. only_if (bytes_eq name (codes "check")) (Check w)) (sym named)
-knows false true word (w ∷ []) r c = sym (ap (λ b. only_if b (Check w)) (bytes_eq_swap (codes "check") word true c))
-knows false false word (w ∷ []) r c = ap (λ b. only_if b (Check w)) (bytes_eq_swap (codes "check") word false c)
-knows true check word (w ∷ x ∷ more) r c = refl
-knows false true word (w ∷ x ∷ more) r c = refl
-knows false false word (w ∷ x ∷ more) r c = refl
+abbrev KnowsBy : Option Form → List Text → Option Command → Type 0
+KnowsBy form args command =
+    Knows (option_map_or (λ f. fits f.positionals args) form false) (option_map (λ f. (f.name, given [] f.positionals args)) form) command
+
+knows : (replay check board : Bool) (args : List Text) → KnowsBy (form_by replay check board) args (command_by replay check board args)
+unfolding word_under number_under
+knows true check board [] = refl
+knows true check board (a ∷ []) = refl
+knows true check board (a ∷ b ∷ more) = refl
+knows false true board [] = refl
+knows false true board (a ∷ []) = refl
+knows false true board (a ∷ b ∷ more) = refl
+knows false false true [] = refl
+knows false false true (a ∷ []) = refl
+knows false false true (a ∷ b ∷ []) = refl
+knows false false true (a ∷ b ∷ c ∷ []) = refl
+knows false false true (a ∷ b ∷ c ∷ d ∷ []) = refl
+knows false false true (a ∷ b ∷ c ∷ d ∷ e ∷ []) = refl
+knows false false true (a ∷ b ∷ c ∷ d ∷ e ∷ f ∷ []) = refl
+knows false false true (a ∷ b ∷ c ∷ d ∷ e ∷ f ∷ g ∷ []) = refl
+knows false false true (a ∷ b ∷ c ∷ d ∷ e ∷ f ∷ g ∷ h ∷ more) = refl
+knows false false false args = refl
+
+-- the definition asks the names the other way round
+by_names : (word : Text) (args : List Text) → command_by (bytes_eq (codes "replay") word) (bytes_eq (codes "check") word) (bytes_eq (codes "board") word) args ≡ command_by_name word args
+by_names word args =
+    let swapped : (name : Text) → bytes_eq name word ≡ bytes_eq word name = λ name. sym (bytes_eq_swap name word (bytes_eq name word) refl) in
+    ap (λ b. command_by b (bytes_eq (codes "check") word) (bytes_eq (codes "board") word) args) (swapped (codes "replay"))
+    ∙ ap (λ b. command_by (bytes_eq word (codes "replay")) b (bytes_eq (codes "board") word) args) (swapped (codes "check"))
+    ∙ ap (λ b. command_by (bytes_eq word (codes "replay")) (bytes_eq word (codes "check")) b args) (swapped (codes "board"))
 
 knows_all : (words : List Text) → Knows (takes_words forms words) (read_rows forms words) (command_with words)
 knows_all [] = refl
-knows_all (word ∷ args) = knows (bytes_eq (codes "replay") word) (bytes_eq (codes "check") word) word args refl refl
+knows_all (word ∷ args) =
+    subst (λ command. KnowsBy (form_of forms word) args command) (by_names word args)
+    (knows (bytes_eq (codes "replay") word) (bytes_eq (codes "check") word) (bytes_eq (codes "board") word) args)
 
 -- where clap finds no error the command is the one that its matches tell, and where it finds one there is no command
 pub record Exact (words : List Text) : Type 0 where

@@ -1,10 +1,10 @@
 -- What clap makes of the words behind a command's name, for any list of positionals: it takes them exactly where their
 -- number is right, and then each stands under its positional's id.
-use Rattle.std.proofs.Common.{◌≡◌, ◌∙◌, ℕ, ◌+◌, ◌==◌, ◌&&◌, ◌||◌, Bool, true, false, not, cond, if◌then◌else◌, min, refl, sym, ap, subst, List, [], ◌∷◌, ◌++◌, map, Option, Some, None, true≢false, arith}
+use Rattle.std.proofs.Common.{◌≡◌, ◌∙◌, ℕ, ◌+◌, ◌&&◌, ◌||◌, Bool, true, false, not, cond, if◌then◌else◌, min, refl, sym, ap, List, [], ◌∷◌, ◌++◌, Option, Some, None, true≢false}
 use Rattle.std.specs.Prelude.{find, fold}
 use Rattle.std.proofs.lemmas.List.{append-nil, append_assoc}
 use Rattle.std.proofs.lemmas.Slice.Eq.{bytes_eq-Decides}
-use Rattle.std.specs.List.{list_any, list_all}
+use Rattle.std.specs.List.{list_any}
 use Rattle.std.specs.Option.{option_map_or}
 use Rattle.std.specs.Str.{bytes_eq}
 use Rattle.clap.specs.Lexer.{usize_max, long_of, short_of}
@@ -13,7 +13,7 @@ use Rattle.clap.specs.Kinds.{Kinds, or_else}
 use Rattle.clap.specs.Walk.{Held, Names, Row, Rule, subcommand_met, subcommand_or_other, default_rows, reading_by, more_values, with_values, Step, Text, Walk, value, idle, arg_by_id, arg_by_index, at_row, after_step, finished, has_row, is_empty, is_pending, long_or_other, nothing_held, pushed, rows_after, settled, short_or_plain, to_positional, trailing, used, used_by_id, walked, with_default, word_met, without}
 use Rattle.clap.specs.Simple.{Shape, new_rule, new_shape}
 use Rattle.clap.specs.Takes.{is_given}
-use Rattle.clap.specs.Faults.{bundle_fault, other_fault, given_default_fault, check_fault, default_fault, defaults_fault, flag_word_fault, level_fault, positional_fault, repeat_fault, settle_fault, step_fault, stray_fault, turn_fault, use_fault, values_fault, walk_fault, word_fault}
+use Rattle.clap.specs.Faults.{bundle_fault, other_fault, given_default_fault, check_fault, default_fault, defaults_fault, flag_word_fault, level_fault, positional_fault, settle_fault, step_fault, stray_fault, turn_fault, use_fault, walk_fault, word_fault}
 use Rattle.clap.specs.declared.builder.action.ArgAction.TheVariants.{Set}
 use Rattle.clap.specs.declared.builder.value_parser.ValueParser.TheVariants as vp
 use Rattle.clap.specs.declared.error.kind.ErrorKind.TheVariants as kind

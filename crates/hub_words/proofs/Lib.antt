@@ -1,3 +1,5 @@
 pub mod Leaves
 pub mod Commands
 pub mod Told
+pub mod LongNumbers
+pub mod Rules

@@ -1,7 +1,7 @@
 -- What the code answers, by what clap tells.
-use Rattle.std.proofs.Common.{◌≡◌, ◌∙◌, Bool, true, false, cond, ap, sym, subst, ℕ, List, [], ◌∷◌, map, Option, Some, None, Ok, Err, refl, inl, inr, ◌⊎◌}
+use Rattle.std.proofs.Common.{◌≡◌, ◌∙◌, true, false, cond, ap, subst, ℕ, List, [], ◌∷◌, map, None, Err, refl, inl, inr}
 use Rattle.std.specs.List.{list_any}
-use Rattle.clap.specs.Words.{App, fault_of, is_simple_and_free, is_simple, kind_of, subcommand_of, subcommand_rows_of, HasKind, HasMatchesOf, IsAmong}
+use Rattle.clap.specs.Words.{App, fault_of, is_simple_and_free, kind_of, subcommand_rows_of, HasKind, HasMatchesOf}
 use Rattle.clap.specs.declared.error.Error.{Error}
 use Rattle.clap.specs.declared.parser.matches.ArgMatches.{ArgMatches}
 use Rattle.command_defs.specs.Words.{command_of, command_with, is_option}

@@ -1,26 +1,42 @@
 -- What reading the words answers.
-use Rattle.std.specs.Prelude.{◌≡◌, Option, Some, None, Result, Ok, Err, ⊤}
+use Rattle.std.specs.Prelude.{ℕ, List, ◌≡◌, Option, Some, None, Result, Ok, Err, ⊤}
 use Rattle.clap.specs.Words.{subcommand_rows_of}
 use Rattle.clap.specs.declared.parser.matches.ArgMatches.{ArgMatches}
 use Rattle.clap.specs.declared.error.kind.ErrorKind.{ErrorKind}
 use Rattle.clap.specs.declared.error.kind.ErrorKind.TheVariants.{OutOfMemory}
-use Rattle.command_defs.specs.Words.{Command}
-use Rattle.command_defs.specs.Words.Command.{Replay, Check}
+use Rattle.board_text_defs.specs.Answers.{BoardAsked}
+use Rattle.command_defs.specs.Words.{Command, command_of}
+use Rattle.command_defs.specs.Words.Command.{Replay, ReplayWith, Check, Board}
 use Rattle.hub_words.specs.Forms.{command_in}
+use Rattle.hub_words.specs.declared.board.BoardAsked.{BoardAsked as AskedRead}
 use Rattle.hub_words.specs.declared.read.Command.{Command as Read}
 use Rattle.hub_words.specs.declared.read.Command.TheVariants as read
 use Rattle.hub_words.specs.declared.read.WordsFault.{WordsFault}
 use Rattle.hub_words.specs.declared.read.WordsFault.TheVariants.{Usage, NoMemory}
 
+-- what contracts see of the board that is asked for, and of a command
+abbrev pub asked_seen : AskedRead → BoardAsked
+asked_seen asked = record {
+  schedule = asked.schedule.now;
+  stop = asked.stop.now;
+  at = asked.at;
+  span = asked.span;
+  limit = asked.limit;
+  json = asked.json;
+}
+
 abbrev pub seen : Read → Command
 seen read.Replay = Replay
+seen (read.ReplayWith path) = ReplayWith path.now
 seen (read.Check path) = Check path.now
+seen (read.Board config asked) = Board config.now (asked_seen asked)
 
--- an answer is the command that the words are; want of memory may come in place of it
-abbrev pub Reads : Option Command → Result Read WordsFault → Type 0
-Reads command (Ok c) = command ≡ Some (seen c)
-Reads command (Err Usage) = command ≡ None
-Reads command (Err NoMemory) = ⊤
+-- an answer is the command that the words are, or says that they are none; want of memory may come
+-- in place of it
+abbrev pub IsCommandOf : List (List ℕ) → Result Read WordsFault → Type 0
+IsCommandOf words (Ok command) = command_of words ≡ Some (seen command)
+IsCommandOf words (Err Usage) = command_of words ≡ None
+IsCommandOf words (Err NoMemory) = ⊤
 
 -- the same of what clap makes of them
 abbrev pub Parses : Option Command → Result ArgMatches WordsFault → Type 0

@@ -1,17 +1,25 @@
 -- The commands as `clap` is told of them, and which words it takes.
-use Rattle.std.specs.Prelude.{ℕ, ◌+◌, ◌||◌, min, List, [], ◌∷◌, ◌++◌, map, find, Option, Some, None, option_map, Bool, true, false, not, if◌then◌else◌, codes}
-use Rattle.std.specs.List.{list_any, list_all}
+use Rattle.std.specs.Prelude.{ℕ, List, [], ◌∷◌, ◌++◌, map, find, codes, Option}
+use Rattle.std.specs.Prelude.{Some, None, option_map, unwrap_or, Bool, true, false, not}
+use Rattle.std.specs.Prelude.{if◌then◌else◌}
+use Rattle.std.specs.List.{list_any}
 use Rattle.std.specs.Option.{option_map_or}
 use Rattle.std.specs.Str.{bytes_eq}
-use Rattle.clap.specs.Lexer.{usize_max}
 use Rattle.clap.specs.Values.{reading_of}
 use Rattle.clap.specs.Walk.{Row, Rule, first_of}
 use Rattle.clap.specs.Simple.{App, Shape, new_rule, new_shape}
 use Rattle.clap.specs.declared.builder.action.ArgAction.TheVariants.{Set}
+use Rattle.clap.specs.declared.builder.command.Command.{Command as Parser}
+use Rattle.clap.specs.declared.builder.command.Command.TheViews.{out-Command}
 use Rattle.clap.specs.declared.builder.value_parser.ValueParser.TheVariants as vp
 use Rattle.clap.specs.declared.parser.matches.ValueSource.TheVariants.{CommandLine}
-use Rattle.command_defs.specs.Words.{Command}
-use Rattle.command_defs.specs.Words.Command.{Replay, Check}
+use Rattle.board_text_defs.specs.Answers.{BoardAsked}
+use Rattle.command_defs.specs.Words.{Command, word_digits}
+use Rattle.command_defs.specs.Words.Command.{Replay, ReplayWith, Check, Board}
+use Rattle.script_defs.specs.Lines.{is_json_in}
+use Rattle.script_defs.specs.Optional.{◌>>=◌}
+use Rattle.text_defs.specs.Moments.{last_moment}
+use Rattle.text_defs.specs.Numbers.{number}
 
 -- a word that a command takes by its place
 pub record Positional : Type 0 where
@@ -26,10 +34,27 @@ pub record Form : Type 0 where
 abbrev pub required : List ℕ → Positional
 required id = record { id = id; required = true }
 
+abbrev pub optional : List ℕ → Positional
+optional id = record { id = id; required = false }
+
+-- a command that wants words under these ids, all of them
+abbrev pub wanting : List ℕ → List (List ℕ) → Form
+wanting name ids = record { name = name; positionals = map required ids }
+
+abbrev pub replay_form : Form
+replay_form = record { name = codes "replay"; positionals = optional (codes "config") ∷ [] }
+
+abbrev pub check_form : Form
+check_form = wanting (codes "check") (codes "config" ∷ [])
+
+abbrev pub board_form : Form
+board_form =
+    wanting (codes "board") (codes "config" ∷ codes "schedule" ∷ codes "stop" ∷ codes "moment"
+    ∷ codes "span" ∷ codes "limit" ∷ codes "format" ∷ [])
+
 -- the commands of `hub`
 abbrev pub forms : List Form
-forms = record { name = codes "replay"; positionals = [] }
-    ∷ record { name = codes "check"; positionals = required (codes "config") ∷ [] } ∷ []
+forms = replay_form ∷ check_form ∷ board_form ∷ []
 
 -- ---- as clap is told of them
 
@@ -38,6 +63,14 @@ rule_for p = record (new_rule p.id) { required = p.required; action = Some Set }
 
 abbrev pub shape_for : Form → Shape
 shape_for f = record (new_shape f.name) { rules = map rule_for f.positionals }
+
+-- a command alone
+abbrev pub leaf_for : Form → App
+leaf_for f = record { top = shape_for f; subs = [] }
+
+-- an argument of the parser is one of its subcommands' too
+abbrev pub has_globals : Parser → Bool
+has_globals parser = (out-Command parser).has_globals
 
 -- the program without its commands
 abbrev pub top_app : App
@@ -95,11 +128,47 @@ read_rows fs (word ∷ args) =
 
 -- ---- which command that is
 
+-- the word under an id
+unfoldable pub word_under : List ℕ → List Row → Option (List ℕ)
+word_under id rows = first_of id rows
+
+-- the number that the word under an id writes, from `low` to `high`
+unfoldable pub number_under : List ℕ → ℕ → ℕ → List Row → Option ℕ
+number_under id low high rows = word_under id rows >>= number word_digits low high
+
+abbrev pub replay_in : List Row → Command
+replay_in rows = unwrap_or (option_map ReplayWith (word_under (codes "config") rows)) Replay
+
+-- the board that the words ask for
+abbrev pub asked_in : List Row → Option BoardAsked
+asked_in rows =
+    word_under (codes "schedule") rows >>= λ schedule.
+    word_under (codes "stop") rows >>= λ stop.
+    number_under (codes "moment") 0 last_moment rows >>= λ at.
+    number_under (codes "span") 1 86400 rows >>= λ span.
+    number_under (codes "limit") 1 1000 rows >>= λ limit.
+    word_under (codes "format") rows >>= λ form.
+    is_json_in form >>= λ json.
+    Some (record {
+      schedule = schedule;
+      stop = stop;
+      at = at;
+      span = span;
+      limit = limit;
+      json = json;
+    })
+
+abbrev pub board_in : List Row → Option Command
+board_in rows =
+    word_under (codes "config") rows >>= λ config.
+    asked_in rows >>= λ asked.
+    Some (Board config asked)
+
 abbrev pub named : List ℕ → List Row → Option Command
 named name rows =
-    if bytes_eq name (codes "replay") then Some Replay
-    else (if bytes_eq name (codes "check") then option_map Check (first_of (codes "config") rows)
-    else None)
+    if bytes_eq name (codes "replay") then Some (replay_in rows)
+    else (if bytes_eq name (codes "check") then option_map Check (word_under (codes "config") rows)
+    else (if bytes_eq name (codes "board") then board_in rows else None))
 
 abbrev pub command_in : Option (List ℕ × List Row) → Option Command
 command_in None = None

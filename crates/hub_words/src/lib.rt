@@ -7,13 +7,20 @@
 //! positionals (`proofs/Leaves`, `proofs/Commands`).
 //!
 //! Words that begin with a hyphen are refused before `clap` sees them, since there are no options.
-//! The crate stands on `clap` for the parsing and on `rt_types` for the words.
+//! `clap` counts words and names them, no more: the numbers and the form of a board are read of the
+//! words that it gives, and words that are no numbers, or out of range, are no command.
+//!
+//! The crate stands on `clap` for the parsing, on `texts` for numbers and on `rt_types` for the
+//! words.
 #![tactic(auto)]
 
+mod board;
+mod given;
 mod parser;
 mod read;
 #[cfg(test)]
 mod tests;
 
+pub use board::BoardAsked;
 pub use read::{Command, WordsFault, read_words};
 pub use std::alloc::AllocError as NoMemory;

@@ -2,12 +2,14 @@
 ghost use Rattle.std.specs.Prelude.{◌≡◌, false, codes};
 ghost use Rattle.std.specs.Option.{option_map};
 ghost use Rattle.std.specs.List.{list_any};
-ghost use Rattle.clap.specs.Words.{first_of, found_of, kind_of, rows_of, subcommand_rows_of};
+ghost use Rattle.clap.specs.Words.{found_of, kind_of, rows_of, subcommand_rows_of};
 ghost use Rattle.command_defs.specs.Words.{command_of, is_option};
 ghost use Rattle.command_defs.specs.Words.Command.{Check};
-ghost use Rattle.hub_words.specs.Forms.{command_in, named};
-ghost use Rattle.hub_words.specs.Answer.{IsFaultOf, Reads, Parses, seen};
+ghost use Rattle.hub_words.specs.Forms.{board_in, command_in, named, replay_in, word_under};
+ghost use Rattle.hub_words.specs.Answer.{IsCommandOf, IsFaultOf, Parses, seen};
 
+use crate::board::{BoardAsked, asked_in};
+use crate::given::word_under;
 use crate::parser::parser;
 use clap::error::ErrorKind;
 use clap::{ArgMatches, Error};
@@ -19,8 +21,17 @@ use std::alloc::{AllocError, Global};
 pub enum Command<'a> {
     /// Does the records of a script on the input.
     Replay,
+    /// The same over the timetables of the configuration at that path.
+    ReplayWith(&'a str),
     /// Checks the configuration at that path, and its timetables.
     Check(&'a str),
+    /// Writes a board of the timetables alone.
+    Board {
+        /// The path of the configuration.
+        config: &'a str,
+        /// Which board is wanted.
+        asked: BoardAsked<'a>,
+    },
 }
 
 /// Why words are no command.
@@ -46,8 +57,13 @@ impl From<AllocError> for WordsFault {
 
 /// The command of the words, which are those behind the program's name. A word that begins with a
 /// hyphen is of no command. Any other word counts, the empty one too, where a command wants one.
+/// Numbers have 1 to 20 digits, and the form of a board is `text` or `json`.
+///
+/// # Errors
+///
+/// `Usage` exactly where the words are no command; `NoMemory` where memory ran out.
 pub fn read_words<'a>(alloc: Global, words: &'a [Text]) -> Result<Command<'a>, WordsFault>
-    ensures { Reads (command_of words.entry.now) result }
+    ensures { IsCommandOf words.entry.now result }
 {
     if has_option(words) {
         return Err(WordsFault::Usage);
@@ -59,7 +75,7 @@ pub fn read_words<'a>(alloc: Global, words: &'a [Text]) -> Result<Command<'a>, W
     }
 }
 
-// Whether a word begins with a hyphen.
+/// Whether a word begins with a hyphen.
 fn has_option(words: &[Text]) -> bool
     ensures { result ≡ list_any is_option words.now }
 {
@@ -72,7 +88,7 @@ fn is_option(word: &str) -> bool
     word.as_bytes().first() == Some(&b'-')
 }
 
-// What clap makes of words that are no options.
+/// What clap makes of words that are no options.
 fn matches_of<'a>(alloc: Global, words: &'a [Text]) -> Result<ArgMatches<'a>, WordsFault>
     requires { list_any is_option words.now ≡ false }
     ensures { Parses (command_of words.entry.now) result }
@@ -83,7 +99,7 @@ fn matches_of<'a>(alloc: Global, words: &'a [Text]) -> Result<ArgMatches<'a>, Wo
     }
 }
 
-// Why clap refuses the words.
+/// Why clap refuses the words.
 fn fault_of(error: &Error) -> WordsFault
     ensures { IsFaultOf (kind_of error.now) result }
 {
@@ -93,7 +109,7 @@ fn fault_of(error: &Error) -> WordsFault
     }
 }
 
-// The command of clap's matches.
+/// The command of clap's matches.
 fn command_in<'a>(matches: &ArgMatches<'a>) -> Option<Command<'a>>
     ensures { option_map seen result ≡ command_in (subcommand_rows_of matches.now) }
 {
@@ -103,26 +119,44 @@ fn command_in<'a>(matches: &ArgMatches<'a>) -> Option<Command<'a>>
     }
 }
 
-// The command of that name, with its words.
+/// The command of that name, with its words.
 fn named_command<'a>(name: &str, words: &ArgMatches<'a>) -> Option<Command<'a>>
     ensures { option_map seen result ≡ named name.now (rows_of (found_of words.now)) }
 {
     if name == "replay" {
-        Some(Command::Replay)
+        Some(replay_in(words))
     } else if name == "check" {
-        check_of(words)
+        check_in(words)
+    } else if name == "board" {
+        board_in(words)
     } else {
         None
     }
 }
 
-// `check` of the word that it has.
-fn check_of<'a>(words: &ArgMatches<'a>) -> Option<Command<'a>>
-    ensures { option_map seen result ≡ option_map Check
-        (first_of (codes "config") (rows_of (found_of words.now))) }
+/// `replay`, with the word that it may have.
+fn replay_in<'a>(words: &ArgMatches<'a>) -> Command<'a>
+    ensures { seen result ≡ replay_in (rows_of (found_of words.now)) }
 {
-    match words.get_str("config") {
-        Some(path) => Some(Command::Check(path)),
-        None => None,
+    match word_under(words, "config") {
+        Some(path) => Command::ReplayWith(path),
+        None => Command::Replay,
     }
+}
+
+/// `check` of the word that it has.
+fn check_in<'a>(words: &ArgMatches<'a>) -> Option<Command<'a>>
+    ensures { option_map seen result ≡ option_map Check
+        (word_under (codes "config") (rows_of (found_of words.now))) }
+{
+    Some(Command::Check(word_under(words, "config")?))
+}
+
+/// `board` of its words, where they ask for one.
+fn board_in<'a>(words: &ArgMatches<'a>) -> Option<Command<'a>>
+    ensures { option_map seen result ≡ board_in (rows_of (found_of words.now)) }
+{
+    let config = word_under(words, "config")?;
+    let asked = asked_in(words)?;
+    Some(Command::Board { config, asked })
 }

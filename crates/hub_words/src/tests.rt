@@ -1,7 +1,6 @@
 //! Each command and each refusal, with ample memory: want of memory may come in place of any
-//! answer, so that
-// no contract refuses a reader that only says so.
-use crate::{Command, WordsFault, read_words};
+//! answer, so that no contract refuses a reader that only says so.
+use crate::{BoardAsked, Command, WordsFault, read_words};
 use rt_types::Text;
 use std::alloc::Global;
 use std::test::Fail;
@@ -14,38 +13,120 @@ fn texts(alloc: Global, words: &[&str]) -> Result<Vec<Text>, Fail> {
     Ok(texts)
 }
 
-// Whether the words are no command.
+/// Whether the words are that command.
+fn is_read(alloc: Global, words: &[&str], command: Command<'_>) -> Result<bool, Fail> {
+    let texts = texts(alloc, words)?;
+    Ok(read_words(alloc, &texts) == Ok(command))
+}
+
+/// Whether the words are no command.
 fn is_usage(alloc: Global, words: &[&str]) -> Result<bool, Fail> {
     let texts = texts(alloc, words)?;
     Ok(read_words(alloc, &texts) == Err(WordsFault::Usage))
 }
 
 #[test]
-fn commands(rt: HostRuntime) -> Result<(), Fail> {
+fn replays_and_checks(rt: HostRuntime) -> Result<(), Fail> {
     let alloc = rt.alloc();
-    let replay = texts(alloc, &["replay"])?;
-    assert!(rt; read_words(alloc, &replay) == Ok(Command::Replay));
-    let check = texts(alloc, &["check", "city.toml"])?;
-    assert!(rt; read_words(alloc, &check) == Ok(Command::Check("city.toml")));
-    let nameless = texts(alloc, &["check", ""])?;
-    assert!(rt; read_words(alloc, &nameless) == Ok(Command::Check("")));
-    let named_so = texts(alloc, &["check", "check"])?;
-    assert!(rt; read_words(alloc, &named_so) == Ok(Command::Check("check")));
-    let not_latin = texts(alloc, &["check", "Zürich.toml"])?;
-    assert!(rt; read_words(alloc, &not_latin) == Ok(Command::Check("Zürich.toml")));
+    let commands: [(&[&str], Command<'_>); 7] = [
+        (&["replay"], Command::Replay),
+        (&["replay", "city.toml"], Command::ReplayWith("city.toml")),
+        (&["replay", ""], Command::ReplayWith("")),
+        (&["check", "city.toml"], Command::Check("city.toml")),
+        (&["check", ""], Command::Check("")),
+        (&["check", "check"], Command::Check("check")),
+        (&["check", "Zürich.toml"], Command::Check("Zürich.toml")),
+    ];
+    for (words, command) in commands {
+        assert!(rt; is_read(alloc, words, command)?);
+    }
+    Ok(())
+}
+
+/// A board of the words, which the command line has behind the schedule and the stop.
+fn board(at: u64, span: u32, limit: u32, json: bool) -> Command<'static> {
+    Command::Board {
+        config: "hub.toml",
+        asked: BoardAsked {
+            schedule: "city",
+            stop: "ST",
+            at,
+            span,
+            limit,
+            json,
+        },
+    }
+}
+
+#[test]
+fn boards(rt: HostRuntime) -> Result<(), Fail> {
+    let alloc = rt.alloc();
+    let boards: [([&str; 4], Command<'_>); 4] = [
+        (
+            ["1743314000", "3600", "50", "json"],
+            board(1_743_314_000, 3600, 50, true),
+        ),
+        (
+            ["00000000001743314000", "3600", "50", "text"],
+            board(1_743_314_000, 3600, 50, false),
+        ),
+        (["0", "1", "1", "text"], board(0, 1, 1, false)),
+        (
+            ["253402300799", "86400", "00000000000000001000", "json"],
+            board(253_402_300_799, 86_400, 1000, true),
+        ),
+    ];
+    for ([at, span, limit, form], command) in boards {
+        assert!(rt;
+            is_read(
+                alloc,
+                &["board", "hub.toml", "city", "ST", at, span, limit, form],
+                command
+            )?
+        );
+    }
+    Ok(())
+}
+
+#[test]
+fn no_boards(rt: HostRuntime) -> Result<(), Fail> {
+    let alloc = rt.alloc();
+    let refused: [[&str; 4]; 13] = [
+        ["253402300800", "3600", "50", "text"],
+        ["10000000000000000000", "3600", "50", "text"],
+        ["99999999999999999999", "3600", "50", "text"],
+        ["000000000001743314000", "3600", "50", "text"],
+        ["", "3600", "50", "text"],
+        ["+1", "3600", "50", "text"],
+        ["1743314000", "0", "50", "text"],
+        ["1743314000", "86401", "50", "text"],
+        ["1743314000", "3600", "0", "text"],
+        ["1743314000", "3600", "1001", "text"],
+        ["1743314000", "3600", "5O", "text"],
+        ["1743314000", "3600", "50", "xml"],
+        ["1743314000", "3600", "50", "JSON"],
+    ];
+    for [at, span, limit, form] in refused {
+        assert!(rt;
+            is_usage(
+                alloc,
+                &["board", "hub.toml", "city", "ST", at, span, limit, form]
+            )?
+        );
+    }
     Ok(())
 }
 
 #[test]
 fn refusals(rt: HostRuntime) -> Result<(), Fail> {
     let alloc = rt.alloc();
-    let refused: [&[&str]; 16] = [
+    let refused: [&[&str]; 19] = [
         &[],
         &["unknown"],
         &[""],
         &["Replay"],
         &["repl"],
-        &["replay", "city.toml"],
+        &["replay", "city.toml", "city.toml"],
         &["check"],
         &["check", "city.toml", "city.toml"],
         &["check", "-x"],
@@ -56,6 +137,27 @@ fn refusals(rt: HostRuntime) -> Result<(), Fail> {
         &["help", "check"],
         &["--", "replay"],
         &["replay", "--"],
+        &["board"],
+        &[
+            "board",
+            "hub.toml",
+            "city",
+            "ST",
+            "1743314000",
+            "3600",
+            "50",
+        ],
+        &[
+            "board",
+            "hub.toml",
+            "city",
+            "ST",
+            "1743314000",
+            "3600",
+            "50",
+            "text",
+            "text",
+        ],
     ];
     for words in refused {
         assert!(rt; is_usage(alloc, words)?);

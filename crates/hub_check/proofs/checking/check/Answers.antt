@@ -1,7 +1,8 @@
 -- The configuration's fault, or the lines of its timetables.
 use Rattle.hub_check.specs.Told.{Checks}
 use Rattle.command_defs.specs.Checks.{check_output}
-use Rattle.hub_check.proofs.Telling.{both_told, check_refused, check_told, each_told, passed}
+use Rattle.hub_load.proofs.Telling.{both_told, each_told, passed}
+use Rattle.hub_check.proofs.CountsLines.{check_refused, check_told}
 use Rattle.hub_check.proofs.checking.check.Goals as goal
 
 pub returns-in_err-conf-clause-told : goal.returns-in_err-conf-clause-told

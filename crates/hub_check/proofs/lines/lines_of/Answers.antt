@@ -1,16 +1,18 @@
 -- The lines of the schedules up to one, and then its line or its fault.
 use Rattle.std.proofs.Common.{◌∙◌, ℕ, Result, Vec, arith}
 use Rattle.std.specs.declared.alloc.Global.{Global}
-use Rattle.hub_check.specs.declared.fault.CheckFault.{CheckFault}
-use Rattle.hub_check.specs.Told.{Tells, lines_for}
-use Rattle.hub_check.proofs.Telling.{both_told, counts_end, counts_more, counts_stop, each_told, passed}
+use Rattle.hub_load.specs.declared.fault.HubFault.{HubFault}
+use Rattle.hub_load.specs.Told.{IsAsTold}
+use Rattle.hub_check.specs.Told.{lines_for}
+use Rattle.hub_load.proofs.Telling.{both_told, each_told, passed}
+use Rattle.hub_check.proofs.CountsLines.{counts_end, counts_more, counts_stop}
 use Rattle.hub_check.proofs.lines.lines_of.Goals as goal
 
 pub returns-in_err-add_line-clause-told : goal.returns-in_err-add_line-clause-told
 returns-in_err-add_line-clause-told g c =
     let inv = c.loop-schedule.invariant in
     both_told _ _ _ _ _ inv.0 inv.2 c.in_err-add_line.ensures.told
-    (λ fs counts told. passed (λ (r : Result (Vec ℕ Global) CheckFault). Tells (λ (lines : Vec ℕ Global). lines.items) (lines_for fs c.args.schedules.now) r) _ _ c.from_residual.ensures.1
+    (λ fs counts told. passed (λ (r : Result (Vec ℕ Global) HubFault). IsAsTold (λ (lines : Vec ℕ Global). lines.items) (lines_for fs c.args.schedules.now) r) _ _ c.from_residual.ensures.1
     (counts_stop fs c.args.schedules.now c.loop-schedule.schedule-index c.schedule-item.result c.loop-schedule.lines.items _ c.loop-schedule-test.true c.schedule-item.is counts told))
 
 pub loop-schedule-preserved : goal.loop-schedule-preserved

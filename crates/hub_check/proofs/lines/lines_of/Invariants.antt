@@ -1,7 +1,7 @@
 -- What is told of all schedules is what is told of those that are left, behind the lines so far.
 use Rattle.std.proofs.Common.{◌≡◌, ◌≤◌}
 use Rattle.std.specs.Option.{IfSome}
-use Rattle.hub_check.proofs.Telling.{Counts}
+use Rattle.hub_check.proofs.CountsLines.{Counts}
 use Rattle.hub_check.proofs.lines.lines_of.Given as goal
 
 abbrev pub invariant-loop-schedule : goal.invariant-loop-schedule
