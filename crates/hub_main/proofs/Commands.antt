@@ -1,17 +1,26 @@
 -- What each command's outcome says of what is told.
-use Rattle.std.proofs.Common.{◌≡◌, ℕ, ◌≤◌, List, [], Option, Some, None, IfSome, refl, arith, inl, inr}
-use Rattle.std.specs.Prelude.{◌⊎◌, unwrap_or}
-use Rattle.std.specs.Option.{option_map}
+use Rattle.std.proofs.Common.{◌≡◌, ℕ, ◌≤◌, List, [], ◌++◌, Option, Some, None, Result, Ok, Err, IfSome, refl, sym, subst, arith, inl, inr}
+use Rattle.std.specs.Prelude.{◌⊎◌, unwrap_or, Vec}
+use Rattle.std.specs.declared.alloc.Global.{Global}
+use Rattle.std.specs.Option.{option_map, option_and_then}
 use Rattle.std.specs.Io.KnownBytes.{Appends}
 use Rattle.std.proofs.KnownBytes.{Appends-nil, Consumes-nil}
-use Rattle.hub_outside.specs.Outside.{Outside, Stream}
+use Rattle.hub_outside.specs.Outside.{FileStore, Outside, Stream}
+use Rattle.sched_types.specs.Schedules.{Schedules}
+use Rattle.text_defs.specs.Cleaned.{line_feed}
+use Rattle.hub_load.specs.Told.{HasCause, IsAsTold, refusal_line}
+use Rattle.hub_load.specs.declared.fault.HubFault.{HubFault}
+use Rattle.hub_load.specs.declared.fault.HubFault.TheVariants.{Refused, FileFault, NoMemory}
 use Rattle.hub_replay.specs.Outcome.{IsReplayStatus, Last}
 use Rattle.script_defs.specs.Output.{Output, replayed}
+use Rattle.script_defs.specs.Record.{start}
+use Rattle.board_text_defs.specs.Answers.{BoardAsked}
 use Rattle.command_defs.specs.Words.{Command}
-use Rattle.command_defs.specs.Words.Command.{Replay, Check}
+use Rattle.command_defs.specs.Words.Command.{Replay, ReplayWith, Check, Board}
 use Rattle.command_defs.specs.Checks.{check_output}
-use Rattle.command_defs.specs.Commands.{output_where_told, usage_line}
-use Rattle.hub_main.specs.Offline.{IsDone, IsExitStatus, OutcomeOf, UsageOutcome, WritesWhole}
+use Rattle.command_defs.specs.Commands.{board_output, file_fault_line, found_or_not, output_where_told, replay_output, usage_line, with_schedules}
+use Rattle.command_defs.specs.Hubs.{schedules_at}
+use Rattle.hub_main.specs.Offline.{FilesRose, IsDone, IsRefusedWith, LoadFailed, OutcomeOf, PrintsFault, PrintsOutput, UsageOutcome, WritesWhole}
 
 -- the line for words that are no command
 pub usage_outcome : (status : ℕ) (output output' : Stream) → Last 2 usage_line status output.told output'.told output.faults output'.faults
@@ -29,6 +38,19 @@ usage_outcome status output output' (count, inr (e, rose, cut)) = record {
   output_fault = λ _. (rose, cut);
   no_memory = λ f. absurd (omega arith);
   output_count = count;
+}
+
+-- memory ran out before the configuration and its timetables were there
+pub load_short : (path : List ℕ) (files files' : FileStore) (output output' : Stream) → files.faults ≤ files'.faults → output' ≡ output
+    → LoadFailed path files files' output output' 6
+load_short path files files' output output' files_count same = record {
+  is_status = inr (inr (inr refl));
+  refused = λ f. absurd (omega arith);
+  file_fault = λ f. absurd (omega arith);
+  output_fault = λ f. absurd (omega arith);
+  no_memory = λ _. subst (λ o. Appends output.told o.told []) (sym same) (Appends-nil output.told);
+  files_count = files_count;
+  output_count = subst (λ o. output.faults ≤ o.faults) (sym same) (omega arith);
 }
 
 -- memory ran out before the words were read, whatever they are
@@ -53,6 +75,10 @@ short_outcome (Some Replay) before = record {
   input_count = omega arith;
   output_count = omega arith;
 }
+short_outcome (Some (ReplayWith path)) before =
+    inl (load_short path before.files before.files before.output before.output (omega arith) refl, refl)
+short_outcome (Some (Board path asked)) before =
+    inl (load_short path before.files before.files before.output before.output (omega arith) refl)
 short_outcome (Some (Check path)) before = record {
   is_status = inr (inr (inr (inr refl)));
   whole = elim [ inl f ↦ absurd (omega arith) | inr f ↦ absurd (omega arith) ];
@@ -63,43 +89,99 @@ short_outcome (Some (Check path)) before = record {
   output_count = omega arith;
 }
 
--- no replay has the status 2 or 3
-replay_status : {A : Type 0} (status : ℕ) → IsReplayStatus status → (status ≡ 2) ⊎ (status ≡ 3) → A
+-- ---- which statuses a command has once all is written
+
+-- no replay has the status 2, 3 or 8
+replay_status : {A : Type 0} (status : ℕ) → IsReplayStatus status → (status ≡ 2) ⊎ (status ≡ 3) ⊎ (status ≡ 8) → A
 replay_status status (inl e) (inl f) = absurd (omega arith)
-replay_status status (inl e) (inr f) = absurd (omega arith)
+replay_status status (inl e) (inr (inl f)) = absurd (omega arith)
+replay_status status (inl e) (inr (inr f)) = absurd (omega arith)
 replay_status status (inr (inl e)) (inl f) = absurd (omega arith)
-replay_status status (inr (inl e)) (inr f) = absurd (omega arith)
+replay_status status (inr (inl e)) (inr (inl f)) = absurd (omega arith)
+replay_status status (inr (inl e)) (inr (inr f)) = absurd (omega arith)
 replay_status status (inr (inr (inl e))) (inl f) = absurd (omega arith)
-replay_status status (inr (inr (inl e))) (inr f) = absurd (omega arith)
+replay_status status (inr (inr (inl e))) (inr (inl f)) = absurd (omega arith)
+replay_status status (inr (inr (inl e))) (inr (inr f)) = absurd (omega arith)
 replay_status status (inr (inr (inr (inl e)))) (inl f) = absurd (omega arith)
-replay_status status (inr (inr (inr (inl e)))) (inr f) = absurd (omega arith)
+replay_status status (inr (inr (inr (inl e)))) (inr (inl f)) = absurd (omega arith)
+replay_status status (inr (inr (inr (inl e)))) (inr (inr f)) = absurd (omega arith)
 replay_status status (inr (inr (inr (inr e)))) (inl f) = absurd (omega arith)
-replay_status status (inr (inr (inr (inr e)))) (inr f) = absurd (omega arith)
+replay_status status (inr (inr (inr (inr e)))) (inr (inl f)) = absurd (omega arith)
+replay_status status (inr (inr (inr (inr e)))) (inr (inr f)) = absurd (omega arith)
 
--- words that are no command have no other status than 2 once all is written
-usage_status : {A : Type 0} (status : ℕ) → (status ≡ 2) ⊎ (status ≡ 5) ⊎ (status ≡ 6) → (status ≡ 0) ⊎ (status ≡ 3) ⊎ (status ≡ 7) → A
-usage_status status (inl e) (inl f) = absurd (omega arith)
-usage_status status (inl e) (inr (inl f)) = absurd (omega arith)
-usage_status status (inl e) (inr (inr f)) = absurd (omega arith)
-usage_status status (inr (inl e)) (inl f) = absurd (omega arith)
-usage_status status (inr (inl e)) (inr (inl f)) = absurd (omega arith)
-usage_status status (inr (inl e)) (inr (inr f)) = absurd (omega arith)
-usage_status status (inr (inr e)) (inl f) = absurd (omega arith)
-usage_status status (inr (inr e)) (inr (inl f)) = absurd (omega arith)
-usage_status status (inr (inr e)) (inr (inr f)) = absurd (omega arith)
+-- words that are no command have no other status than 2
+usage_status : {A : Type 0} (status other : ℕ) → (status ≡ 2) ⊎ (status ≡ 5) ⊎ (status ≡ 6) → status ≡ other
+    → (other ≡ 0) ⊎ (other ≡ 3) ⊎ (other ≡ 7) ⊎ (other ≡ 8) → A
+usage_status status other (inl e) h (inl f) = absurd (omega arith)
+usage_status status other (inl e) h (inr (inl f)) = absurd (omega arith)
+usage_status status other (inl e) h (inr (inr (inl f))) = absurd (omega arith)
+usage_status status other (inl e) h (inr (inr (inr f))) = absurd (omega arith)
+usage_status status other (inr (inl e)) h (inl f) = absurd (omega arith)
+usage_status status other (inr (inl e)) h (inr (inl f)) = absurd (omega arith)
+usage_status status other (inr (inl e)) h (inr (inr (inl f))) = absurd (omega arith)
+usage_status status other (inr (inl e)) h (inr (inr (inr f))) = absurd (omega arith)
+usage_status status other (inr (inr e)) h (inl f) = absurd (omega arith)
+usage_status status other (inr (inr e)) h (inr (inl f)) = absurd (omega arith)
+usage_status status other (inr (inr e)) h (inr (inr (inl f))) = absurd (omega arith)
+usage_status status other (inr (inr e)) h (inr (inr (inr f))) = absurd (omega arith)
 
--- no check has the status 2 or 7
-check_status : {A : Type 0} (status : ℕ) → (status ≡ 0) ⊎ (status ≡ 3) ⊎ (status ≡ 4) ⊎ (status ≡ 5) ⊎ (status ≡ 6) → (status ≡ 2) ⊎ (status ≡ 7) → A
+-- no check has the status 2, 7 or 8
+check_status : {A : Type 0} (status : ℕ) → (status ≡ 0) ⊎ (status ≡ 3) ⊎ (status ≡ 4) ⊎ (status ≡ 5) ⊎ (status ≡ 6)
+    → (status ≡ 2) ⊎ (status ≡ 7) ⊎ (status ≡ 8) → A
 check_status status (inl e) (inl f) = absurd (omega arith)
-check_status status (inl e) (inr f) = absurd (omega arith)
+check_status status (inl e) (inr (inl f)) = absurd (omega arith)
+check_status status (inl e) (inr (inr f)) = absurd (omega arith)
 check_status status (inr (inl e)) (inl f) = absurd (omega arith)
-check_status status (inr (inl e)) (inr f) = absurd (omega arith)
+check_status status (inr (inl e)) (inr (inl f)) = absurd (omega arith)
+check_status status (inr (inl e)) (inr (inr f)) = absurd (omega arith)
 check_status status (inr (inr (inl e))) (inl f) = absurd (omega arith)
-check_status status (inr (inr (inl e))) (inr f) = absurd (omega arith)
+check_status status (inr (inr (inl e))) (inr (inl f)) = absurd (omega arith)
+check_status status (inr (inr (inl e))) (inr (inr f)) = absurd (omega arith)
 check_status status (inr (inr (inr (inl e)))) (inl f) = absurd (omega arith)
-check_status status (inr (inr (inr (inl e)))) (inr f) = absurd (omega arith)
+check_status status (inr (inr (inr (inl e)))) (inr (inl f)) = absurd (omega arith)
+check_status status (inr (inr (inr (inl e)))) (inr (inr f)) = absurd (omega arith)
 check_status status (inr (inr (inr (inr e)))) (inl f) = absurd (omega arith)
-check_status status (inr (inr (inr (inr e)))) (inr f) = absurd (omega arith)
+check_status status (inr (inr (inr (inr e)))) (inr (inl f)) = absurd (omega arith)
+check_status status (inr (inr (inr (inr e)))) (inr (inr f)) = absurd (omega arith)
+
+-- where there is no hub all is written at 3 alone
+load_status : (status : ℕ) → (status ≡ 3) ⊎ (status ≡ 4) ⊎ (status ≡ 5) ⊎ (status ≡ 6) → IsDone status → status ≡ 3
+load_status status (inl e) done = e
+load_status status (inr (inl e)) (inl f) = absurd (omega arith)
+load_status status (inr (inl e)) (inr (inl f)) = absurd (omega arith)
+load_status status (inr (inl e)) (inr (inr (inl f))) = f
+load_status status (inr (inl e)) (inr (inr (inr (inl f)))) = absurd (omega arith)
+load_status status (inr (inl e)) (inr (inr (inr (inr f)))) = absurd (omega arith)
+load_status status (inr (inr (inl e))) (inl f) = absurd (omega arith)
+load_status status (inr (inr (inl e))) (inr (inl f)) = absurd (omega arith)
+load_status status (inr (inr (inl e))) (inr (inr (inl f))) = f
+load_status status (inr (inr (inl e))) (inr (inr (inr (inl f)))) = absurd (omega arith)
+load_status status (inr (inr (inl e))) (inr (inr (inr (inr f)))) = absurd (omega arith)
+load_status status (inr (inr (inr e))) (inl f) = absurd (omega arith)
+load_status status (inr (inr (inr e))) (inr (inl f)) = absurd (omega arith)
+load_status status (inr (inr (inr e))) (inr (inr (inl f))) = f
+load_status status (inr (inr (inr e))) (inr (inr (inr (inl f)))) = absurd (omega arith)
+load_status status (inr (inr (inr e))) (inr (inr (inr (inr f)))) = absurd (omega arith)
+
+-- an output that is written whole has its own status
+print_status : (status defined : ℕ) → (status ≡ defined) ⊎ (status ≡ 5) ⊎ (status ≡ 6) → IsDone status → status ≡ defined
+print_status status defined (inl e) done = e
+print_status status defined (inr (inl e)) (inl f) = absurd (omega arith)
+print_status status defined (inr (inl e)) (inr (inl f)) = absurd (omega arith)
+print_status status defined (inr (inl e)) (inr (inr (inl f))) = absurd (omega arith)
+print_status status defined (inr (inl e)) (inr (inr (inr (inl f)))) = absurd (omega arith)
+print_status status defined (inr (inl e)) (inr (inr (inr (inr f)))) = absurd (omega arith)
+print_status status defined (inr (inr e)) (inl f) = absurd (omega arith)
+print_status status defined (inr (inr e)) (inr (inl f)) = absurd (omega arith)
+print_status status defined (inr (inr e)) (inr (inr (inl f))) = absurd (omega arith)
+print_status status defined (inr (inr e)) (inr (inr (inr (inl f)))) = absurd (omega arith)
+print_status status defined (inr (inr e)) (inr (inr (inr (inr f)))) = absurd (omega arith)
+
+-- ---- what is told of the whole output
+
+-- all of an output was written, with its status
+abbrev WroteAll : Stream → Stream → ℕ → Output → Type 0
+WroteAll before after status output = Appends before.told after.told output.written × (status ≡ output.status)
 
 -- what is told of one part of the outside
 of_part : {A : Type 0} (f : A → Output) (part : Option A) (before after : Option (List ℕ)) (status : ℕ) → IfSome part (λ x. Appends before after (f x).written × (status ≡ (f x).status))
@@ -107,18 +189,201 @@ of_part : {A : Type 0} (f : A → Output) (part : Option A) (before after : Opti
 of_part f None before after status h = tt
 of_part f (Some x) before after status h = h
 
+-- the output that the schedules of a configuration have, and that of its refusal
+of_loaded : (f : Schedules → Output) (r : Result Schedules (List ℕ)) (plans : Schedules) (before after : Stream) (status : ℕ) → r ≡ Ok plans
+    → WroteAll before after status (f plans) → WroteAll before after status (with_schedules f r)
+of_loaded f r plans before after status e h = rw e h
+
+of_refused : (f : Schedules → Output) (r : Result Schedules (List ℕ)) (line : List ℕ) (before after : Stream) (status : ℕ) → refusal_line r ≡ Some line
+    → Appends before.told after.told line → status ≡ 3 → WroteAll before after status (with_schedules f r)
+of_refused f (Ok plans) line before after status e wrote is = cc
+of_refused f (Err words) line before after status e wrote is =
+    let same : line ≡ words ++ line_feed = cc in (subst (λ bytes. Appends before.told after.told bytes) same wrote, is)
+
+-- of the files' part: the schedules of a configuration and its refusal
+told_refused : (f : Schedules → Output) (path : List ℕ) (files files' : FileStore) (before after : Stream) (status : ℕ) → LoadFailed path files files' before after status → IsDone status
+    → IfSome files.told (λ fs. WroteAll before after status (with_schedules f (schedules_at fs path)))
+told_refused f path files files' before after status o done =
+    let is = load_status status o.is_status done in
+    let (line, refused, wrote) = o.refused is in
+    told_at files.told line refused wrote is
+  where
+    told_at : (told : Option (List (List ℕ × List ℕ))) (line : List ℕ) → IfSome told (λ fs. refusal_line (schedules_at fs path) ≡ Some line)
+        → Appends before.told after.told line → status ≡ 3
+        → IfSome told (λ fs. WroteAll before after status (with_schedules f (schedules_at fs path)))
+    told_at None line e wrote is = tt
+    told_at (Some fs) line e wrote is = of_refused f (schedules_at fs path) line before after status e wrote is
+
+told_loaded : (f : Schedules → Output) (path : List ℕ) (told : Option (List (List ℕ × List ℕ))) (plans : Schedules) (before after : Stream) (status : ℕ)
+    → IfSome told (λ fs. schedules_at fs path ≡ Ok plans) → WroteAll before after status (f plans)
+    → IfSome told (λ fs. WroteAll before after status (with_schedules f (schedules_at fs path)))
+told_loaded f path None plans before after status e h = tt
+told_loaded f path (Some fs) plans before after status e h = of_loaded f (schedules_at fs path) plans before after status e h
+
+-- the same with an input, which may not be told
+with_input : (f : List ℕ → Schedules → Output) (path : List ℕ) (files : Option (List (List ℕ × List ℕ))) (input : Option (List ℕ)) (P : Output → Type 0)
+    → IfSome input (λ bytes. IfSome files (λ fs. P (with_schedules (f bytes) (schedules_at fs path))))
+    → IfSome (option_and_then (λ fs. option_map (λ bytes. with_schedules (f bytes) (schedules_at fs path)) input) files) P
+with_input f path None input P h = tt
+with_input f path (Some fs) None P h = tt
+with_input f path (Some fs) (Some bytes) P h = h
+
+each_input : (input : Option (List ℕ)) (P : List ℕ → Type 0) → ((bytes : List ℕ) → P bytes) → IfSome input P
+each_input None P h = tt
+each_input (Some bytes) P h = h bytes
+
+each_told : (input : Option (List ℕ)) (P Q : List ℕ → Type 0) → ((bytes : List ℕ) → P bytes → Q bytes) → IfSome input P → IfSome input Q
+each_told None P Q h p = tt
+each_told (Some bytes) P Q h p = h bytes p
+
+-- a replay that wrote all ended at 0 or at 7
+replay_done : (status : ℕ) → IsReplayStatus status → IsDone status → (status ≡ 0) ⊎ (status ≡ 7)
+replay_done status is (inl e) = inl e
+replay_done status is (inr (inl e)) = replay_status status is (inl e)
+replay_done status is (inr (inr (inl e))) = replay_status status is (inr (inl e))
+replay_done status is (inr (inr (inr (inl e)))) = inr e
+replay_done status is (inr (inr (inr (inr e)))) = replay_status status is (inr (inr e))
+
+check_done : (status : ℕ) → (status ≡ 0) ⊎ (status ≡ 3) ⊎ (status ≡ 4) ⊎ (status ≡ 5) ⊎ (status ≡ 6) → IsDone status → (status ≡ 0) ⊎ (status ≡ 3)
+check_done status is (inl e) = inl e
+check_done status is (inr (inl e)) = check_status status is (inl e)
+check_done status is (inr (inr (inl e))) = inr e
+check_done status is (inr (inr (inr (inl e)))) = check_status status is (inr (inl e))
+check_done status is (inr (inr (inr (inr e)))) = check_status status is (inr (inr e))
+
 -- where all was written, it is what the definition of the command's output tells, with its status
 pub told_whole : (command : Option Command) (before after : Outside) (status : ℕ) → OutcomeOf command before after status
     → WritesWhole (output_where_told command before.files.told before.input.told) status before.output.told after.output.told
-told_whole None before after status o (inl e) = usage_status status o.is_status (inl e)
+told_whole None before after status o (inl e) = usage_status status 0 o.is_status e (inl refl)
 told_whole None before after status o (inr (inl e)) = (o.whole e, e)
-told_whole None before after status o (inr (inr (inl e))) = usage_status status o.is_status (inr (inl e))
-told_whole None before after status o (inr (inr (inr e))) = usage_status status o.is_status (inr (inr e))
-told_whole (Some Replay) before after status o (inl e) = of_part replayed before.input.told before.output.told after.output.told status (o.whole (inl e))
-told_whole (Some Replay) before after status o (inr (inl e)) = replay_status status o.is_status (inl e)
-told_whole (Some Replay) before after status o (inr (inr (inl e))) = replay_status status o.is_status (inr e)
-told_whole (Some Replay) before after status o (inr (inr (inr e))) = of_part replayed before.input.told before.output.told after.output.told status (o.whole (inr e))
-told_whole (Some (Check path)) before after status o (inl e) = of_part (λ fs. check_output fs path) before.files.told before.output.told after.output.told status (o.whole (inl e))
-told_whole (Some (Check path)) before after status o (inr (inl e)) = check_status status o.is_status (inl e)
-told_whole (Some (Check path)) before after status o (inr (inr (inl e))) = of_part (λ fs. check_output fs path) before.files.told before.output.told after.output.told status (o.whole (inr e))
-told_whole (Some (Check path)) before after status o (inr (inr (inr e))) = check_status status o.is_status (inr e)
+told_whole None before after status o (inr (inr (inl e))) = usage_status status 3 o.is_status e (inr (inl refl))
+told_whole None before after status o (inr (inr (inr (inl e)))) = usage_status status 7 o.is_status e (inr (inr (inl refl)))
+told_whole None before after status o (inr (inr (inr (inr e)))) = usage_status status 8 o.is_status e (inr (inr (inr refl)))
+told_whole (Some Replay) before after status o done =
+    of_part (replayed start) before.input.told before.output.told after.output.told status (o.whole (replay_done status o.is_status done))
+told_whole (Some (ReplayWith path)) before after status (inl (o, same)) done =
+    with_input replay_output path before.files.told before.input.told (WroteAll before.output after.output status)
+    (each_input before.input.told _ (λ bytes. told_refused (replay_output bytes) path before.files after.files before.output after.output status o done))
+told_whole (Some (ReplayWith path)) before after status (inr (plans, loaded, count, o)) done =
+    with_input replay_output path before.files.told before.input.told (WroteAll before.output after.output status)
+    (each_told before.input.told _ _ (λ bytes wrote. told_loaded (replay_output bytes) path before.files.told plans before.output after.output status loaded wrote)
+    (o.whole (replay_done status o.is_status done)))
+told_whole (Some (Check path)) before after status o done =
+    of_part (λ fs. check_output fs path) before.files.told before.output.told after.output.told status (o.whole (check_done status o.is_status done))
+told_whole (Some (Board path asked)) before after status (inl o) done =
+    of_part (λ fs. with_schedules (board_output asked) (schedules_at fs path)) before.files.told before.output.told after.output.told status
+    (told_refused (board_output asked) path before.files after.files before.output after.output status o done)
+told_whole (Some (Board path asked)) before after status (inr (plans, loaded, count, o)) done =
+    let is = print_status status (board_output asked plans).status o.is_status done in
+    of_part (λ fs. with_schedules (board_output asked) (schedules_at fs path)) before.files.told before.output.told after.output.told status
+    (told_loaded (board_output asked) path before.files.told plans before.output after.output status loaded (o.whole is, is))
+
+-- ---- one output of a hub that was loaded
+
+-- an output whose status is none of a fault
+abbrev pub IsAnswer : Output → Type 0
+IsAnswer output = (output.status ≡ 0) ⊎ (output.status ≡ 8)
+
+no_fault : {A : Type 0} (status defined : ℕ) → (defined ≡ 0) ⊎ (defined ≡ 8) → status ≡ defined → (status ≡ 5) ⊎ (status ≡ 6) → A
+no_fault status defined (inl d) e (inl f) = absurd (omega arith)
+no_fault status defined (inl d) e (inr f) = absurd (omega arith)
+no_fault status defined (inr d) e (inl f) = absurd (omega arith)
+no_fault status defined (inr d) e (inr f) = absurd (omega arith)
+
+-- its bytes were written, or a front of them
+pub printed : (defined : Output) (status : ℕ) (output output' : Stream) → IsAnswer defined
+    → Last defined.status defined.written status output.told output'.told output.faults output'.faults
+    → PrintsOutput defined output output' status
+printed defined status output output' answer (count, inl (e, wrote)) = record {
+  is_status = inl e;
+  whole = λ _. wrote;
+  output_fault = λ f. no_fault status defined.status answer e (inl f);
+  no_memory = λ f. no_fault status defined.status answer e (inr f);
+  output_count = count;
+}
+printed defined status output output' answer (count, inr (e, rose, cut)) = record {
+  is_status = inr (inl e);
+  whole = λ f. no_fault status defined.status answer f (inl e);
+  output_fault = λ _. (rose, cut);
+  no_memory = λ f. absurd (omega arith);
+  output_count = count;
+}
+
+-- memory ran out before anything was printed
+pub print_short : (defined : Output) (output : Stream) → IsAnswer defined → PrintsOutput defined output output 6
+print_short defined output answer = record {
+  is_status = inr (inr refl);
+  whole = λ f. no_fault 6 defined.status answer f (inr refl);
+  output_fault = λ f. absurd (omega arith);
+  no_memory = λ _. Appends-nil output.told;
+  output_count = omega arith;
+}
+
+pub found_answers : (o : Option (List ℕ)) → IsAnswer (found_or_not o)
+found_answers None = inr refl
+found_answers (Some bytes) = inl refl
+
+-- ---- a hub that could not be loaded
+
+-- the line that refuses a configuration or a timetable
+refused_printed : (path line : List ℕ) (files files' : FileStore) (status : ℕ) (output output' : Stream) → IsRefusedWith path files line → files.faults ≤ files'.faults
+    → Last 3 line status output.told output'.told output.faults output'.faults
+    → LoadFailed path files files' output output' status
+refused_printed path line files files' status output output' is files_count (count, inl (e, wrote)) = record {
+  is_status = inl e;
+  refused = λ _. (line, is, wrote);
+  file_fault = λ f. absurd (omega arith);
+  output_fault = λ f. absurd (omega arith);
+  no_memory = λ f. absurd (omega arith);
+  files_count = files_count;
+  output_count = count;
+}
+refused_printed path line files files' status output output' is files_count (count, inr (e, rose, cut)) = record {
+  is_status = inr (inr (inl e));
+  refused = λ f. absurd (omega arith);
+  file_fault = λ f. absurd (omega arith);
+  output_fault = λ _. (rose, inr (line, is, cut));
+  no_memory = λ f. absurd (omega arith);
+  files_count = files_count;
+  output_count = count;
+}
+
+-- the line of a file that can't be read
+file_fault_printed : (path : List ℕ) (files files' : FileStore) (status : ℕ) (output output' : Stream) → FilesRose files files' → files.faults ≤ files'.faults
+    → Last 4 file_fault_line status output.told output'.told output.faults output'.faults
+    → LoadFailed path files files' output output' status
+file_fault_printed path files files' status output output' rose files_count (count, inl (e, wrote)) = record {
+  is_status = inr (inl e);
+  refused = λ f. absurd (omega arith);
+  file_fault = λ _. (rose, wrote);
+  output_fault = λ f. absurd (omega arith);
+  no_memory = λ f. absurd (omega arith);
+  files_count = files_count;
+  output_count = count;
+}
+file_fault_printed path files files' status output output' rose files_count (count, inr (e, out_rose, cut)) = record {
+  is_status = inr (inr (inl e));
+  refused = λ f. absurd (omega arith);
+  file_fault = λ f. absurd (omega arith);
+  output_fault = λ _. (out_rose, inl (rose, cut));
+  no_memory = λ f. absurd (omega arith);
+  files_count = files_count;
+  output_count = count;
+}
+
+refused_at : {A : Type 0} (path : List ℕ) (told : Option (List (List ℕ × List ℕ))) (view : A → Schedules) (line : Vec ℕ Global)
+    → IfSome told (λ fs. IsAsTold view (schedules_at fs path) (Err (Refused line)))
+    → IfSome told (λ fs. refusal_line (schedules_at fs path) ≡ Some line.items)
+refused_at path None view line h = tt
+refused_at path (Some fs) view line h = h
+
+-- what the fault of a loader, once it is printed, comes to
+pub load_failed : {A : Type 0} (path : List ℕ) (files files' : FileStore) (output output' : Stream) (status : ℕ) (view : A → Schedules) (fault : HubFault)
+    → IfSome files.told (λ fs. IsAsTold view (schedules_at fs path) (Err fault)) → HasCause {B = A} (Err fault) files.faults files'.faults
+    → PrintsFault fault output output' status → LoadFailed path files files' output output' status
+load_failed path files files' output output' status view (Refused line) told cause printed =
+    refused_printed path line.items files files' status output output' (refused_at path files.told view line told) cause printed
+load_failed path files files' output output' status view FileFault told (count, rose) printed =
+    file_fault_printed path files files' status output output' rose count printed
+load_failed path files files' output output' status view NoMemory told cause (is, same) =
+    subst (λ s. LoadFailed path files files' output output' s) (sym is) (load_short path files files' output output' cause same)

@@ -1,20 +1,29 @@
 -- What running a command comes to, by the command that the words are.
-use Rattle.std.specs.Prelude.{◌≡◌, ℕ, ◌≤◌, List, [], ◌++◌, take, Option, Some, None, IfSome, ◌⊎◌}
+use Rattle.std.specs.Prelude.{◌≡◌, ℕ, ◌≤◌, List, [], ◌++◌, take, Option, Some, None, IfSome, Result, Ok, Err, ◌⊎◌}
+use Rattle.std.specs.Arc.{arc_value}
+use Rattle.std.specs.declared.alloc.Global.{Global}
+use Rattle.std.specs.declared.sync.Arc.{Arc}
 use Rattle.std.specs.Io.KnownBytes.{Appends}
 use Rattle.hub_outside.specs.Count.{Rose}
 use Rattle.hub_outside.specs.Outside.{FileStore, Outside, Stream}
-use Rattle.hub_replay.specs.Outcome.{ReplayOutcome}
+use Rattle.hub_load.specs.Told.{refusal_line}
+use Rattle.hub_load.specs.declared.fault.HubFault.{HubFault}
+use Rattle.hub_load.specs.declared.fault.HubFault.TheVariants.{Refused, FileFault, NoMemory}
+use Rattle.hub_replay.specs.Outcome.{Last, ReplayOutcome}
+use Rattle.sched_types.specs.Schedules.{Schedules}
 use Rattle.script_defs.specs.Output.{Output}
+use Rattle.script_defs.specs.Record.{configured, start}
 use Rattle.command_defs.specs.Words.{Command}
-use Rattle.command_defs.specs.Words.Command.{Replay, Check}
+use Rattle.command_defs.specs.Words.Command.{Replay, ReplayWith, Check, Board}
 use Rattle.command_defs.specs.Checks.{check_output}
-use Rattle.command_defs.specs.Commands.{file_fault_line, usage_line}
+use Rattle.command_defs.specs.Commands.{board_output, file_fault_line, usage_line}
+use Rattle.command_defs.specs.Hubs.{schedules_at}
 
 -- done, no command, refused configuration or timetable, input or file fault, output fault, no
--- memory, refused script
+-- memory, refused script, no such schedule or stop
 abbrev pub IsExitStatus : ℕ → Type 0
 IsExitStatus status = (status ≡ 0) ⊎ (status ≡ 2) ⊎ (status ≡ 3) ⊎ (status ≡ 4) ⊎ (status ≡ 5)
-    ⊎ (status ≡ 6) ⊎ (status ≡ 7)
+    ⊎ (status ≡ 6) ⊎ (status ≡ 7) ⊎ (status ≡ 8)
 
 -- the output grew by those bytes, or by a front of them
 abbrev pub Grew : Stream → Stream → List ℕ → Type 0
@@ -59,17 +68,87 @@ pub record CheckOutcome (path : List ℕ) (files files' : FileStore) (output out
   pub files_count : files.faults ≤ files'.faults
   pub output_count : output.faults ≤ output'.faults
 
+-- ---- commands that need the hub of a configuration
+
+-- the configuration at a path and its timetables are these schedules and feeds, where files are told
+abbrev pub AreLoaded : List ℕ → FileStore → Schedules → Type 0
+AreLoaded path files plans = IfSome files.told (λ fs. schedules_at fs path ≡ Ok plans)
+
+-- they are refused, and this is the line that says so
+abbrev pub IsRefusedWith : List ℕ → FileStore → List ℕ → Type 0
+IsRefusedWith path files line =
+    IfSome files.told (λ fs. refusal_line (schedules_at fs path) ≡ Some line)
+
+-- a front was written of the line that refuses them, or of that of a file that can't be read
+abbrev pub LoadCut : List ℕ → FileStore → FileStore → Stream → Stream → Type 0
+LoadCut path files files' output output' =
+    FilesRose files files' × GrewByFront output output' file_fault_line
+    ⊎ (line : List ℕ) × IsRefusedWith path files line × GrewByFront output output' line
+
+-- there is no hub: the configuration or a timetable is refused, or could not be read
+pub record LoadFailed (path : List ℕ) (files files' : FileStore) (output output' : Stream)
+    (status : ℕ) : Type 0 where
+  pub is_status : (status ≡ 3) ⊎ (status ≡ 4) ⊎ (status ≡ 5) ⊎ (status ≡ 6)
+  pub refused : status ≡ 3 → (line : List ℕ) × IsRefusedWith path files line
+      × Grew output output' line
+  pub file_fault : status ≡ 4 → FilesRose files files' × Grew output output' file_fault_line
+  pub output_fault : status ≡ 5 → OutputRose output output'
+      × LoadCut path files files' output output'
+  pub no_memory : status ≡ 6 → Grew output output' []
+  pub files_count : files.faults ≤ files'.faults
+  pub output_count : output.faults ≤ output'.faults
+
+-- what printing such a fault comes to: its line was written, or the output failed in the midst of it
+abbrev pub PrintsFault : HubFault → Stream → Stream → ℕ → Type 0
+PrintsFault (Refused line) output output' status =
+    Last 3 line.items status output.told output'.told output.faults output'.faults
+PrintsFault FileFault output output' status =
+    Last 4 file_fault_line status output.told output'.told output.faults output'.faults
+PrintsFault NoMemory output output' status = (status ≡ 6) × (output' ≡ output)
+
+-- a command's one output was written, or a front of it
+pub record PrintsOutput (defined : Output) (output output' : Stream) (status : ℕ) : Type 0 where
+  pub is_status : (status ≡ defined.status) ⊎ (status ≡ 5) ⊎ (status ≡ 6)
+  pub whole : status ≡ defined.status → Grew output output' defined.written
+  pub output_fault : status ≡ 5 → OutputRose output output'
+      × GrewByFront output output' defined.written
+  pub no_memory : status ≡ 6 → Grew output output' []
+  pub output_count : output.faults ≤ output'.faults
+
+-- a board of the timetables of the configuration at a path, which needs no input
+abbrev pub BoardOutcome : List ℕ → (Schedules → Output) → FileStore → FileStore → Stream → Stream
+    → ℕ → Type 0
+BoardOutcome path board files files' output output' status =
+    LoadFailed path files files' output output' status
+    ⊎ (plans : Schedules) × AreLoaded path files plans × (files.faults ≤ files'.faults)
+    × PrintsOutput (board plans) output output' status
+
+-- The replay of a script on the hub of the configuration at a path. No input is read before there
+-- is one.
+abbrev pub ReplayWithOutcome : List ℕ → Outside → Outside → ℕ → Type 0
+ReplayWithOutcome path before after status =
+    LoadFailed path before.files after.files before.output after.output status
+    × (after.input ≡ before.input)
+    ⊎ (plans : Schedules) × AreLoaded path before.files plans
+    × (before.files.faults ≤ after.files.faults)
+    × ReplayOutcome (configured plans) before.input after.input before.output after.output status
+
 -- what running a command comes to, of the outside before and after: a case for each command
 abbrev pub OutcomeOf : Option Command → Outside → Outside → ℕ → Type 0
 OutcomeOf None before after status = UsageOutcome before.output after.output status
 OutcomeOf (Some Replay) before after status =
-    ReplayOutcome before.input after.input before.output after.output status
+    ReplayOutcome start before.input after.input before.output after.output status
+OutcomeOf (Some (ReplayWith path)) before after status =
+    ReplayWithOutcome path before after status
 OutcomeOf (Some (Check path)) before after status =
     CheckOutcome path before.files after.files before.output after.output status
+OutcomeOf (Some (Board path asked)) before after status =
+    BoardOutcome path (board_output asked) before.files after.files before.output after.output
+    status
 
 -- the statuses at which the whole output was written
 abbrev pub IsDone : ℕ → Type 0
-IsDone status = (status ≡ 0) ⊎ (status ≡ 2) ⊎ (status ≡ 3) ⊎ (status ≡ 7)
+IsDone status = (status ≡ 0) ⊎ (status ≡ 2) ⊎ (status ≡ 3) ⊎ (status ≡ 7) ⊎ (status ≡ 8)
 
 -- the output grew by all that is told, and the status is the told one
 abbrev pub WritesWhole : Option Output → ℕ → Option (List ℕ) → Option (List ℕ) → Type 0
@@ -80,9 +159,20 @@ WritesWhole told status before after = IsDone status
 abbrev pub ReadsFiles : Option Command → Type 0
 ReadsFiles None = ⊥
 ReadsFiles (Some Replay) = ⊥
+ReadsFiles (Some (ReplayWith path)) = Unit {0}
 ReadsFiles (Some (Check path)) = Unit {0}
+ReadsFiles (Some (Board path asked)) = Unit {0}
 
 abbrev pub ReadsInput : Option Command → Type 0
 ReadsInput None = ⊥
 ReadsInput (Some Replay) = Unit {0}
+ReadsInput (Some (ReplayWith path)) = Unit {0}
 ReadsInput (Some (Check path)) = ⊥
+ReadsInput (Some (Board path asked)) = ⊥
+
+-- the plans with one owner who may share them, or want of memory
+abbrev pub IsShare : Schedules → Result (Arc Schedules Global) HubFault → Type 0
+IsShare plans (Ok shared) = arc_value shared ≡ plans
+IsShare plans (Err (Refused line)) = ⊥
+IsShare plans (Err FileFault) = ⊥
+IsShare plans (Err NoMemory) = Unit {0}

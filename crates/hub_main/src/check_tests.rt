@@ -5,7 +5,7 @@ use rt_types::Text;
 use std::alloc::Global;
 use std::test::Fail;
 
-const CITY_CONF: &str =
+pub(crate) const CITY_CONF: &str =
     "[[schedule]]\nname = \"city\"\nfolder = \"city\"\nzone = \"CET-1CEST,M3.5.0,M10.5.0/3\"\nfirst = \"20250329\"\ndays = 3\n\n[[feed]]\nname = \"a\"\nschedule = \"city\"\n\n[[feed]]\nname = \"b\"\nschedule = \"city\"\n";
 
 const AGENCY: &str = "agency_id,agency_name\nA,City\n";
@@ -26,7 +26,12 @@ const CALENDAR: &str =
 
 const CITY_LINE: &str = "city agencies 1 stops 5 routes 1 trips 3 times 8 days 3\n";
 
-fn put(alloc: Global, files: &mut Vec<MemoryFile>, path: &str, bytes: &[u8]) -> Result<(), Fail> {
+pub(crate) fn put(
+    alloc: Global,
+    files: &mut Vec<MemoryFile>,
+    path: &str,
+    bytes: &[u8],
+) -> Result<(), Fail> {
     files.push(MemoryFile {
         path: String::from_str(alloc, path)?,
         bytes: bytes.to_vec(alloc)?,
@@ -34,9 +39,9 @@ fn put(alloc: Global, files: &mut Vec<MemoryFile>, path: &str, bytes: &[u8]) -> 
     Ok(())
 }
 
-// The configuration and the files of the timetable, with another file in front of them: the first
-// of a path counts.
-fn city_with(alloc: Global, path: &str, bytes: &[u8]) -> Result<Vec<MemoryFile>, Fail> {
+/// The configuration and the files of the timetable, with another file in front of them: the first
+/// of a path counts.
+pub(crate) fn city_with(alloc: Global, path: &str, bytes: &[u8]) -> Result<Vec<MemoryFile>, Fail> {
     let mut files = Vec::new(alloc);
     put(alloc, &mut files, path, bytes)?;
     put(alloc, &mut files, "city.toml", CITY_CONF.as_bytes())?;
@@ -54,7 +59,7 @@ fn city_with(alloc: Global, path: &str, bytes: &[u8]) -> Result<Vec<MemoryFile>,
     Ok(files)
 }
 
-// Whether `check city.toml` on the files ends with that status and prints that.
+/// Whether `check city.toml` on the files ends with that status and prints that.
 fn checks(
     alloc: Global,
     files: Vec<MemoryFile>,
@@ -71,7 +76,7 @@ fn checks(
     Ok(got == status && out.bytes() == told.as_bytes())
 }
 
-// The same of the timetable with one file in place of its own.
+/// The same of the timetable with one file in place of its own.
 fn changed(alloc: Global, path: &str, bytes: &[u8], status: u8, told: &str) -> Result<bool, Fail> {
     checks(
         alloc,
@@ -82,7 +87,7 @@ fn changed(alloc: Global, path: &str, bytes: &[u8], status: u8, told: &str) -> R
     )
 }
 
-// A text with its first `from` turned into `to`.
+/// A text with its first `from` turned into `to`.
 fn turned(alloc: Global, text: &str, from: &str, to: &str) -> Result<String, Fail> {
     match text.split_once(from) {
         Some((before, behind)) => Ok(format!(in alloc; "{before}{to}{behind}")?),
@@ -90,7 +95,7 @@ fn turned(alloc: Global, text: &str, from: &str, to: &str) -> Result<String, Fai
     }
 }
 
-// The files without the one of that path.
+/// The files without the one of that path.
 fn without(alloc: Global, path: &str) -> Result<Vec<MemoryFile>, Fail> {
     let mut kept = Vec::new(alloc);
     for file in city_with(alloc, "none", b"")? {
@@ -101,8 +106,8 @@ fn without(alloc: Global, path: &str) -> Result<Vec<MemoryFile>, Fail> {
     Ok(kept)
 }
 
-// Files of the timetable with a byte order mark, swapped columns, a column more, and rows cut
-// before empty last fields.
+/// Files of the timetable with a byte order mark, swapped columns, a column more, and rows cut
+/// before empty last fields.
 const VARIANTS: [(&str, &str); 5] = [
     ("none", ""),
     ("city/agency.txt", "\u{feff}agency_id,agency_name\nA,City\n"),
@@ -128,8 +133,8 @@ fn the_city_and_its_variants(rt: HostRuntime) -> Result<(), Fail> {
     Ok(())
 }
 
-// Other timetables that load: exceptions of two services on one day, two agencies, a trip whose
-// only place has no time, and a window that ends in the year 3001.
+/// Other timetables that load: exceptions of two services on one day, two agencies, a trip whose
+/// only place has no time, and a window that ends in the year 3001.
 const LOADED: [(&str, &str, &str); 4] = [
     (
         "city/calendar_dates.txt",
@@ -169,7 +174,7 @@ fn a_city_without_calendar(rt: HostRuntime) -> Result<(), Fail> {
     Ok(())
 }
 
-// Files that are absent, and what is said then.
+/// Files that are absent, and what is said then.
 const ABSENT: [(&str, &str); 3] = [
     ("city.toml", "hub: config absent\n"),
     ("city/trips.txt", "hub: load city missing trips.txt\n"),
@@ -195,7 +200,7 @@ fn a_file_that_cannot_be_read(rt: HostRuntime) -> Result<(), Fail> {
     Ok(())
 }
 
-// A file with one text in it turned into another, and what is said then.
+/// A file with one text in it turned into another, and what is said then.
 struct Change {
     path: &'static str,
     file: &'static str,
@@ -270,7 +275,7 @@ const CHANGES: [Change; 9] = [
     },
 ];
 
-// Whether a change is refused with its line.
+/// Whether a change is refused with its line.
 fn refuses(alloc: Global, change: &Change) -> Result<bool, Fail> {
     let other = turned(alloc, change.file, change.from, change.to)?;
     changed(alloc, change.path, other.as_bytes(), 3, change.told)
@@ -293,7 +298,7 @@ fn a_name_that_is_no_text(rt: HostRuntime) -> Result<(), Fail> {
     Ok(())
 }
 
-// The configuration with a comment that makes it so long.
+/// The configuration with a comment that makes it so long.
 fn long_conf(alloc: Global, length: usize) -> Result<Vec<u8>, Fail> {
     let mut conf = CITY_CONF.as_bytes().to_vec(alloc)?;
     conf.push(b'#')?;

@@ -5,10 +5,10 @@ use crate::tests::replayed;
 use std::alloc::Global;
 use std::test::Fail;
 
-// The version 2.0, a whole data set, stamp 5.
+/// The version 2.0, a whole data set, stamp 5.
 const HEADER: &[u8] = b"\x0a\x09\x0a\x032.0\x10\x00\x18\x05";
 
-// Whole messages.
+/// Whole messages.
 const ALONE: [(&[u8], &str); 6] = [
     (b"", "refused malformed 0 missing FeedMessage 1\n"),
     (b"\x0a\x00", "refused malformed 0 missing FeedHeader 1\n"),
@@ -24,9 +24,9 @@ const ALONE: [(&[u8], &str); 6] = [
     (b"\x0a\x05\x0a\x032.0", "refused stamp 0\n"),
 ];
 
-// Bytes behind that header. Where the outer level of a message is at fault, that comes first,
-// though the fault of an entity stands before it; and a field of another wire type is an unknown
-// one.
+/// Bytes behind that header. Where the outer level of a message is at fault, that comes first,
+/// though the fault of an entity stands before it; and a field of another wire type is an unknown
+/// one.
 const BEHIND: [(&[u8], &str); 15] = [
     (b"\x0c", "refused malformed 0 group FeedMessage 0\n"),
     (b"\x4b\x54", "refused malformed 0 group FeedMessage 0\n"),
@@ -69,7 +69,7 @@ const BEHIND: [(&[u8], &str); 15] = [
     (b"\x4b\x08\x01\x4c", "accepted 1\n"),
 ];
 
-// Whether the message of these bytes is answered so.
+/// Whether the message of these bytes is answered so.
 fn is_answered(alloc: Global, header: &[u8], bytes: &[u8], line: &str) -> Result<bool, Fail> {
     let length = header.len() + bytes.len();
     let head = format!(in alloc; "F a\nM a {length}\n")?;

@@ -1,16 +1,19 @@
 //! The commands of the program `hub`, over any files, input, output and clock.
 //!
 //! [`run_offline`] judges the words of the command line, runs the command and answers the program's
-//! exit status. `replay` reads a script from the input; `check` reads a configuration and its
-//! timetables and writes what is in them. Its contract says which bytes were written, by one word
+//! exit status. `replay` reads a script from the input, on the timetables of a configuration or without;
+//! `check` reads a configuration and its timetables and writes what is in them; `board` writes a board
+//! of them. Its contract says which bytes were written, by one word
 //! for each command (`Offline.OutcomeOf`) over what files, input and output tell before and after,
 //! and by the definitions of the commands' outputs in `command_defs`. [`run_on_system`] runs it on
 //! the system's own outside.
 //!
-//! The crate stands on `hub_words` for the words, on `hub_replay` for scripts, on `hub_check` for
-//! the configuration and the timetables, and on `hub_outside` for everything else.
+//! The crate stands on `hub_words` for the words, on `hub_replay` for scripts, on `hub_load` and
+//! `hub_check` for the configuration and the timetables, on `view_answers` for boards, and on
+//! `hub_outside` for everything else.
 #![tactic(auto)]
 
+mod boards;
 mod offline;
 mod system;
 
@@ -18,6 +21,8 @@ pub use offline::run_offline;
 pub use std::alloc::AllocError as NoMemory;
 pub use system::run_on_system;
 
+#[cfg(test)]
+mod board_tests;
 #[cfg(test)]
 mod check_tests;
 #[cfg(test)]

@@ -1,29 +1,40 @@
 //! The commands that run once and end.
 ghost use Rattle.std.specs.Prelude.{◌≡◌, ◌≤◌, ◌⊎◌, None};
+ghost use Rattle.std.specs.Arc.{arc_value};
 ghost use Rattle.hub_outside.specs.Outside.{file_store, outside, stream};
 ghost use Rattle.hub_replay.specs.Outcome.{Last};
+ghost use Rattle.hub_words.specs.Answer.{asked_seen};
+ghost use Rattle.view_answers.specs.Questions.{MayAsk};
 ghost use Rattle.command_defs.specs.Words.{command_of};
-ghost use Rattle.command_defs.specs.Commands.{output_where_told};
-ghost use Rattle.hub_main.specs.Offline.{CheckOutcome, IsExitStatus, OutcomeOf, ReadsFiles, ReadsInput, UsageOutcome, WritesWhole};
+ghost use Rattle.command_defs.specs.Commands.{board_output, output_where_told};
+ghost use Rattle.hub_main.specs.Offline.{BoardOutcome, CheckOutcome, IsExitStatus, OutcomeOf, PrintsFault, PrintsOutput, ReadsFiles, ReadsInput, ReplayWithOutcome, UsageOutcome, WritesWhole};
 
-use hub_check::{CheckFault, check};
+use crate::boards::{board_of, load_shared};
+use hub_check::check;
+use hub_load::HubFault;
 use hub_outside::{Clock, Files, OutputFault, Sink, Source, write_all};
 use hub_replay::replay;
 use hub_replay::statuses::{DONE, FAULT, NO_MEMORY, OUTPUT_FAULT};
-use hub_words::{Command, WordsFault, read_words};
+use hub_words::{BoardAsked, Command, WordsFault, read_words};
 use rt_types::Text;
+use sched_types::Plans;
 use std::alloc::Global;
+use std::sync::Arc;
 
 /// The words are no command.
 const USAGE: u8 = 2;
 /// A configuration or a timetable is refused.
 const REFUSED_CONF: u8 = 3;
+/// The schedule or the stop of a board isn't there.
+const NOT_FOUND: u8 = 8;
 
 /// Runs the command of the words, which are those behind the program's name, and gives the exit
 /// status: 0 where it was done, 2 where the words are no command, 3 where a configuration or a
 /// timetable is refused, 4 where the input or a file failed, 5 where the output did, 6 where memory
-/// ran out, and 7 where a script is refused. The commands are `replay`, which reads a script on the
-/// input and asks for no file, and `check CONFIG`, which reads files and no input.
+/// ran out, 7 where a script is refused, and 8 where the schedule or the stop of a board isn't there.
+/// The commands are `replay`, which reads a script on the input and asks for no file, `replay CONFIG`,
+/// which reads files and then a script, and `check CONFIG` and `board CONFIG ..`, which read files and
+/// no input.
 ///
 /// It always returns, and reads no clock.
 pub fn run_offline<F: Files, S: Source, K: Sink, C: Clock>(
@@ -56,14 +67,90 @@ pub fn run_offline<F: Files, S: Source, K: Sink, C: Clock>(
     ensures clock { clock.new ≡ clock.old }
 {
     match read_words(alloc, words) {
-        Ok(Command::Replay) => replay(alloc, input, out),
+        Ok(Command::Replay) => replay(alloc, None, input, out),
+        Ok(Command::ReplayWith(path)) => run_replay(alloc, files, path, input, out),
         Ok(Command::Check(path)) => run_check(alloc, files, path, out),
+        Ok(Command::Board { config, asked }) => run_board(alloc, files, config, &asked, out),
         Err(WordsFault::Usage) => run_usage(out),
         Err(WordsFault::NoMemory) => NO_MEMORY,
     }
 }
 
-// `check`: the configuration at the path, and its timetables.
+/// `replay` with the configuration at the path: a script on its hub.
+fn run_replay<F: Files, S: Source, K: Sink>(
+    alloc: Global,
+    files: &mut F,
+    path: &str,
+    input: &mut S,
+    out: &mut K,
+) -> u8
+    ensures outcome { ReplayWithOutcome path.now
+        (outside (file_store (F.contents files.old) (F.faults files.old))
+        (stream (S.left input.old) (S.faults input.old))
+        (stream (K.written out.old) (K.faults out.old)))
+        (outside (file_store (F.contents files.new) (F.faults files.new))
+        (stream (S.left input.new) (S.faults input.new))
+        (stream (K.written out.new) (K.faults out.new)))
+        result }
+    ensures same { F.contents files.new ≡ F.contents files.old }
+{
+    match load_shared(alloc, files, path) {
+        Ok(plans) => replay(alloc, Some(plans), input, out),
+        Err(fault) => write_fault(&fault, out),
+    }
+}
+
+/// `board`: a board of the timetables of the configuration at the path.
+fn run_board<F: Files, K: Sink>(
+    alloc: Global,
+    files: &mut F,
+    path: &str,
+    asked: &BoardAsked<'_>,
+    out: &mut K,
+) -> u8
+    requires { MayAsk (asked_seen asked.now) }
+    ensures outcome { BoardOutcome path.now (board_output (asked_seen asked.now))
+        (file_store (F.contents files.old) (F.faults files.old))
+        (file_store (F.contents files.new) (F.faults files.new))
+        (stream (K.written out.old) (K.faults out.old))
+        (stream (K.written out.new) (K.faults out.new))
+        result }
+    ensures same { F.contents files.new ≡ F.contents files.old }
+{
+    match load_shared(alloc, files, path) {
+        Ok(plans) => write_board(alloc, plans, asked, out),
+        Err(fault) => write_fault(&fault, out),
+    }
+}
+
+/// The board of these timetables.
+fn write_board<K: Sink>(alloc: Global, plans: Arc<Plans>, asked: &BoardAsked<'_>, out: &mut K) -> u8
+    requires { MayAsk (asked_seen asked.now) }
+    ensures { PrintsOutput (board_output (asked_seen asked.now) (arc_value plans))
+        (stream (K.written out.old) (K.faults out.old))
+        (stream (K.written out.new) (K.faults out.new))
+        result }
+{
+    match board_of(alloc, plans, asked) {
+        Ok(Some(bytes)) => write_line(&bytes, DONE, out),
+        Ok(None) => write_line(b"hub: not found\n", NOT_FOUND, out),
+        Err(_) => NO_MEMORY,
+    }
+}
+
+/// Why there is no hub.
+fn write_fault<K: Sink>(fault: &HubFault, out: &mut K) -> u8
+    ensures { PrintsFault fault.now (stream (K.written out.old) (K.faults out.old))
+        (stream (K.written out.new) (K.faults out.new)) result }
+{
+    match fault {
+        HubFault::Refused(line) => write_line(line, REFUSED_CONF, out),
+        HubFault::FileFault => write_line(b"hub: file fault\n", FAULT, out),
+        HubFault::NoMemory => NO_MEMORY,
+    }
+}
+
+/// `check`: the configuration at the path, and its timetables.
 fn run_check<F: Files, K: Sink>(alloc: Global, files: &mut F, path: &str, out: &mut K) -> u8
     ensures outcome { CheckOutcome path.now
         (file_store (F.contents files.old) (F.faults files.old))
@@ -75,13 +162,13 @@ fn run_check<F: Files, K: Sink>(alloc: Global, files: &mut F, path: &str, out: &
 {
     match check(alloc, files, path) {
         Ok(lines) => write_line(&lines, DONE, out),
-        Err(CheckFault::Refused(line)) => write_line(&line, REFUSED_CONF, out),
-        Err(CheckFault::FileFault) => write_line(b"hub: file fault\n", FAULT, out),
-        Err(CheckFault::NoMemory) => NO_MEMORY,
+        Err(HubFault::Refused(line)) => write_line(&line, REFUSED_CONF, out),
+        Err(HubFault::FileFault) => write_line(b"hub: file fault\n", FAULT, out),
+        Err(HubFault::NoMemory) => NO_MEMORY,
     }
 }
 
-// Words that are no command.
+/// Words that are no command.
 fn run_usage<K: Sink>(out: &mut K) -> u8
     ensures { UsageOutcome (stream (K.written out.old) (K.faults out.old))
         (stream (K.written out.new) (K.faults out.new)) result }
@@ -89,7 +176,7 @@ fn run_usage<K: Sink>(out: &mut K) -> u8
     write_line(b"hub: usage\n", USAGE, out)
 }
 
-// Writes lines, and nothing else. The status is the given one, unless the output fails.
+/// Writes lines, and nothing else. The status is the given one, unless the output fails.
 fn write_line<K: Sink>(line: &[u8], status: u8, out: &mut K) -> u8
     ensures { Last status line.now result
         (K.written out.old) (K.written out.new) (K.faults out.old) (K.faults out.new) }

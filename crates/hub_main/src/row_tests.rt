@@ -4,7 +4,7 @@ use crate::tests::replayed;
 use std::alloc::Global;
 use std::test::Fail;
 
-// What a script offers to the feed a, and what it prints together with the combined feed.
+/// What a script offers to the feed a, and what it prints together with the combined feed.
 #[derive(Drop)]
 struct Row {
     messages: &'static [&'static [u8]],
@@ -84,8 +84,8 @@ const ROWS: [Row; 11] = [
     },
 ];
 
-// Whether the messages, offered to the feed a one after another, print that together with the
-// combined feed.
+/// Whether the messages, offered to the feed a one after another, print that together with the
+/// combined feed.
 fn tells(alloc: Global, messages: &[&[u8]], told: &[u8]) -> Result<bool, Fail> {
     let mut script = b"F a\n".to_vec(alloc)?;
     for message in messages {
@@ -107,7 +107,7 @@ fn rows_of_one_feed(rt: HostRuntime) -> Result<(), Fail> {
     Ok(())
 }
 
-// A message of so many bytes behind a header: the rest is an unknown field.
+/// A message of so many bytes behind a header: the rest is an unknown field.
 fn long_message(alloc: Global, rest: usize, length: &[u8]) -> Result<Vec<u8>, Fail> {
     let mut message = b"\n\t\n\x032.0\x10\x00\x18\x05J".to_vec(alloc)?;
     message.extend_from_slice(length)?;
@@ -115,7 +115,7 @@ fn long_message(alloc: Global, rest: usize, length: &[u8]) -> Result<Vec<u8>, Fa
     Ok(message)
 }
 
-// A message has 16,777,216 bytes at most.
+/// A message has 16,777,216 bytes at most.
 #[test]
 fn longest_message(rt: HostRuntime) -> Result<(), Fail> {
     let alloc = rt.alloc();
@@ -128,13 +128,13 @@ fn longest_message(rt: HostRuntime) -> Result<(), Fail> {
     Ok(())
 }
 
-// Whether a script ends with that status and prints that.
+/// Whether a script ends with that status and prints that.
 fn ends(alloc: Global, script: &[u8], status: u8, told: &[u8]) -> Result<bool, Fail> {
     let got = replayed(alloc, script)?;
     Ok(got.status == status && got.written.as_slice() == told)
 }
 
-// A script whose first record asks for a schedule of so many bytes.
+/// A script whose first record asks for a schedule of so many bytes.
 fn long_line(alloc: Global, count: usize) -> Result<Vec<u8>, Fail> {
     let mut script = b"O ".to_vec(alloc)?;
     script.extend_from_slice(&vec![in alloc; b'x'; count]?)?;
@@ -142,7 +142,7 @@ fn long_line(alloc: Global, count: usize) -> Result<Vec<u8>, Fail> {
     Ok(script)
 }
 
-// A script that declares so many feeds.
+/// A script that declares so many feeds.
 fn many_feeds(alloc: Global, count: u32) -> Result<Vec<u8>, Fail> {
     let mut script = Vec::new(alloc);
     for number in 0..count {
@@ -153,8 +153,8 @@ fn many_feeds(alloc: Global, count: u32) -> Result<Vec<u8>, Fail> {
     Ok(script)
 }
 
-// A line has 4096 bytes at most, its LF included; a script has 64 feeds at most; a length has 12
-// digits.
+/// A line has 4096 bytes at most, its LF included; a script has 64 feeds at most; a length has 12
+/// digits.
 #[test]
 fn limits_of_scripts(rt: HostRuntime) -> Result<(), Fail> {
     let alloc = rt.alloc();

@@ -29,8 +29,8 @@ pub fn run_on_system<R: rt::Files + rt::Clock, I: Read + Drop, O: Write + Drop>(
     run_offline(alloc, &words, &mut files, &mut input, &mut out, &mut clock)
 }
 
-// The words behind the program's name. Where one is not UTF-8 there are none: no command has such a
-// word, and none has no words.
+/// The words behind the program's name. Where one is not UTF-8 there are none: no command has such a
+/// word, and none has no words.
 fn words_of(alloc: Global, words: io::Result<Args>) -> Result<Vec<Text>, NoMemory> {
     match words {
         Ok(words) => texts_behind_first(alloc, words),

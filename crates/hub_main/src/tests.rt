@@ -5,17 +5,17 @@ use rt_types::Text;
 use std::alloc::Global;
 use std::test::Fail;
 
-// GTFS Realtime 2.0, a full data set, stamp 5.
+/// GTFS Realtime 2.0, a full data set, stamp 5.
 const FIVE: &[u8] = b"\n\t\n\x032.0\x10\x00\x18\x05";
 
-// What came of a replay: its status, and what it wrote.
+/// What came of a replay: its status, and what it wrote.
 #[derive(Debug, PartialEq, Drop)]
 pub(crate) struct Ran {
     pub(crate) status: u8,
     pub(crate) written: Vec<u8>,
 }
 
-// Runs the words on the script, read in pieces of those sizes; the calls of those numbers fail.
+/// Runs the words on the script, read in pieces of those sizes; the calls of those numbers fail.
 fn run_words(
     alloc: Global,
     words: &[Text],
@@ -35,7 +35,7 @@ fn run_words(
     })
 }
 
-// Replays a script, read at once and with no fault.
+/// Replays a script, read at once and with no fault.
 pub(crate) fn replayed(alloc: Global, script: &[u8]) -> Result<Ran, Fail> {
     let words = vec![in alloc; Text::new(alloc, "replay")?]?;
     run_words(
@@ -48,7 +48,7 @@ pub(crate) fn replayed(alloc: Global, script: &[u8]) -> Result<Ran, Fail> {
     )
 }
 
-// The script that offers the message twice.
+/// The script that offers the message twice.
 fn twice(alloc: Global) -> Result<Vec<u8>, Fail> {
     let mut script = b"F a\nM a 11\n".to_vec(alloc)?;
     script.extend_from_slice(FIVE)?;
@@ -58,7 +58,7 @@ fn twice(alloc: Global) -> Result<Vec<u8>, Fail> {
     Ok(script)
 }
 
-// What it prints.
+/// What it prints.
 fn told_twice(alloc: Global) -> Result<Vec<u8>, Fail> {
     let mut told = b"accepted 1\nrefused stale 5 5\nfeed 11\n".to_vec(alloc)?;
     told.extend_from_slice(FIVE)?;

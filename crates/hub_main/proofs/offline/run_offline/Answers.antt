@@ -1,5 +1,9 @@
 use Rattle.hub_outside.specs.Outside.{file_store, outside, stream}
 use Rattle.command_defs.specs.Words.{command_of}
+use Rattle.std.proofs.Common.{◌≡◌, Some, subst}
+use Rattle.hub_words.specs.Answer.{asked_seen, seen}
+use Rattle.hub_words.specs.declared.read.Command.TheVariants.{Board}
+use Rattle.hub_main.proofs.Asked.{asked_range}
 use Rattle.hub_main.proofs.Commands.{short_outcome}
 use Rattle.hub_main.proofs.offline.run_offline.Goals as goal
 
@@ -9,3 +13,10 @@ returns-in-Err-NoMemory-clause-outcome g c =
     (file_store (g.F.Files.contents c.args.files.now) (g.F.Files.faults c.args.files.now))
     (stream (g.S.Source.left c.args.input.now) (g.S.Source.faults c.args.input.now))
     (stream (g.K.Sink.written c.args.out.now) (g.K.Sink.faults c.args.out.now)))
+
+pub run_board-requires : goal.run_board-requires
+run_board-requires g c =
+    let words = c.args.words.now in
+    let is : command_of words ≡ Some (seen (Board c.in-Ok-Board.config c.in-Ok-Board.asked)) =
+    subst (λ command. command_of words ≡ Some (seen command)) c.in-Ok-Board.field-0-is c.in-Ok-Board.ensures in
+    asked_range words c.in-Ok-Board.config.now (asked_seen c.in-Ok-Board.asked) is
