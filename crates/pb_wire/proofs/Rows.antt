@@ -17,7 +17,7 @@ use Rattle.answer_defs.proofs.Steps.{bind_ok, ok_is}
 use Rattle.wire_defs.proofs.Bytes.{AreBytes, AreBytes-behind}
 use Rattle.wire_defs.proofs.Found.{field_found, field_long, fields_found, fields_only}
 use Rattle.pb_wire.specs.Parts.{cause_of, IsFault}
-use Rattle.pb_wire.specs.Places.{place, payload_place, places, told_places, FitsIn, payload_in, field_in, fields_in, LiesBetween, LiesWithin, AreInRow}
+use Rattle.pb_wire.specs.Places.{place, payload_place, places, placed_fields, FitsIn, payload_in, field_in, fields_in, LiesBetween, LiesWithin, AreInRow}
 use Rattle.pb_wire.specs.declared.field.Field as placed
 use Rattle.pb_wire.specs.declared.fault.WireFault.{WireFault}
 use Rattle.pb_wire.specs.declared.fault.WireFault.TheVariants as named
@@ -92,11 +92,11 @@ module _ (noted : List placed.Field) (at : ℕ) (rest bytes : List ℕ) (so_far 
         progress = lists.goes_on [] so_far.done rest bytes so_far.progress (so_far.done ++ x ∷ []) x after found refl;
       }
 
-  pub stops : (fault : WireFault) → 0 < length rest → IsFault (field_at rest) fault → IsCause (told_places (fields_of bytes)) (cause_of fault)
+  pub stops : (fault : WireFault) → 0 < length rest → IsFault (field_at rest) fault → IsCause (placed_fields (fields_of bytes)) (cause_of fault)
   stops fault some found =
-      causes (told_places (fields_of bytes)) fault (fails_on (field_at rest) (told_places (fields_of bytes)) fault (λ told e. rw (lists.stops [] so_far.done rest bytes so_far.progress told some e) refl) found)
+      causes (placed_fields (fields_of bytes)) fault (fails_on (field_at rest) (placed_fields (fields_of bytes)) fault (λ told e. rw (lists.stops [] so_far.done rest bytes so_far.progress told some e) refl) found)
 
-  pub ends : length rest ≡ 0 → told_places (fields_of bytes) ≡ Ok noted
+  pub ends : length rest ≡ 0 → placed_fields (fields_of bytes) ≡ Ok noted
   ends none =
       let told : fields_of bytes ≡ Ok so_far.done = sym (lists.with_front-nil (fields_of bytes)) ∙ lists.ends [] so_far.done rest bytes so_far.progress none in
       rw (told, so_far.noted_is) refl
@@ -164,12 +164,12 @@ fields_in_row (f ∷ fs) at limit e =
 
 module _ (bytes : List ℕ) (fits : AreBytes bytes) where
   -- the fields whose places were told
-  told : (v : Vec placed.Field) → told_places (fields_of bytes) ≡ Ok v.items → (fields : List Field) × (fields_of bytes ≡ Ok fields) × (v.items ≡ places 0 fields) × HasFields bytes fields
+  told : (v : Vec placed.Field) → placed_fields (fields_of bytes) ≡ Ok v.items → (fields : List Field) × (fields_of bytes ≡ Ok fields) × (v.items ≡ places 0 fields) × HasFields bytes fields
   told v e =
       let b = bind_ok (fields_of bytes) (λ fields. Ok (places 0 fields)) v.items e in
       (b.0, b.1, sym (ok_is (places 0 b.0) v.items b.2), fields_found bytes b.0 fits b.1)
 
-  pub is_exact : (answer : Result (Vec placed.Field) WireFault) → AsDefined (λ v. v.items) cause_of (told_places (fields_of bytes)) answer → AsDefined (λ v. fields_in bytes v.items) cause_of (fields_of bytes) answer
+  pub is_exact : (answer : Result (Vec placed.Field) WireFault) → AsDefined (λ v. v.items) cause_of (placed_fields (fields_of bytes)) answer → AsDefined (λ v. fields_in bytes v.items) cause_of (fields_of bytes) answer
   is_exact (Ok v) h =
       let t = told v h in
       t.1 ∙ ap (λ (fs : List Field). Ok fs) (sym (ap (fields_in bytes) t.2 ∙ fields_right t.0 [] bytes t.3.each t.3.whole))
@@ -177,43 +177,43 @@ module _ (bytes : List ℕ) (fits : AreBytes bytes) where
       fails_told fault h
     where
       -- places are told where fields are
-      told_fault : (told : Result (List Field) Fault) (first : Fault) → told_places told ≡ Err first → told ≡ Err first
+      told_fault : (told : Result (List Field) Fault) (first : Fault) → placed_fields told ≡ Err first → told ≡ Err first
       told_fault (Ok fields) first e = absurd cc
       told_fault (Err other) first e = cc
 
-      fails_told : (fault : WireFault) → IsCause (told_places (fields_of bytes)) (cause_of fault) → IsCause (fields_of bytes) (cause_of fault)
+      fails_told : (fault : WireFault) → IsCause (placed_fields (fields_of bytes)) (cause_of fault) → IsCause (fields_of bytes) (cause_of fault)
       fails_told named.Cut h = told_fault (fields_of bytes) _ h
       fails_told named.Varint h = told_fault (fields_of bytes) _ h
       fails_told named.Tag h = told_fault (fields_of bytes) _ h
       fails_told named.Group h = told_fault (fields_of bytes) _ h
       fails_told named.NoMemory h = tt
 
-  pub is_found : (answer : Result (Vec placed.Field) WireFault) → AsDefined (λ v. v.items) cause_of (told_places (fields_of bytes)) answer → IfOk answer (λ v. HasFields bytes (fields_in bytes v.items))
+  pub is_found : (answer : Result (Vec placed.Field) WireFault) → AsDefined (λ v. v.items) cause_of (placed_fields (fields_of bytes)) answer → IfOk answer (λ v. HasFields bytes (fields_in bytes v.items))
   is_found (Ok v) h =
       let t = told v h in
       subst (HasFields bytes) (sym (ap (fields_in bytes) t.2 ∙ fields_right t.0 [] bytes t.3.each t.3.whole)) t.3
   is_found (Err e) h = tt
 
-  pub is_within : (answer : Result (Vec placed.Field) WireFault) → AsDefined (λ v. v.items) cause_of (told_places (fields_of bytes)) answer → IfOk answer (λ v. All (LiesWithin (length bytes)) v.items)
+  pub is_within : (answer : Result (Vec placed.Field) WireFault) → AsDefined (λ v. v.items) cause_of (placed_fields (fields_of bytes)) answer → IfOk answer (λ v. All (LiesWithin (length bytes)) v.items)
   is_within (Ok v) h =
       let t = told v h in
       let each : AllByRecursion (LiesWithin (length bytes)) (places 0 t.0) = fields_within t.0 0 (length bytes) t.3.each (omega (arith, ap length t.3.whole)) in
       subst (All (LiesWithin (length bytes))) (sym t.2) (All-from_recursion (LiesWithin (length bytes)) (places 0 t.0) each)
   is_within (Err e) h = tt
 
-  pub is_row : (answer : Result (Vec placed.Field) WireFault) → AsDefined (λ v. v.items) cause_of (told_places (fields_of bytes)) answer → IfOk answer (λ v. AreInRow 0 (length bytes) v.items)
+  pub is_row : (answer : Result (Vec placed.Field) WireFault) → AsDefined (λ v. v.items) cause_of (placed_fields (fields_of bytes)) answer → IfOk answer (λ v. AreInRow 0 (length bytes) v.items)
   is_row (Ok v) h =
       let t = told v h in
       subst (AreInRow 0 (length bytes)) (sym t.2) (fields_in_row t.0 0 (length bytes) (omega (arith, ap length t.3.whole)))
   is_row (Err e) h = tt
 
 -- where the bytes spell fields, nothing but want of memory is answered
-pub is_none : (bytes : List ℕ) (answer : Result (Vec placed.Field) WireFault) (fault : WireFault) → AsDefined (λ v. v.items) cause_of (told_places (fields_of bytes)) answer → answer ≡ Err fault → (fault ≡ named.NoMemory → ⊥) → (fields : List Field) → HasFields bytes fields → ⊥
+pub is_none : (bytes : List ℕ) (answer : Result (Vec placed.Field) WireFault) (fault : WireFault) → AsDefined (λ v. v.items) cause_of (placed_fields (fields_of bytes)) answer → answer ≡ Err fault → (fault ≡ named.NoMemory → ⊥) → (fields : List Field) → HasFields bytes fields → ⊥
 is_none bytes (Ok v) fault h e other fields spelled = cc
 is_none bytes (Err first) fault h e other fields spelled =
     let first_is : first ≡ fault = cc in
-    let ok : told_places (fields_of bytes) ≡ Ok (places 0 fields) = rw (fields_only bytes fields spelled) refl in
-    no_fault fault (told_places (fields_of bytes)) (places 0 fields) ok other (subst (λ (e : WireFault). IsCause (told_places (fields_of bytes)) (cause_of e)) first_is h)
+    let ok : placed_fields (fields_of bytes) ≡ Ok (places 0 fields) = rw (fields_only bytes fields spelled) refl in
+    no_fault fault (placed_fields (fields_of bytes)) (places 0 fields) ok other (subst (λ (e : WireFault). IsCause (placed_fields (fields_of bytes)) (cause_of e)) first_is h)
   where
     no_fault : (fault : WireFault) (told : Result (List placed.Field) Fault) (fs : List placed.Field) → told ≡ Ok fs → (fault ≡ named.NoMemory → ⊥) → IsCause told (cause_of fault) → ⊥
     no_fault named.Cut told fs e other h = cc

@@ -77,6 +77,6 @@ unfoldable pub places : ℕ → List wire.Field → List Field
 places at [] = []
 places at (f ∷ fs) = place at f ∷ places (at + length f.raw) fs
 
--- the places of the fields that are told
-abbrev pub told_places : Result (List wire.Field) wire.Fault → Result (List Field) wire.Fault
-told_places told = told >>= λ fields. Ok (places 0 fields)
+-- the fields that reading gives, by their places
+abbrev pub placed_fields : Result (List wire.Field) wire.Fault → Result (List Field) wire.Fault
+placed_fields told = told >>= λ fields. Ok (places 0 fields)

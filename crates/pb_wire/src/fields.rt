@@ -6,7 +6,7 @@ ghost use Rattle.wire_defs.specs.Field as wire;
 ghost use Rattle.wire_defs.specs.Spelling.{HasFields};
 ghost use Rattle.wire_defs.specs.Reading.{fields_of};
 ghost use Rattle.pb_wire.specs.Parts.{part_seen, payload_seen, cause_of};
-ghost use Rattle.pb_wire.specs.Places.{fields_in, LiesWithin, AreInRow, FitsIn, place, told_places};
+ghost use Rattle.pb_wire.specs.Places.{fields_in, LiesWithin, AreInRow, FitsIn, place, placed_fields};
 
 use crate::fault::WireFault;
 use crate::field::{Field, Payload};
@@ -35,7 +35,7 @@ pub fn read_fields(alloc: Global, bytes: &[u8]) -> Result<Vec<Field>, WireFault>
 }
 
 fn placed_fields(alloc: Global, bytes: &[u8]) -> Result<Vec<Field>, WireFault>
-    ensures { AsDefined (λ v. v.items) cause_of (told_places (fields_of bytes.now)) result }
+    ensures { AsDefined (λ v. v.items) cause_of (placed_fields (fields_of bytes.now)) result }
 {
     let mut fields = Vec::new(alloc);
     let mut at = 0usize;

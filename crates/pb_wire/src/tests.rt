@@ -117,7 +117,7 @@ fn nested(rt: HostRuntime) {
 }
 
 #[test]
-fn joined(rt: HostRuntime) -> Result<(), Fail> {
+fn parts_of_several_payloads_stand_in_a_row(rt: HostRuntime) -> Result<(), Fail> {
     let mut parts = Vec::new(rt.alloc());
     read_parts(b"\x12\x02hi", &mut parts)?;
     read_parts(&[0x08, 0x96, 0x01, 0x4b, 0x4c, 0x10, 0x05], &mut parts)?;

@@ -8,7 +8,7 @@ use Rattle.std.specs.Ordering.{ordering_index}
 use Rattle.std.specs.declared.sync.Arc.{Arc}
 use Rattle.std.specs.declared.alloc.Global.{Global}
 use Rattle.std.proofs.lemmas.List.{length-map, map-append, map-set}
-use Rattle.shared_list.specs.Order.{key_cmp, entries, joined, without, lead, IsGap, IsAt, IsHome, Rises, AreParts}
+use Rattle.shared_list.specs.Order.{key_cmp, entries, all_entries, without, lead, IsGap, IsAt, IsHome, Rises, AreParts}
 use Rattle.shared_list.specs.Parts.{parts_of}
 use Rattle.shared_list.proofs.Places.{searched, without_at, without_gap, find_at, find_gap, IsAt-map, IsGap-map, Rises-map}
 use Rattle.shared_list.proofs.Homes.{Rises-leads, Rises-part, home_at, home_before, home_first, put_home, put_home_split, without_home, without_home_all, without_home_none, find_home, filled_set, filled_insert, filled_remove}
@@ -77,20 +77,20 @@ module _ {X : Type 0} (key : X → List ℕ) (k : List ℕ) (chunks : List (Chun
   pub Rises-here : AreParts key (parts_of chunks) → IsHome key k (parts_of chunks) i → items ≡ get_or (parts_of chunks) i [] → Rises key items
   Rises-here are home is = subst (λ xs. Rises key xs) (sym is) (Rises-part key (parts_of chunks) i [] are home.within)
 
-  pub find_there : (n : ℕ) (d : X) → IsHome key k (parts_of chunks) i → items ≡ get_or (parts_of chunks) i [] → IsAt key k items n → find key_cmp k (joined key (parts_of chunks)) ≡ Some (get_or items n d)
+  pub find_there : (n : ℕ) (d : X) → IsHome key k (parts_of chunks) i → items ≡ get_or (parts_of chunks) i [] → IsAt key k items n → find key_cmp k (all_entries key (parts_of chunks)) ≡ Some (get_or items n d)
   find_there n d home is at = find_home key k (parts_of chunks) i [] home ∙ ap (λ xs. find key_cmp k (entries key xs)) (sym is) ∙ find_at key items k n d at
 
-  pub find_nowhere : (n : ℕ) → IsHome key k (parts_of chunks) i → items ≡ get_or (parts_of chunks) i [] → IsGap key k items n → find key_cmp k (joined key (parts_of chunks)) ≡ None
+  pub find_nowhere : (n : ℕ) → IsHome key k (parts_of chunks) i → items ≡ get_or (parts_of chunks) i [] → IsGap key k items n → find key_cmp k (all_entries key (parts_of chunks)) ≡ None
   find_nowhere n home is gap = find_home key k (parts_of chunks) i [] home ∙ ap (λ xs. find key_cmp k (entries key xs)) (sym is) ∙ find_gap key items k n gap
 
-  pub without_none : (n : ℕ) → IsHome key k (parts_of chunks) i → items ≡ get_or (parts_of chunks) i [] → IsGap key k items n → joined key (parts_of chunks) ≡ without k (joined key (parts_of chunks))
+  pub without_none : (n : ℕ) → IsHome key k (parts_of chunks) i → items ≡ get_or (parts_of chunks) i [] → IsGap key k items n → all_entries key (parts_of chunks) ≡ without k (all_entries key (parts_of chunks))
   without_none n home is gap = sym (without_home_none key k (parts_of chunks) i [] home (subst (λ xs. without k (entries key xs) ≡ entries key xs) is (without_gap key items k n gap)))
 
   -- the one item of a chunk goes, and the chunk with it
-  pub without_chunk : (n : ℕ) (after : List (Chunk X)) → IsHome key k (parts_of chunks) i → items ≡ get_or (parts_of chunks) i [] → IsAt key k items n → length items ≡ 1 → after ≡ remove chunks i → joined key (parts_of after) ≡ without k (joined key (parts_of chunks))
+  pub without_chunk : (n : ℕ) (after : List (Chunk X)) → IsHome key k (parts_of chunks) i → items ≡ get_or (parts_of chunks) i [] → IsAt key k items n → length items ≡ 1 → after ≡ remove chunks i → all_entries key (parts_of after) ≡ without k (all_entries key (parts_of chunks))
   without_chunk n after home is at one gone =
-      ap (λ cs. joined key (parts_of cs)) gone
-      ∙ ap (joined key) (remove_parts chunks i)
+      ap (λ cs. all_entries key (parts_of cs)) gone
+      ∙ ap (all_entries key) (remove_parts chunks i)
       ∙ without_home_all key k (parts_of chunks) i [] home (subst (λ xs. [] ≡ without k (entries key xs)) is (sym (ap (entries key) (none_left items n one at.within)) ∙ without_at key items k n at))
     where
       none_left : (xs : List X) (m : ℕ) → length xs ≡ 1 → m < length xs → remove xs m ≡ []
@@ -100,9 +100,9 @@ module _ {X : Type 0} (key : X → List ℕ) (k : List ℕ) (chunks : List (Chun
       none_left (x ∷ y ∷ xs) m e h = absurd (omega arith)
 
   -- one of several goes
-  pub without_item : (n : ℕ) (before after : Chunk X) → IsHome key k (parts_of chunks) i → items ≡ get_or (parts_of chunks) i [] → IsAt key k items n → before ≡ get_or chunks i before → after.value.items ≡ remove before.value.items n → joined key (parts_of (set chunks i after)) ≡ without k (joined key (parts_of chunks))
+  pub without_item : (n : ℕ) (before after : Chunk X) → IsHome key k (parts_of chunks) i → items ≡ get_or (parts_of chunks) i [] → IsAt key k items n → before ≡ get_or chunks i before → after.value.items ≡ remove before.value.items n → all_entries key (parts_of (set chunks i after)) ≡ without k (all_entries key (parts_of chunks))
   without_item n before after home is at seen gone =
-      ap (joined key) (set_parts chunks i after)
+      ap (all_entries key) (set_parts chunks i after)
       ∙ without_home key k (parts_of chunks) i [] after.value.items home
       (ap (entries key) (gone ∙ ap (λ xs. remove xs n) (part_at chunks i before home.within seen))
       ∙ subst (λ xs. entries key (remove xs n) ≡ without k (entries key xs)) is (without_at key items k n at))
@@ -125,16 +125,16 @@ module _ {X : Type 0} (key : X → List ℕ) (k : List ℕ) (chunks : List (Chun
 -- ---- an item more
 
 module _ {X : Type 0} (key : X → List ℕ) (x : X) (chunks : List (Chunk X)) (i : ℕ) (before after : Chunk X) where
-  pub put_kept : IsHome key (key x) (parts_of chunks) i → before ≡ get_or chunks i before → entries key (after.value.items ++ []) ≡ put key_cmp (key x) x (entries key before.value.items) → joined key (parts_of (set chunks i after)) ≡ put key_cmp (key x) x (joined key (parts_of chunks))
+  pub put_kept : IsHome key (key x) (parts_of chunks) i → before ≡ get_or chunks i before → entries key (after.value.items ++ []) ≡ put key_cmp (key x) x (entries key before.value.items) → all_entries key (parts_of (set chunks i after)) ≡ put key_cmp (key x) x (all_entries key (parts_of chunks))
   put_kept home seen is =
-      ap (joined key) (set_parts chunks i after)
+      ap (all_entries key) (set_parts chunks i after)
       ∙ put_home key (key x) x (parts_of chunks) i [] after.value.items home
       (ap (entries key) (sym (append-nil after.value.items)) ∙ is ∙ ap (λ xs. put key_cmp (key x) x (entries key xs)) (part_at chunks i before home.within seen))
 
-  pub put_cut : (j : ℕ) (rest : Vec X Global) (behind : Chunk X) → IsHome key (key x) (parts_of chunks) i → before ≡ get_or chunks i before → entries key (after.value.items ++ rest.items) ≡ put key_cmp (key x) x (entries key before.value.items) → j ≡ i + 1 → behind.value ≡ rest → joined key (parts_of (insert (set chunks i after) j behind)) ≡ put key_cmp (key x) x (joined key (parts_of chunks))
+  pub put_cut : (j : ℕ) (rest : Vec X Global) (behind : Chunk X) → IsHome key (key x) (parts_of chunks) i → before ≡ get_or chunks i before → entries key (after.value.items ++ rest.items) ≡ put key_cmp (key x) x (entries key before.value.items) → j ≡ i + 1 → behind.value ≡ rest → all_entries key (parts_of (insert (set chunks i after) j behind)) ≡ put key_cmp (key x) x (all_entries key (parts_of chunks))
   put_cut j rest behind home seen is next held =
-      ap (joined key) (insert_parts (set chunks i after) j behind)
-      ∙ ap (λ parts. joined key (insert parts j behind.value.items)) (set_parts chunks i after)
+      ap (all_entries key) (insert_parts (set chunks i after) j behind)
+      ∙ ap (λ parts. all_entries key (insert parts j behind.value.items)) (set_parts chunks i after)
       ∙ put_home_split key (key x) x (parts_of chunks) i j [] after.value.items behind.value.items home (omega arith)
       (sym (map-append (λ y. (key y, y)) after.value.items behind.value.items)
       ∙ ap (λ v. entries key (after.value.items ++ v.items)) held

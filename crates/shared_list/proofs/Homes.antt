@@ -6,19 +6,19 @@ use Rattle.std.specs.FinMap.{find, put, is_sorted}
 use Rattle.std.specs.FinMap.Entries.{below_all}
 use Rattle.std.proofs.lemmas.Grind.{flat_map-append}
 use Rattle.std.proofs.lemmas.List.{take-append-drop, set_split}
-use Rattle.shared_list.specs.Order.{key_cmp, entries, joined, without, AllBelow, AllAbove, IsGap, IsAt, IsHome, Rises, AreParts, lead}
+use Rattle.shared_list.specs.Order.{key_cmp, entries, all_entries, without, AllBelow, AllAbove, IsGap, IsAt, IsHome, Rises, AreParts, lead}
 use Rattle.shared_list.proofs.Middle.{put_middle, without_middle, find_middle, above_less, below_less, below_equal, sorted_behind, sorted_before, sorted_back, sorted_front, below_back, second_so, first_so, both_so}
 use Rattle.shared_list.proofs.Places.{split_here}
 
 module _ {X : Type 0} (key : X → List ℕ) where
   -- a key below the lead of parts in order is below all of them
-  above_parts : (k : List ℕ) (parts : List (List X)) → AreParts key parts → AllAbove k (entries (lead key) parts) → AllAbove k (joined key parts)
+  above_parts : (k : List ℕ) (parts : List (List X)) → AreParts key parts → AllAbove k (entries (lead key) parts) → AllAbove k (all_entries key parts)
   above_parts k [] are above = tt
   above_parts k ([] ∷ parts) are above = let h = are.filled.0 in absurd (omega arith)
-  above_parts k ((x ∷ xs) ∷ parts) are above = (above.0, above_less k (key x) (entries key xs ++ joined key parts) above.0 (sorted_behind (key x, x) (entries key xs ++ joined key parts) are.sorted))
+  above_parts k ((x ∷ xs) ∷ parts) are above = (above.0, above_less k (key x) (entries key xs ++ all_entries key parts) above.0 (sorted_behind (key x, x) (entries key xs ++ all_entries key parts) are.sorted))
 
-  joined_split : (parts : List (List X)) (i : ℕ) → joined key parts ≡ joined key (take i parts) ++ joined key (drop i parts)
-  joined_split parts i = ap (joined key) (sym (take-append-drop i parts)) ∙ flat_map-append (entries key) (take i parts) (drop i parts)
+  all_entries_split : (parts : List (List X)) (i : ℕ) → all_entries key parts ≡ all_entries key (take i parts) ++ all_entries key (drop i parts)
+  all_entries_split parts i = ap (all_entries key) (sym (take-append-drop i parts)) ∙ flat_map-append (entries key) (take i parts) (drop i parts)
 
   filled_back : (n : ℕ) (parts : List (List X)) → AllByRecursion (λ part. 0 < length part) parts → AllByRecursion (λ part. 0 < length part) (drop n parts)
   filled_back zero parts all = all
@@ -32,31 +32,31 @@ module _ {X : Type 0} (key : X → List ℕ) where
 
   parts_back : (n : ℕ) (parts : List (List X)) → AreParts key parts → AreParts key (drop n parts)
   parts_back n parts are = record {
-    sorted = sorted_back (joined key (take n parts)) (joined key (drop n parts)) (subst (λ es. T (is_sorted key_cmp es)) (joined_split parts n) are.sorted);
+    sorted = sorted_back (all_entries key (take n parts)) (all_entries key (drop n parts)) (subst (λ es. T (is_sorted key_cmp es)) (all_entries_split parts n) are.sorted);
     filled = filled_back n parts are.filled;
   }
 
   -- what stands before a part is below its lead
-  below_lead : (front : List (List ℕ × X)) (parts : List (List X)) (part : List X) → T (is_sorted key_cmp (front ++ joined key (part ∷ parts))) → 0 < length part → AllBelow (lead key part) front
+  below_lead : (front : List (List ℕ × X)) (parts : List (List X)) (part : List X) → T (is_sorted key_cmp (front ++ all_entries key (part ∷ parts))) → 0 < length part → AllBelow (lead key part) front
   below_lead front parts [] sorted h = absurd (omega arith)
-  below_lead front parts (x ∷ xs) sorted h = sorted_before front (key x, x) (entries key xs ++ joined key parts) sorted
+  below_lead front parts (x ∷ xs) sorted h = sorted_before front (key x, x) (entries key xs ++ all_entries key parts) sorted
 
   filled_at : (i : ℕ) (parts : List (List X)) (d : List X) → i < length parts → AllByRecursion (λ part. 0 < length part) parts → 0 < length (get_or parts i d)
   filled_at i [] d h all = absurd (omega arith)
   filled_at zero (part ∷ parts) d h all = all.0
   filled_at (suc i) (part ∷ parts) d h all = filled_at i parts d (omega arith) all.1
 
-  below_lead_at : (parts : List (List X)) (i : ℕ) (d : List X) → AreParts key parts → i < length parts → AllBelow (lead key (get_or parts i d)) (joined key (take i parts))
+  below_lead_at : (parts : List (List X)) (i : ℕ) (d : List X) → AreParts key parts → i < length parts → AllBelow (lead key (get_or parts i d)) (all_entries key (take i parts))
   below_lead_at parts i d are h =
-      below_lead (joined key (take i parts)) (drop (suc i) parts) (get_or parts i d)
-      (subst (λ es. T (is_sorted key_cmp es)) (joined_split parts i ∙ ap (λ ps. joined key (take i parts) ++ joined key ps) (split_here (lead key) parts i d h)) are.sorted)
+      below_lead (all_entries key (take i parts)) (drop (suc i) parts) (get_or parts i d)
+      (subst (λ es. T (is_sorted key_cmp es)) (all_entries_split parts i ∙ ap (λ ps. all_entries key (take i parts) ++ all_entries key ps) (split_here (lead key) parts i d h)) are.sorted)
       (filled_at i parts d h are.filled)
 
   -- the part whose lead is the key
   pub home_at : (k : List ℕ) (parts : List (List X)) (i : ℕ) → AreParts key parts → IsAt (lead key) k parts i → IsHome key k parts i
   home_at k parts i are at = record {
     within = at.within;
-    before = below_equal k (lead key (get_or parts i [])) (joined key (take i parts)) (at.here []) (below_lead_at parts i [] are at.within);
+    before = below_equal k (lead key (get_or parts i [])) (all_entries key (take i parts)) (at.here []) (below_lead_at parts i [] are at.within);
     behind = above_parts k (drop (suc i) parts) (parts_back (suc i) parts are) at.behind;
   }
 
@@ -64,7 +64,7 @@ module _ {X : Type 0} (key : X → List ℕ) where
   pub home_before : (k : List ℕ) (parts : List (List X)) (i : ℕ) → AreParts key parts → suc i ≤ length parts → IsGap (lead key) k parts (suc i) → IsHome key k parts i
   home_before k parts i are h gap = record {
     within = omega arith;
-    before = below_less k (lead key (get_or parts i [])) (joined key (take i parts)) (last_below parts i h gap.before) (below_lead_at parts i [] are (omega arith));
+    before = below_less k (lead key (get_or parts i [])) (all_entries key (take i parts)) (last_below parts i h gap.before) (below_lead_at parts i [] are (omega arith));
     behind = above_parts k (drop (suc i) parts) (parts_back (suc i) parts are) gap.behind;
   }
     where
@@ -86,38 +86,38 @@ module _ {X : Type 0} (key : X → List ℕ) where
       rest_above (p ∷ ps) all = all.1
 
   -- leads rise from part to part
-  leads_above : (k : List ℕ) (parts : List (List X)) → AllByRecursion (λ part. 0 < length part) parts → T (below_all key_cmp k (joined key parts)) → T (below_all key_cmp k (entries (lead key) parts))
+  leads_above : (k : List ℕ) (parts : List (List X)) → AllByRecursion (λ part. 0 < length part) parts → T (below_all key_cmp k (all_entries key parts)) → T (below_all key_cmp k (entries (lead key) parts))
   leads_above k [] all h = tt
   leads_above k ([] ∷ parts) all h = let empty = all.0 in absurd (omega arith)
-  leads_above k ((x ∷ xs) ∷ parts) all h = both_so _ _ (first_so _ _ h) (leads_above k parts all.1 (below_back k (entries key xs) (joined key parts) (second_so _ _ h)))
+  leads_above k ((x ∷ xs) ∷ parts) all h = both_so _ _ (first_so _ _ h) (leads_above k parts all.1 (below_back k (entries key xs) (all_entries key parts) (second_so _ _ h)))
 
-  leads_rise : (parts : List (List X)) → AllByRecursion (λ part. 0 < length part) parts → T (is_sorted key_cmp (joined key parts)) → T (is_sorted key_cmp (entries (lead key) parts))
+  leads_rise : (parts : List (List X)) → AllByRecursion (λ part. 0 < length part) parts → T (is_sorted key_cmp (all_entries key parts)) → T (is_sorted key_cmp (entries (lead key) parts))
   leads_rise [] all h = tt
   leads_rise ([] ∷ parts) all h = let empty = all.0 in absurd (omega arith)
   leads_rise ((x ∷ xs) ∷ parts) all h =
-      both_so _ _ (leads_above (key x) parts all.1 (below_back (key x) (entries key xs) (joined key parts) (first_so _ _ h)))
-      (leads_rise parts all.1 (sorted_back (entries key (x ∷ xs)) (joined key parts) h))
+      both_so _ _ (leads_above (key x) parts all.1 (below_back (key x) (entries key xs) (all_entries key parts) (first_so _ _ h)))
+      (leads_rise parts all.1 (sorted_back (entries key (x ∷ xs)) (all_entries key parts) h))
 
   pub Rises-leads : (parts : List (List X)) → AreParts key parts → Rises (lead key) parts
   Rises-leads parts are = record { sorted = leads_rise parts are.filled are.sorted }
 
   -- ---- what a change at its home makes of the list
 
-  at_home : (parts : List (List X)) (i : ℕ) (d : List X) → i < length parts → joined key parts ≡ joined key (take i parts) ++ (entries key (get_or parts i d) ++ joined key (drop (suc i) parts))
-  at_home parts i d h = joined_split parts i ∙ ap (λ ps. joined key (take i parts) ++ joined key ps) (split_here (lead key) parts i d h)
+  at_home : (parts : List (List X)) (i : ℕ) (d : List X) → i < length parts → all_entries key parts ≡ all_entries key (take i parts) ++ (entries key (get_or parts i d) ++ all_entries key (drop (suc i) parts))
+  at_home parts i d h = all_entries_split parts i ∙ ap (λ ps. all_entries key (take i parts) ++ all_entries key ps) (split_here (lead key) parts i d h)
 
-  joined_set : (parts : List (List X)) (i : ℕ) (part : List X) → i < length parts → joined key (set parts i part) ≡ joined key (take i parts) ++ (entries key part ++ joined key (drop (suc i) parts))
-  joined_set parts i part h = ap (joined key) (set_split parts i part h) ∙ flat_map-append (entries key) (take i parts) (part ∷ drop (suc i) parts)
+  all_entries_set : (parts : List (List X)) (i : ℕ) (part : List X) → i < length parts → all_entries key (set parts i part) ≡ all_entries key (take i parts) ++ (entries key part ++ all_entries key (drop (suc i) parts))
+  all_entries_set parts i part h = ap (all_entries key) (set_split parts i part h) ∙ flat_map-append (entries key) (take i parts) (part ∷ drop (suc i) parts)
 
   -- the part's list of entries is changed by a put, and so is the whole
-  put_parts : (k : List ℕ) (v : X) (parts : List (List X)) (i : ℕ) (d : List X) (new : List (List ℕ × X)) → IsHome key k parts i → new ≡ put key_cmp k v (entries key (get_or parts i d)) → joined key (take i parts) ++ (new ++ joined key (drop (suc i) parts)) ≡ put key_cmp k v (joined key parts)
+  put_parts : (k : List ℕ) (v : X) (parts : List (List X)) (i : ℕ) (d : List X) (new : List (List ℕ × X)) → IsHome key k parts i → new ≡ put key_cmp k v (entries key (get_or parts i d)) → all_entries key (take i parts) ++ (new ++ all_entries key (drop (suc i) parts)) ≡ put key_cmp k v (all_entries key parts)
   put_parts k v parts i d new home is =
-      ap (λ es. joined key (take i parts) ++ (es ++ joined key (drop (suc i) parts))) is
-      ∙ sym (put_middle k v (joined key (take i parts)) (entries key (get_or parts i d)) (joined key (drop (suc i) parts)) home.before home.behind)
+      ap (λ es. all_entries key (take i parts) ++ (es ++ all_entries key (drop (suc i) parts))) is
+      ∙ sym (put_middle k v (all_entries key (take i parts)) (entries key (get_or parts i d)) (all_entries key (drop (suc i) parts)) home.before home.behind)
       ∙ ap (put key_cmp k v) (sym (at_home parts i d home.within))
 
-  pub put_home : (k : List ℕ) (v : X) (parts : List (List X)) (i : ℕ) (d part : List X) → IsHome key k parts i → entries key part ≡ put key_cmp k v (entries key (get_or parts i d)) → joined key (set parts i part) ≡ put key_cmp k v (joined key parts)
-  put_home k v parts i d part home is = joined_set parts i part home.within ∙ put_parts k v parts i d (entries key part) home is
+  pub put_home : (k : List ℕ) (v : X) (parts : List (List X)) (i : ℕ) (d part : List X) → IsHome key k parts i → entries key part ≡ put key_cmp k v (entries key (get_or parts i d)) → all_entries key (set parts i part) ≡ put key_cmp k v (all_entries key parts)
+  put_home k v parts i d part home is = all_entries_set parts i part home.within ∙ put_parts k v parts i d (entries key part) home is
 
   -- a part more behind one that was changed
   pub insert_behind : {Y : Type 0} (ys : List Y) (i : ℕ) (y z : Y) → i < length ys → insert (set ys i y) (suc i) z ≡ take i ys ++ y ∷ z ∷ drop (suc i) ys
@@ -125,33 +125,33 @@ module _ {X : Type 0} (key : X → List ℕ) where
   insert_behind (x ∷ ys) zero y z h = refl
   insert_behind (x ∷ ys) (suc i) y z h = ap (λ zs. x ∷ zs) (insert_behind ys i y z (omega arith))
 
-  pub put_home_split : (k : List ℕ) (v : X) (parts : List (List X)) (i j : ℕ) (d part rest : List X) → IsHome key k parts i → j ≡ suc i → entries key part ++ entries key rest ≡ put key_cmp k v (entries key (get_or parts i d)) → joined key (insert (set parts i part) j rest) ≡ put key_cmp k v (joined key parts)
+  pub put_home_split : (k : List ℕ) (v : X) (parts : List (List X)) (i j : ℕ) (d part rest : List X) → IsHome key k parts i → j ≡ suc i → entries key part ++ entries key rest ≡ put key_cmp k v (entries key (get_or parts i d)) → all_entries key (insert (set parts i part) j rest) ≡ put key_cmp k v (all_entries key parts)
   put_home_split k v parts i j d part rest home next is =
-      ap (λ n. joined key (insert (set parts i part) n rest)) next
-      ∙ ap (joined key) (insert_behind parts i part rest home.within)
+      ap (λ n. all_entries key (insert (set parts i part) n rest)) next
+      ∙ ap (all_entries key) (insert_behind parts i part rest home.within)
       ∙ flat_map-append (entries key) (take i parts) (part ∷ rest ∷ drop (suc i) parts)
-      ∙ ap (λ es. joined key (take i parts) ++ es) (sym (append_assoc (entries key part) (entries key rest) (joined key (drop (suc i) parts))))
+      ∙ ap (λ es. all_entries key (take i parts) ++ es) (sym (append_assoc (entries key part) (entries key rest) (all_entries key (drop (suc i) parts))))
       ∙ put_parts k v parts i d (entries key part ++ entries key rest) home is
 
-  without_parts : (k : List ℕ) (parts : List (List X)) (i : ℕ) (d : List X) (new : List (List ℕ × X)) → IsHome key k parts i → new ≡ without k (entries key (get_or parts i d)) → joined key (take i parts) ++ (new ++ joined key (drop (suc i) parts)) ≡ without k (joined key parts)
+  without_parts : (k : List ℕ) (parts : List (List X)) (i : ℕ) (d : List X) (new : List (List ℕ × X)) → IsHome key k parts i → new ≡ without k (entries key (get_or parts i d)) → all_entries key (take i parts) ++ (new ++ all_entries key (drop (suc i) parts)) ≡ without k (all_entries key parts)
   without_parts k parts i d new home is =
-      ap (λ es. joined key (take i parts) ++ (es ++ joined key (drop (suc i) parts))) is
-      ∙ sym (without_middle k (joined key (take i parts)) (entries key (get_or parts i d)) (joined key (drop (suc i) parts)) home.before home.behind)
+      ap (λ es. all_entries key (take i parts) ++ (es ++ all_entries key (drop (suc i) parts))) is
+      ∙ sym (without_middle k (all_entries key (take i parts)) (entries key (get_or parts i d)) (all_entries key (drop (suc i) parts)) home.before home.behind)
       ∙ ap (without k) (sym (at_home parts i d home.within))
 
-  pub without_home : (k : List ℕ) (parts : List (List X)) (i : ℕ) (d part : List X) → IsHome key k parts i → entries key part ≡ without k (entries key (get_or parts i d)) → joined key (set parts i part) ≡ without k (joined key parts)
-  without_home k parts i d part home is = joined_set parts i part home.within ∙ without_parts k parts i d (entries key part) home is
+  pub without_home : (k : List ℕ) (parts : List (List X)) (i : ℕ) (d part : List X) → IsHome key k parts i → entries key part ≡ without k (entries key (get_or parts i d)) → all_entries key (set parts i part) ≡ without k (all_entries key parts)
+  without_home k parts i d part home is = all_entries_set parts i part home.within ∙ without_parts k parts i d (entries key part) home is
 
   -- a part of which nothing is left goes
-  pub without_home_all : (k : List ℕ) (parts : List (List X)) (i : ℕ) (d : List X) → IsHome key k parts i → [] ≡ without k (entries key (get_or parts i d)) → joined key (remove parts i) ≡ without k (joined key parts)
+  pub without_home_all : (k : List ℕ) (parts : List (List X)) (i : ℕ) (d : List X) → IsHome key k parts i → [] ≡ without k (entries key (get_or parts i d)) → all_entries key (remove parts i) ≡ without k (all_entries key parts)
   without_home_all k parts i d home is = flat_map-append (entries key) (take i parts) (drop (suc i) parts) ∙ without_parts k parts i d [] home is
 
   -- where the part has not the key, nothing goes
-  pub without_home_none : (k : List ℕ) (parts : List (List X)) (i : ℕ) (d : List X) → IsHome key k parts i → without k (entries key (get_or parts i d)) ≡ entries key (get_or parts i d) → without k (joined key parts) ≡ joined key parts
+  pub without_home_none : (k : List ℕ) (parts : List (List X)) (i : ℕ) (d : List X) → IsHome key k parts i → without k (entries key (get_or parts i d)) ≡ entries key (get_or parts i d) → without k (all_entries key parts) ≡ all_entries key parts
   without_home_none k parts i d home is = sym (without_parts k parts i d (entries key (get_or parts i d)) home (sym is)) ∙ sym (at_home parts i d home.within)
 
-  pub find_home : (k : List ℕ) (parts : List (List X)) (i : ℕ) (d : List X) → IsHome key k parts i → find key_cmp k (joined key parts) ≡ find key_cmp k (entries key (get_or parts i d))
-  find_home k parts i d home = ap (find key_cmp k) (at_home parts i d home.within) ∙ find_middle k (joined key (take i parts)) (entries key (get_or parts i d)) (joined key (drop (suc i) parts)) home.before home.behind
+  pub find_home : (k : List ℕ) (parts : List (List X)) (i : ℕ) (d : List X) → IsHome key k parts i → find key_cmp k (all_entries key parts) ≡ find key_cmp k (entries key (get_or parts i d))
+  find_home k parts i d home = ap (find key_cmp k) (at_home parts i d home.within) ∙ find_middle k (all_entries key (take i parts)) (entries key (get_or parts i d)) (all_entries key (drop (suc i) parts)) home.before home.behind
 
   -- ---- no part is empty
 
@@ -174,6 +174,6 @@ module _ {X : Type 0} (key : X → List ℕ) where
   -- a part is in order
   pub Rises-part : (parts : List (List X)) (i : ℕ) (d : List X) → AreParts key parts → i < length parts → Rises key (get_or parts i d)
   Rises-part parts i d are h = record {
-    sorted = sorted_front (entries key (get_or parts i d)) (joined key (drop (suc i) parts))
-        (sorted_back (joined key (take i parts)) _ (subst (λ es. T (is_sorted key_cmp es)) (at_home parts i d h) are.sorted));
+    sorted = sorted_front (entries key (get_or parts i d)) (all_entries key (drop (suc i) parts))
+        (sorted_back (all_entries key (take i parts)) _ (subst (λ es. T (is_sorted key_cmp es)) (at_home parts i d h) are.sorted));
   }

@@ -12,7 +12,7 @@ use Rattle.std.specs.declared.alloc.Global.{Global}
 use Rattle.std.proofs.lemmas.Cmp.{nat_list_cmp_total}
 use Rattle.std.proofs.lemmas.List.{map-append, take_more}
 use Rattle.std.proofs.lemmas.Map.Text.{is_eq-slice_cmp}
-use Rattle.shared_list.specs.Order.{key_cmp, entries, joined, without, AreParts}
+use Rattle.shared_list.specs.Order.{key_cmp, entries, all_entries, without, AreParts}
 use denote.Ref.{Bor}
 use Rattle.shared_list.specs.Parts.{parts_of, AreChunks}
 
@@ -22,12 +22,12 @@ module _ {X : Type 0} (key : X → List ℕ) where
   keyed_entries [] = refl
   keyed_entries (x ∷ xs) = ap (λ es. (key x, x) ∷ es) (keyed_entries xs)
 
-  pub keyed_joined : (parts : List (List X)) → entries key (map (λ e. e.1) (joined key parts)) ≡ joined key parts
+  pub keyed_joined : (parts : List (List X)) → entries key (map (λ e. e.1) (all_entries key parts)) ≡ all_entries key parts
   keyed_joined [] = refl
   keyed_joined (part ∷ parts) =
-      ap (entries key) (map-append (λ e. e.1) (entries key part) (joined key parts))
-      ∙ map-append (λ x. (key x, x)) (map (λ e. e.1) (entries key part)) (map (λ e. e.1) (joined key parts))
-      ∙ ap (λ es. es ++ entries key (map (λ e. e.1) (joined key parts))) (keyed_entries part)
+      ap (entries key) (map-append (λ e. e.1) (entries key part) (all_entries key parts))
+      ∙ map-append (λ x. (key x, x)) (map (λ e. e.1) (entries key part)) (map (λ e. e.1) (all_entries key parts))
+      ∙ ap (λ es. es ++ entries key (map (λ e. e.1) (all_entries key parts))) (keyed_entries part)
       ∙ ap (λ es. entries key part ++ es) (keyed_joined parts)
 
   -- the items of the list are those of its parts
@@ -35,18 +35,18 @@ module _ {X : Type 0} (key : X → List ℕ) where
   items_entries [] = refl
   items_entries (x ∷ xs) = ap (λ ys. x ∷ ys) (items_entries xs)
 
-  pub items_joined : (parts : List (List X)) → flat_map (λ part. part) parts ≡ map (λ e. e.1) (joined key parts)
+  pub items_joined : (parts : List (List X)) → flat_map (λ part. part) parts ≡ map (λ e. e.1) (all_entries key parts)
   items_joined [] = refl
   items_joined (part ∷ parts) =
       ap (λ xs. part ++ xs) (items_joined parts)
-      ∙ ap (λ xs. xs ++ map (λ e. e.1) (joined key parts)) (sym (items_entries part))
-      ∙ sym (map-append (λ e. e.1) (entries key part) (joined key parts))
+      ∙ ap (λ xs. xs ++ map (λ e. e.1) (all_entries key parts)) (sym (items_entries part))
+      ∙ sym (map-append (λ e. e.1) (entries key part) (all_entries key parts))
 
   -- the same parts are the same list
   pub AreChunks-same : (old new : List (Arc (Vec X Global) Global)) (len : ℕ) → parts_of new ≡ parts_of old → AreChunks key old len → AreChunks key new len
   AreChunks-same old new len same are = record {
     parts = subst (λ parts. AreParts key parts) (sym same) are.parts;
-    counted = subst (λ parts. len ≡ length (joined key parts)) (sym same) are.counted;
+    counted = subst (λ parts. len ≡ length (all_entries key parts)) (sym same) are.counted;
   }
 
   copied_none : (o : Option (Bor X)) → is_none (option_copied o) ≡ is_none o
@@ -57,15 +57,15 @@ module _ {X : Type 0} (key : X → List ℕ) where
   counted_put None is_new n before now new e f = e ∙ ap (λ b. if b then before + 1 else before) new ∙ sym f
   counted_put (Some x) is_new n before now new e f = e ∙ ap (λ b. if b then before + 1 else before) new ∙ sym f
 
-  pub AreChunks-put : (old new : List (Arc (Vec X Global) Global)) (k : List ℕ) (v : X) (got : Option (Bor X)) (is_new : Bool) (before len : ℕ) → AreChunks key old before → option_copied got ≡ find key_cmp k (joined key (parts_of old)) → is_new ≡ is_none got → len ≡ (if is_new then before + 1 else before) → joined key (parts_of new) ≡ put key_cmp k v (joined key (parts_of old)) → AllByRecursion (λ part. 0 < length part) (parts_of new) → AreChunks key new len
+  pub AreChunks-put : (old new : List (Arc (Vec X Global) Global)) (k : List ℕ) (v : X) (got : Option (Bor X)) (is_new : Bool) (before len : ℕ) → AreChunks key old before → option_copied got ≡ find key_cmp k (all_entries key (parts_of old)) → is_new ≡ is_none got → len ≡ (if is_new then before + 1 else before) → all_entries key (parts_of new) ≡ put key_cmp k v (all_entries key (parts_of old)) → AllByRecursion (λ part. 0 < length part) (parts_of new) → AreChunks key new len
   AreChunks-put old new k v got is_new before len are found asked count is filled =
-      let es = joined key (parts_of old) in
+      let es = all_entries key (parts_of old) in
       record {
         parts = record {
           sorted = subst (λ xs. T (is_sorted key_cmp xs)) (sym is) (is_sorted-put key_cmp nat_list_cmp_total k v es are.parts.sorted);
           filled = filled;
         };
-        counted = counted_put (find key_cmp k es) is_new len (length es) (length (joined key (parts_of new)))
+        counted = counted_put (find key_cmp k es) is_new len (length es) (length (all_entries key (parts_of new)))
             (asked ∙ sym (copied_none got) ∙ ap is_none found)
             (count ∙ ap (λ n. if is_new then n + 1 else n) are.counted)
             (ap length is ∙ length-put key_cmp nat_list_cmp_total k v es are.parts.sorted);
@@ -96,9 +96,9 @@ some_taken None less n asked e = absurd (apart asked)
     apart h = cc
 some_taken (Some x) less n asked e = omega arith
 
-pub AreChunks-without : {X : Type 0} (key : X → List ℕ) (old new : List (Arc (Vec X Global) Global)) (k : List ℕ) (got : Option (Bor X)) (before : ℕ) → AreChunks key old before → option_copied got ≡ find key_cmp k (joined key (parts_of old)) → is_none got ≡ false → joined key (parts_of new) ≡ without k (joined key (parts_of old)) → AllByRecursion (λ part. 0 < length part) (parts_of new) → AreChunks key new (before - 1)
+pub AreChunks-without : {X : Type 0} (key : X → List ℕ) (old new : List (Arc (Vec X Global) Global)) (k : List ℕ) (got : Option (Bor X)) (before : ℕ) → AreChunks key old before → option_copied got ≡ find key_cmp k (all_entries key (parts_of old)) → is_none got ≡ false → all_entries key (parts_of new) ≡ without k (all_entries key (parts_of old)) → AllByRecursion (λ part. 0 < length part) (parts_of new) → AreChunks key new (before - 1)
 AreChunks-without key old new k got before are found asked is filled =
-    let es = joined key (parts_of old) in
+    let es = all_entries key (parts_of old) in
     record {
       parts = record {
         sorted = subst (λ xs. T (is_sorted key_cmp xs)) (sym is) (is_sorted-where_key key_cmp (λ x. not (bytes_eq k x)) es are.parts.sorted);

@@ -18,8 +18,8 @@ abbrev pub entries : {X : Type 0} → (X → List ℕ) → List X → List (List
 entries key xs = map (λ x. (key x, x)) xs
 
 -- the same of several lists, one after another
-abbrev pub joined : {X : Type 0} → (X → List ℕ) → List (List X) → List (List ℕ × X)
-joined key parts = flat_map (entries key) parts
+abbrev pub all_entries : {X : Type 0} → (X → List ℕ) → List (List X) → List (List ℕ × X)
+all_entries key parts = flat_map (entries key) parts
 
 -- the entries of other keys
 abbrev pub without : {X : Type 0} → List ℕ → List (List ℕ × X) → List (List ℕ × X)
@@ -48,8 +48,8 @@ pub record IsAt {X : Type 0} (key : X → List ℕ) (k : List ℕ) (xs : List X)
 pub record IsHome {X : Type 0} (key : X
     → List ℕ) (k : List ℕ) (parts : List (List X)) (at : ℕ) : Type 0 where
   pub within : at < length parts
-  pub before : AllBelow k (joined key (take at parts))
-  pub behind : AllAbove k (joined key (drop (suc at) parts))
+  pub before : AllBelow k (all_entries key (take at parts))
+  pub behind : AllAbove k (all_entries key (drop (suc at) parts))
 
 -- keys strictly rise
 pub record Rises {X : Type 0} (key : X → List ℕ) (xs : List X) : Type 0 where
@@ -57,7 +57,7 @@ pub record Rises {X : Type 0} (key : X → List ℕ) (xs : List X) : Type 0 wher
 
 -- parts of a list in order, none of them empty
 pub record AreParts {X : Type 0} (key : X → List ℕ) (parts : List (List X)) : Type 0 where
-  pub sorted : T (is_sorted key_cmp (joined key parts))
+  pub sorted : T (is_sorted key_cmp (all_entries key parts))
   pub filled : AllByRecursion (λ part. 0 < length part) parts
 
 -- the key of the first item of a part

@@ -4,7 +4,7 @@ ghost use Rattle.std.specs.Prelude.{◌≡◌, ◌<◌, ◌++◌, length, remove
 ghost use Rattle.std.specs.FinMap.{put, find};
 ghost use Rattle.std.specs.List.{AllByRecursion};
 ghost use Rattle.std.specs.Option.{option_copied};
-ghost use Rattle.shared_list.specs.Order.{key_cmp, entries, joined, lead, without, AreParts, IsHome, Rises};
+ghost use Rattle.shared_list.specs.Order.{key_cmp, entries, all_entries, lead, without, AreParts, IsHome, Rises};
 ghost use Rattle.shared_list.specs.Parts.{items_of, parts_of};
 
 use crate::NoMemory;
@@ -40,7 +40,7 @@ fn home<T: Keyed>(chunks: &[Arc<Vec<T>>], key: &str) -> usize
 pub(crate) fn item_in<'a, T: Keyed>(chunks: &'a [Arc<Vec<T>>], key: &str) -> Option<&'a T>
     requires { AreParts T.key_of (parts_of chunks.now) }
     ensures { option_copied result
-        ≡ find key_cmp key.now (joined T.key_of (parts_of chunks.entry.now)) }
+        ≡ find key_cmp key.now (all_entries T.key_of (parts_of chunks.entry.now)) }
 {
     if chunks.is_empty() {
         return None;
@@ -103,8 +103,8 @@ fn take_from<T: Keyed>(alloc: Global, chunk: &mut Arc<Vec<T>>, at: usize) -> Res
 /// Puts the item in its place in its chunk.
 pub(crate) fn put_chunks<T: Keyed>(chunks: &mut Vec<Arc<Vec<T>>>, item: T) -> Result<(), NoMemory>
     requires { AreParts T.key_of (parts_of chunks.old.items) }
-    ensures put { OnOk result (joined T.key_of (parts_of chunks.new.items)
-        ≡ put key_cmp (T.key_of item) item (joined T.key_of (parts_of chunks.old.items))) }
+    ensures put { OnOk result (all_entries T.key_of (parts_of chunks.new.items)
+        ≡ put key_cmp (T.key_of item) item (all_entries T.key_of (parts_of chunks.old.items))) }
     ensures filled { OnOk result (AllByRecursion (λ part. 0 < length part)
         (parts_of chunks.new.items)) }
 {
@@ -125,8 +125,8 @@ pub(crate) fn put_chunks<T: Keyed>(chunks: &mut Vec<Arc<Vec<T>>>, item: T) -> Re
 /// Takes the item with that key out of its chunk, and the chunk out where nothing is left in it.
 pub(crate) fn take_out<T: Keyed>(chunks: &mut Vec<Arc<Vec<T>>>, key: &str) -> Result<(), NoMemory>
     requires { AreParts T.key_of (parts_of chunks.old.items) }
-    ensures without { OnOk result (joined T.key_of (parts_of chunks.new.items)
-        ≡ without key.now (joined T.key_of (parts_of chunks.old.items))) }
+    ensures without { OnOk result (all_entries T.key_of (parts_of chunks.new.items)
+        ≡ without key.now (all_entries T.key_of (parts_of chunks.old.items))) }
     ensures filled { OnOk result (AllByRecursion (λ part. 0 < length part)
         (parts_of chunks.new.items)) }
 {

@@ -26,10 +26,10 @@ impl<T: Keyed> Model for SharedList<T> {
 
     ghost Value = { List (List ℕ × T) };
 
-    ghost use Rattle.shared_list.specs.Order.{joined};
+    ghost use Rattle.shared_list.specs.Order.{all_entries};
     ghost use Rattle.shared_list.specs.Parts.{parts_of, AreChunks};
 
-    ghost view = { λ list. joined T.key_of (parts_of list.chunks.items) };
+    ghost view = { λ list. all_entries T.key_of (parts_of list.chunks.items) };
 
     ghost invariant = { λ list. AreChunks T.key_of list.chunks.items list.len };
 }

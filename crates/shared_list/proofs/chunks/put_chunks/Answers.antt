@@ -2,7 +2,7 @@
 use Rattle.std.proofs.Common.{◌+◌, refl, ap, ◌∙◌, subst, sym, length}
 use Rattle.std.specs.Prelude.{◌<◌}
 use Rattle.std.specs.List.{AllByRecursion}
-use Rattle.shared_list.specs.Order.{joined, IsHome}
+use Rattle.shared_list.specs.Order.{all_entries, IsHome}
 use Rattle.shared_list.specs.Parts.{parts_of}
 use Rattle.shared_list.proofs.ChunkLemmas.{Rises-chunk, put_kept, put_cut, filled_kept, filled_cut}
 use Rattle.shared_list.proofs.chunks.put_chunks.Goals as goal
@@ -17,7 +17,7 @@ pub returns-in_ok-insert-clause-put : goal.returns-in_ok-insert-clause-put
 returns-in_ok-insert-clause-put g c =
     let key = g.T.Keyed.key_of in
     let home : IsHome key (key c.args.item) (parts_of c.args.chunks.now.items) c.home-at.result = rw (c.key.ensures, c.as_slice.ensures.value) at c.home-at.ensures in
-    ap (λ chunks. joined key (parts_of chunks)) c.in_ok-insert.ensures.items
+    ap (λ chunks. all_entries key (parts_of chunks)) c.in_ok-insert.ensures.items
     ∙ put_cut key c.args.item c.args.chunks.now.items c.home-at.result c.index_mut.result.now c.put_in.new.chunk (c.home-at.result + 1) c.in-Some.rest c.in_ok-new-2.field-0
     home c.index_mut.ensures.value (rw c.in-Some.is at c.in_ok-rest.ensures.put) refl c.in_ok-new-2.ensures.ok
 
