@@ -1,1 +1,4 @@
+pub mod Unprefixed
 pub mod Spelling
+pub mod Repeated
+pub mod Entities

@@ -1,18 +1,21 @@
 -- Fields one after another are spelled one after another.
-use Rattle.std.proofs.Common.{◌≡◌, ◌<◌, ℕ, ◌+◌, ◌-◌, ◌*◌, List, [], ◌∷◌, ◌++◌, take, drop, length, get_or, refl, sym, ap, ◌∙◌, append_assoc, append-nil, arith}
-use Rattle.std.specs.Prelude.{◌^◌, Result, Ok, Err, OnOk}
+use Rattle.std.proofs.Common.{◌≡◌, ◌<◌, ℕ, ◌+◌, ◌*◌, List, [], ◌∷◌, ◌++◌, take, drop, length, map, refl, sym, ap, ◌∙◌, subst, append_assoc, append-nil, arith}
+use Rattle.std.specs.Prelude.{◌^◌, Option, Result, Ok, Err, OnOk}
 use Rattle.std.specs.List.{flat_map}
+use Rattle.std.specs.Option.{option_map}
 use Rattle.std.proofs.lemmas.Grind.{flat_map-append}
-use Rattle.std.proofs.lemmas.List.{take_more, take-append-drop, length-append}
+use Rattle.std.proofs.lemmas.List.{take-append-drop, length-append}
 use Rattle.std.proofs.Math.Seq.{take-append_seam, drop-append_seam}
 use Rattle.wire_defs.specs.Field.Payload.{Span}
 use Rattle.wire_defs.specs.Writing.{Written, varint, payload_bytes, field_bytes}
-use Rattle.feed_defs.specs.Rows.{Message, message_bytes, write_all}
+use Rattle.feed_defs.specs.Rows.{Message, message_bytes, write_if, write_all}
 use Rattle.wire_defs.specs.Spelling.{AreBytes}
 use Rattle.rt_types.specs.declared.message.FeedMessage.{FeedMessage}
-use Rattle.feed_defs.specs.Table.{read, write}
+use Rattle.feed_defs.specs.Table.{feed, read, write}
 use Rattle.feed_defs.proofs.Rereading.{read_again}
-use Rattle.feed_write.specs.Puts.{StartsWith}
+use Rattle.feed_write.specs.Puts.{StartsWith, IsOpened}
+use Rattle.feed_write.specs.Entities.{renamed_message}
+use Rattle.feed_write.proofs.Unprefixed.{each_same, all_same, message_same}
 
 pub spelled_both : (a b : List Written) → flat_map field_bytes (a ++ b) ≡ flat_map field_bytes a ++ flat_map field_bytes b
 spelled_both a b = flat_map-append field_bytes a b
@@ -42,44 +45,50 @@ pub field_then : {A E : Type 0} (r : Result A E) (old mid new : List ℕ) (w : W
     → OnOk r (new ≡ old ++ (flat_map field_bytes ((w ∷ []) ++ vs) ++ unknown))
 field_then r old mid new w vs unknown here behind = row_then r old mid new (w ∷ []) vs unknown (here ∙ ap (λ bs. old ++ bs) (sym (append-nil (field_bytes w)))) behind
 
--- a message more of a repeated field
-all_append : {M : Type 0} (n : ℕ) (m : Message M) (xs : List M) (y : M) → flat_map field_bytes (write_all n m (xs ++ y ∷ [])) ≡ flat_map field_bytes (write_all n m xs) ++ field_bytes (record { number = n; payload = Span (message_bytes m y) })
-all_append n m [] y = append-nil _
-all_append n m (x ∷ xs) y = ap (λ ys. field_bytes (record { number = n; payload = Span (message_bytes m x) }) ++ ys) (all_append n m xs y) ∙ sym (append_assoc (field_bytes (record { number = n; payload = Span (message_bytes m x) })) (flat_map field_bytes (write_all n m xs)) _)
-
-pub all_more : {M : Type 0} (n : ℕ) (m : Message M) (xs : List M) (i : ℕ) (y : M) (old before after : List ℕ) → i < length xs → y ≡ get_or xs i y
-    → before ≡ old ++ flat_map field_bytes (write_all n m (take i xs)) → after ≡ before ++ field_bytes (record { number = n; payload = Span (message_bytes m y) })
-    → after ≡ old ++ flat_map field_bytes (write_all n m (take (i + 1) xs))
-all_more n m xs i y old before after within item so_far appended =
-    appended ∙ ap (λ bs. bs ++ field_bytes (record { number = n; payload = Span (message_bytes m y) })) so_far
-    ∙ append_assoc old _ _
-    ∙ ap (λ bs. old ++ bs) (sym (all_append n m (take i xs) y) ∙ ap (λ ys. flat_map field_bytes (write_all n m ys)) (ap (λ x. take i xs ++ x ∷ []) item ∙ sym (take_more xs i y within)))
-
 -- content with its length before it, in place of the byte that was kept, behind its tag
-pub framed : {A E : Type 0} (r : Result A E) (n tag place : ℕ) (old content tagged kept all after : List ℕ) →
-    tagged ≡ old ++ varint tag → tag ≡ n * 8 + 2 → place ≡ length tagged → kept ≡ tagged ++ 0 ∷ [] → all ≡ kept ++ content
+pub framed : {A E : Type 0} (r : Result A E) (n place : ℕ) (old content opened all after : List ℕ) → IsOpened n place old opened → all ≡ opened ++ content
     → OnOk r (after ≡ take place all ++ (varint (length (drop (place + 1) all)) ++ drop (place + 1) all))
     → OnOk r (after ≡ old ++ field_bytes (record { number = n; payload = Span content }))
 unfolding field_bytes payload_bytes
-framed (Ok x) n tag place old content tagged kept all after tagged_is tag_is begins kept_is whole measured =
+framed (Ok x) n place old content opened all after open_is whole measured =
     measured
     ∙ ap (λ bs. bs ++ (varint (length (drop (place + 1) all)) ++ drop (place + 1) all)) front
     ∙ ap (λ bs. tagged ++ (varint (length bs) ++ bs)) behind
-    ∙ ap (λ bs. bs ++ (varint (length content) ++ content)) (tagged_is ∙ ap (λ k. old ++ varint k) tag_is)
     ∙ append_assoc old (varint (n * 8 + 2)) (varint (length content) ++ content)
   where
+    tagged : List ℕ
+    tagged = old ++ varint (n * 8 + 2)
+
     front : take place all ≡ tagged
-    front = ap (λ k. take k all) begins ∙ ap (take (length tagged)) (whole ∙ ap (λ bs. bs ++ content) kept_is ∙ append_assoc tagged (0 ∷ []) content) ∙ take-append_seam tagged _
+    front = ap (λ k. take k all) open_is.begins ∙ ap (take (length tagged)) (whole ∙ ap (λ bs. bs ++ content) open_is.whole ∙ append_assoc tagged (0 ∷ []) content) ∙ take-append_seam tagged _
 
     behind : drop (place + 1) all ≡ content
-    behind = let size : place + 1 ≡ length kept = omega (arith, ap length kept_is, length-append tagged (0 ∷ [])) in ap (λ k. drop k all) size ∙ ap (drop (length kept)) whole ∙ drop-append_seam kept content
-framed (Err e) n tag place old content tagged kept all after tagged_is tag_is begins kept_is whole measured = tt
+    behind = let size : place + 1 ≡ length opened = omega (arith, open_is.begins, ap length open_is.whole, length-append tagged (0 ∷ [])) in ap (λ k. drop k all) size ∙ ap (drop (length opened)) whole ∙ drop-append_seam opened content
+framed (Err e) n place old content opened all after open_is whole measured = tt
 
--- what stands up to a place stays, and so does what stood before it
-pub starts_up_to : (old tagged all after : List ℕ) (place : ℕ) → StartsWith old tagged → place ≡ length tagged → StartsWith tagged all → take place after ≡ take place all → StartsWith old after
-starts_up_to old tagged all after place from is onward same =
-    let front : take place after ≡ tagged = same ∙ ap (λ k. take k all) is ∙ ap (take (length tagged)) onward.whole ∙ take-append_seam tagged onward.more in
-    starts_on old tagged after from (record { more = drop place after; whole = sym (take-append-drop place after) ∙ ap (λ bs. bs ++ drop place after) front })
+-- what stands up to the byte that was kept stays, and so does what stood before its tag
+pub framed_begins : (n place : ℕ) (old opened all after : List ℕ) → IsOpened n place old opened → StartsWith opened all → take place after ≡ take place all → StartsWith old after
+framed_begins n place old opened all after open_is onward same =
+    let front : take place after ≡ old ++ varint (n * 8 + 2) = same ∙ ap (λ k. take k all) open_is.begins
+    ∙ ap (take (length (old ++ varint (n * 8 + 2)))) (onward.whole ∙ ap (λ bs. bs ++ onward.more) open_is.whole ∙ append_assoc (old ++ varint (n * 8 + 2)) (0 ∷ []) onward.more)
+    ∙ take-append_seam (old ++ varint (n * 8 + 2)) _ in
+    record {
+      more = varint (n * 8 + 2) ++ drop place after;
+      whole = sym (take-append-drop place after) ∙ ap (λ bs. bs ++ drop place after) front ∙ append_assoc old (varint (n * 8 + 2)) (drop place after);
+    }
+
+-- messages without ids of the timetable stay as they are under any prefix
+pub plain : {M : Type 0} (n : ℕ) (table : Message M) (o : Option M) (old new : List ℕ) → new ≡ old ++ flat_map field_bytes (write_if n (λ m. Span (message_bytes table m)) (option_map (λ m. m) o))
+    → new ≡ old ++ flat_map field_bytes (write_if n (λ m. Span (message_bytes table m)) o)
+plain n table o old new h = h ∙ ap (λ o. old ++ flat_map field_bytes (write_if n (λ m. Span (message_bytes table m)) o)) (each_same (λ m. m) (λ m. refl) o)
+
+pub plain_items : {M : Type 0} (n : ℕ) (table : Message M) (ms : List M) (old new : List ℕ) → new ≡ old ++ flat_map field_bytes (write_all n table (map (λ m. m) ms)) → new ≡ old ++ flat_map field_bytes (write_all n table ms)
+plain_items n table ms old new h = h ∙ ap (λ ms. old ++ flat_map field_bytes (write_all n table ms)) (all_same (λ m. m) (λ m. refl) ms)
+
+-- what was written under an empty prefix is the message as it is
+pub written_plain : {A E : Type 0} (r : Result A E) (m : FeedMessage) (before after : List ℕ) → OnOk r (after ≡ before ++ message_bytes feed (renamed_message [] m)) → OnOk r (after ≡ before ++ write m)
+unfolding write
+written_plain r m before after appended = subst (λ x. OnOk r (after ≡ before ++ message_bytes feed x)) (message_same m) appended
 
 -- a message that was written within a vector reads again
 pub written_again : {A E : Type 0} (r : Result A E) (m : FeedMessage) (before after : List ℕ) → length after < 2 ^ 64

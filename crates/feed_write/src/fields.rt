@@ -1,11 +1,12 @@
 //! How each kind of field is written.
 
-ghost use Rattle.std.specs.Prelude.{◌≡◌, ◌≤◌, ◌++◌, OnOk};
+ghost use Rattle.std.specs.Prelude.{◌≡◌, ◌≤◌, ◌++◌, map, IfOk, OnOk};
 ghost use Rattle.std.specs.List.{flat_map};
+ghost use Rattle.std.specs.Option.{option_map};
 ghost use Rattle.wire_defs.specs.Field.Payload.{Span};
 ghost use Rattle.wire_defs.specs.Writing.{field_bytes};
 ghost use Rattle.feed_defs.specs.Rows.{message_bytes, write_if, write_all, degrees_payload};
-ghost use Rattle.feed_write.specs.Puts.{StartsWith};
+ghost use Rattle.feed_write.specs.Puts.{StartsWith, IsOpened};
 
 use crate::NoMemory;
 use crate::message::Message;
@@ -72,10 +73,11 @@ pub(crate) fn put_degrees(number: u32, value: Degrees, out: &mut Vec<u8>) -> Res
     write_four(number, value.bits, out)
 }
 
-/// Appends a message, as its length and its bytes.
+/// Appends a message with the prefix before its ids of the timetable, as its length and its bytes.
 pub(crate) fn put_message<M: Message>(
     number: u32,
     message: &M,
+    prefix: &str,
     out: &mut Vec<u8>,
 ) -> Result<(), NoMemory>
     requires first { 1 ≤ number }
@@ -85,22 +87,33 @@ pub(crate) fn put_message<M: Message>(
         ++ field_bytes (record {
           number = number;
           payload = Span
-              (message_bytes M.table message.now);
+              (message_bytes M.table (M.renamed prefix.now message.now));
         })) }
     ensures begins { StartsWith out.old.items out.new.items }
 {
-    write_varint(u64::from(number) * 8 + 2, out)?;
-    // The length is known only behind the content: a byte is kept for it, which is enough for most.
-    let place = out.len();
-    out.push(0)?;
-    message.put(out)?;
+    let place = open_message(number, out)?;
+    message.put(prefix, out)?;
     write_length(place, out)
 }
 
-/// Appends a message, where there is one.
+/// Appends the tag of a message, and a byte that is kept for its length, which is known only behind its content:
+/// it is enough for most. Gives the place of that byte.
+pub(crate) fn open_message(number: u32, out: &mut Vec<u8>) -> Result<usize, NoMemory>
+    requires { number ≤ 536870911 }
+    ensures opened { IfOk result (λ place. IsOpened number place out.old.items out.new.items) }
+    ensures begins { StartsWith out.old.items out.new.items }
+{
+    write_varint(u64::from(number) * 8 + 2, out)?;
+    let place = out.len();
+    out.push(0)?;
+    Ok(place)
+}
+
+/// Appends a message with the prefix before its ids of the timetable, where there is one.
 pub(crate) fn put_embedded<M: Message>(
     number: u32,
     message: &Option<M>,
+    prefix: &str,
     out: &mut Vec<u8>,
 ) -> Result<(), NoMemory>
     requires first { 1 ≤ number }
@@ -108,19 +121,20 @@ pub(crate) fn put_embedded<M: Message>(
     ensures written { OnOk result (out.new.items
         ≡ out.old.items
         ++ flat_map field_bytes (write_if number (λ x. Span
-        (message_bytes M.table x)) message.now)) }
+        (message_bytes M.table x)) (option_map (M.renamed prefix.now) message.now))) }
     ensures begins { StartsWith out.old.items out.new.items }
 {
     match message {
-        Some(message) => put_message(number, message, out),
+        Some(message) => put_message(number, message, prefix, out),
         None => Ok(()),
     }
 }
 
-/// Appends a message that stands in a box, where there is one.
+/// Appends a shared message with the prefix before its ids of the timetable, where there is one.
 pub(crate) fn put_shared<M: Message>(
     number: u32,
     message: &Option<Shared<M>>,
+    prefix: &str,
     out: &mut Vec<u8>,
 ) -> Result<(), NoMemory>
     requires first { 1 ≤ number }
@@ -128,42 +142,50 @@ pub(crate) fn put_shared<M: Message>(
     ensures written { OnOk result (out.new.items
         ≡ out.old.items
         ++ flat_map field_bytes (write_if number (λ x. Span
-        (message_bytes M.table x)) message.now)) }
+        (message_bytes M.table x)) (option_map (M.renamed prefix.now) message.now))) }
     ensures begins { StartsWith out.old.items out.new.items }
 {
     match message {
-        Some(message) => put_message(number, message.get(), out),
+        Some(message) => put_message(number, message.get(), prefix, out),
         None => Ok(()),
     }
 }
 
-/// Appends the messages, each as a field of that number.
-fn put_all<M: Message>(number: u32, messages: &[M], out: &mut Vec<u8>) -> Result<(), NoMemory>
+/// Appends the messages with the prefix before their ids of the timetable, each as a field of that number.
+fn put_all<M: Message>(
+    number: u32,
+    messages: &[M],
+    prefix: &str,
+    out: &mut Vec<u8>,
+) -> Result<(), NoMemory>
     requires first { 1 ≤ number }
     requires last { number ≤ 536870911 }
     ensures written { OnOk result (out.new.items
-        ≡ out.old.items ++ flat_map field_bytes (write_all number M.table messages.now)) }
+        ≡ out.old.items
+        ++ flat_map field_bytes (write_all number M.table (map (M.renamed prefix.now) messages.now))) }
     ensures begins { StartsWith out.old.items out.new.items }
 {
     for message in messages {
-        put_message(number, message, out)?;
+        put_message(number, message, prefix, out)?;
     }
     Ok(())
 }
 
-/// Appends the messages of a repeated field, each as a field of that number.
+/// Appends the messages of a repeated field with the prefix before their ids of the timetable.
 pub(crate) fn put_items<M: Message>(
     number: u32,
     messages: &Items<M>,
+    prefix: &str,
     out: &mut Vec<u8>,
 ) -> Result<(), NoMemory>
     requires first { 1 ≤ number }
     requires last { number ≤ 536870911 }
     ensures written { OnOk result (out.new.items
-        ≡ out.old.items ++ flat_map field_bytes (write_all number M.table messages.now)) }
+        ≡ out.old.items
+        ++ flat_map field_bytes (write_all number M.table (map (M.renamed prefix.now) messages.now))) }
     ensures begins { StartsWith out.old.items out.new.items }
 {
-    put_all(number, messages.as_slice(), out)
+    put_all(number, messages.as_slice(), prefix, out)
 }
 
 /// Appends the fields that a message doesn't know, as they came.

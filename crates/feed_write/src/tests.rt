@@ -1,6 +1,6 @@
 //! Bytes of whole messages, and ids under a prefix, with ample memory.
 
-use crate::{NoMemory, rename, write_message};
+use crate::{NoMemory, rename, write_message, write_under_feed};
 use rt_types::{
     Alert, Bytes, Cause, Degrees, Effect, Entities, Entity, Event, FeedMessage, Header,
     Incrementality, Period, Periods, Position, Selector, Selectors, Shared, StopProps,
@@ -198,6 +198,22 @@ fn a_message_is_appended_field_by_field(rt: HostRuntime) -> Result<(), Fail> {
     assert_eq!(rt;
         out.as_slice().strip_prefix(b"\x07".as_slice()),
         Some(BYTES)
+    );
+    Ok(())
+}
+
+/// What any encoder makes of its entity as a field, under the feed `f` and with `x-` before the ids of the timetable.
+const ENTITY: &[u8] =
+    b"\x12\xe3\x01\x0a\x03f:x\x1aj\x0a\x1a\x0a\x04x-T1\x1a\x0820250330 \x03*\x04x-R70\x01\x122\x08\x80\xd0\xac\xf3\x0e\x12\x0b\x08\xc4\xff\xff\xff\xff\xff\xff\xff\xff\x01\x1a\x0d\x10\xff\xff\xff\xff\xff\xff\xff\xff\xff\x01\x18\x1e\x22\x04x-S3(\x012\x06\x0a\x04x-S4\x1a\x0b\x0a\x03bus\x1a\x04HU B \x07(\xf8\xff\xff\xff\xff\xff\xff\xff\xff\x01\x22&\x0a\x06\x0a\x04x-T2\x12\x0a\x0d\x00\x00HB\x15\x00\x00H\xc2\x18\x03 \x02(\x09:\x04x-S2B\x04\x12\x0242*D\x0a\x04\x08\x0a\x10\x14\x0a\x00*\x22\x0a\x03x-A\x12\x00\x18\xfd\xff\xff\xff\xff\xff\xff\xff\xff\x01\x22\x06*\x04x-R7*\x04x-S10\x000\x088\x0aR\x10\x0a\x0e\x0a\x08Lift out\x12\x02enZ\x00J\x02hi";
+
+#[test]
+fn an_entity_is_appended_under_its_feed(rt: HostRuntime) -> Result<(), Fail> {
+    let alloc = rt.alloc();
+    let mut out = vec![in alloc; 7u8]?;
+    write_under_feed("f", "x-", &entity(alloc)?, &mut out)?;
+    assert_eq!(rt;
+        out.as_slice().strip_prefix(b"\x07".as_slice()),
+        Some(ENTITY)
     );
     Ok(())
 }

@@ -3,21 +3,21 @@ use Rattle.feed_defs.specs.Rows.{message_bytes}
 use Rattle.feed_write.proofs.Spelling.{starts_on, last_row, row_then}
 use Rattle.feed_write.proofs.descriptor.TripRefMessage.put.Goals as goal
 
-pub returns-in_err-put_text_if-4-clause-begins : goal.returns-in_err-put_text_if-4-clause-begins
-returns-in_err-put_text_if-4-clause-begins c = starts_on _ _ _ (starts_on _ _ _ (starts_on _ _ _ (starts_on _ _ _ (c.in_ok-put_text_if.ensures.begins) c.in_ok-put_text_if-2.ensures.begins) c.in_ok-put_text_if-3.ensures.begins) c.in_ok-put_scalar.ensures.begins) c.in_err-put_text_if-4.ensures.begins
+pub returns-in_err-put_id-2-clause-begins : goal.returns-in_err-put_id-2-clause-begins
+returns-in_err-put_id-2-clause-begins c = starts_on _ _ _ (starts_on _ _ _ (starts_on _ _ _ (starts_on _ _ _ (c.in_ok-put_id.ensures.begins) c.in_ok-put_text_if.ensures.begins) c.in_ok-put_text_if-2.ensures.begins) c.in_ok-put_scalar.ensures.begins) c.in_err-put_id-2.ensures.begins
 
 pub returns-in_err-put_scalar-2-clause-begins : goal.returns-in_err-put_scalar-2-clause-begins
-returns-in_err-put_scalar-2-clause-begins c = starts_on _ _ _ (starts_on _ _ _ (starts_on _ _ _ (starts_on _ _ _ (starts_on _ _ _ (c.in_ok-put_text_if.ensures.begins) c.in_ok-put_text_if-2.ensures.begins) c.in_ok-put_text_if-3.ensures.begins) c.in_ok-put_scalar.ensures.begins) c.in_ok-put_text_if-4.ensures.begins) c.in_err-put_scalar-2.ensures.begins
+returns-in_err-put_scalar-2-clause-begins c = starts_on _ _ _ (starts_on _ _ _ (starts_on _ _ _ (starts_on _ _ _ (starts_on _ _ _ (c.in_ok-put_id.ensures.begins) c.in_ok-put_text_if.ensures.begins) c.in_ok-put_text_if-2.ensures.begins) c.in_ok-put_scalar.ensures.begins) c.in_ok-put_id-2.ensures.begins) c.in_err-put_scalar-2.ensures.begins
 
 pub returns-clause-written : goal.returns-clause-written
 unfolding message_bytes
 returns-clause-written c =
-    row_then c.put_unknown.result _ _ _ _ _ _ c.in_ok-put_text_if.ensures.written
+    row_then c.put_unknown.result _ _ _ _ _ _ c.in_ok-put_id.ensures.written
+    (row_then c.put_unknown.result _ _ _ _ _ _ c.in_ok-put_text_if.ensures.written
     (row_then c.put_unknown.result _ _ _ _ _ _ c.in_ok-put_text_if-2.ensures.written
-    (row_then c.put_unknown.result _ _ _ _ _ _ c.in_ok-put_text_if-3.ensures.written
     (row_then c.put_unknown.result _ _ _ _ _ _ c.in_ok-put_scalar.ensures.written
-    (row_then c.put_unknown.result _ _ _ _ _ _ c.in_ok-put_text_if-4.ensures.written
+    (row_then c.put_unknown.result _ _ _ _ _ _ c.in_ok-put_id-2.ensures.written
     (last_row c.put_unknown.result _ _ _ _ _ c.in_ok-put_scalar-2.ensures.written c.put_unknown.ensures.written)))))
 
 pub returns-clause-begins : goal.returns-clause-begins
-returns-clause-begins c = starts_on _ _ _ (starts_on _ _ _ (starts_on _ _ _ (starts_on _ _ _ (starts_on _ _ _ (starts_on _ _ _ (c.in_ok-put_text_if.ensures.begins) c.in_ok-put_text_if-2.ensures.begins) c.in_ok-put_text_if-3.ensures.begins) c.in_ok-put_scalar.ensures.begins) c.in_ok-put_text_if-4.ensures.begins) c.in_ok-put_scalar-2.ensures.begins) c.put_unknown.ensures.begins
+returns-clause-begins c = starts_on _ _ _ (starts_on _ _ _ (starts_on _ _ _ (starts_on _ _ _ (starts_on _ _ _ (starts_on _ _ _ (c.in_ok-put_id.ensures.begins) c.in_ok-put_text_if.ensures.begins) c.in_ok-put_text_if-2.ensures.begins) c.in_ok-put_scalar.ensures.begins) c.in_ok-put_id-2.ensures.begins) c.in_ok-put_scalar-2.ensures.begins) c.put_unknown.ensures.begins

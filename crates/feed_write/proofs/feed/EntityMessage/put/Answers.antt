@@ -1,19 +1,6 @@
--- The fields stand one behind another.
-use Rattle.feed_defs.specs.Rows.{message_bytes}
-use Rattle.feed_write.proofs.Spelling.{starts_on, last_row, row_then, field_then}
+-- What stands behind the id follows it.
+use Rattle.feed_write.proofs.Entities.{entity_then}
 use Rattle.feed_write.proofs.feed.EntityMessage.put.Goals as goal
 
-pub returns-in_err-put_shared-3-clause-begins : goal.returns-in_err-put_shared-3-clause-begins
-returns-in_err-put_shared-3-clause-begins c = starts_on _ _ _ (starts_on _ _ _ (starts_on _ _ _ (starts_on _ _ _ (c.in_ok-put_text.ensures.begins) c.in_ok-put_scalar.ensures.begins) c.in_ok-put_shared.ensures.begins) c.in_ok-put_shared-2.ensures.begins) c.in_err-put_shared-3.ensures.begins
-
 pub returns-clause-written : goal.returns-clause-written
-unfolding message_bytes
-returns-clause-written c =
-    field_then c.put_unknown.result _ _ _ _ _ _ c.in_ok-put_text.ensures.written
-    (row_then c.put_unknown.result _ _ _ _ _ _ c.in_ok-put_scalar.ensures.written
-    (row_then c.put_unknown.result _ _ _ _ _ _ c.in_ok-put_shared.ensures.written
-    (row_then c.put_unknown.result _ _ _ _ _ _ c.in_ok-put_shared-2.ensures.written
-    (last_row c.put_unknown.result _ _ _ _ _ c.in_ok-put_shared-3.ensures.written c.put_unknown.ensures.written))))
-
-pub returns-clause-begins : goal.returns-clause-begins
-returns-clause-begins c = starts_on _ _ _ (starts_on _ _ _ (starts_on _ _ _ (starts_on _ _ _ (starts_on _ _ _ (c.in_ok-put_text.ensures.begins) c.in_ok-put_scalar.ensures.begins) c.in_ok-put_shared.ensures.begins) c.in_ok-put_shared-2.ensures.begins) c.in_ok-put_shared-3.ensures.begins) c.put_unknown.ensures.begins
+returns-clause-written c = entity_then c.put_content.result _ _ _ _ c.in_ok-put_text.ensures.written c.put_content.ensures.written
