@@ -1,18 +1,18 @@
 //! The message, and its bytes.
 
-ghost use Rattle.std.specs.Prelude.{◌≡◌, ◌<◌, ◌^◌, List, length, map, true, Ok, IfOk};
+ghost use Rattle.std.specs.Prelude.{◌≡◌, ◌<◌, ◌^◌, ◌++◌, List, length, map, true, Ok, IfOk, OnOk};
 ghost use Rattle.std.specs.Str.{is_utf8};
 ghost use Rattle.std.specs.Arc.{arc_value};
 ghost use Rattle.feed_defs.specs.declared.history.Entry.{Entry};
 ghost use Rattle.feed_defs.specs.History.{WereRead};
-ghost use Rattle.feed_defs.specs.Table.{read};
-ghost use Rattle.board_defs.specs.Feed.{newest_of, prefix_of, feed_message, combined_feed};
+ghost use Rattle.feed_defs.specs.Table.{read, write};
+ghost use Rattle.board_defs.specs.Feed.{newest_of, combined_feed};
 ghost use Rattle.board_defs.specs.Fold.{fold_of};
 ghost use Rattle.board_defs.specs.Views.{StandsFor, folds_of};
-ghost use Rattle.feed_out.specs.Feeds.{told_of, later_of, schedule_message};
+ghost use Rattle.feed_out.specs.Feeds.{told_of, later_of, schedule_message, header_of};
 
 use crate::NoMemory;
-use crate::entities::entities_of;
+use crate::entities::push_entities;
 use board_core::HubView;
 use feed_view::FeedView;
 use feed_write::write_message;
@@ -36,9 +36,11 @@ pub fn combined(alloc: Global, view: &HubView, plan: u32) -> Result<Vec<u8>, NoM
     let plans = view.plans();
     let prefix = plans.plans()[plan as usize].prefix.as_str();
     is_text(prefix);
-    let message = message_of(alloc, prefix, plan, plans.feeds(), view.feeds())?;
+    let feeds = plans.feeds();
+    let views = view.feeds();
     let mut bytes = Vec::new(alloc);
-    write_message(&message, &mut bytes)?;
+    push_header(alloc, newest(plan, feeds, views), &mut bytes)?;
+    push_entities(prefix, plan, feeds, views, &mut bytes)?;
     Ok(bytes)
 }
 
@@ -47,30 +49,22 @@ fn is_text(_text: &str)
     ensures { is_utf8 _text.now ≡ true }
 {}
 
-/// The whole data set of the schedule's feeds, of which the views are given.
-fn message_of(
-    alloc: Global,
-    prefix: &str,
-    plan: u32,
-    feeds: &[NamedFeed],
-    views: &[Arc<FeedView>],
-) -> Result<FeedMessage, NoMemory>
-    requires { length views.now ≡ length feeds.now }
-    ensures message { IfOk result (λ message. message
-        ≡ feed_message prefix.now (told_of plan feeds.now (map arc_value views.now))) }
-    ensures fits { IfOk result (λ _. newest_of (told_of plan feeds.now (map arc_value views.now)) < 2 ^ 64) }
+/// Appends the header of a whole data set of that stamp: a message of no entities, behind which those follow as
+/// further fields.
+fn push_header(alloc: Global, newest: u64, out: &mut Vec<u8>) -> Result<(), NoMemory>
+    ensures { OnOk result (out.new.items ≡ out.old.items ++ write (header_of newest)) }
 {
-    let entities = entities_of(alloc, prefix, plan, feeds, views)?;
-    Ok(FeedMessage {
+    let message = FeedMessage {
         header: Header {
             version: Text::new(alloc, "2.0")?,
             incrementality: Some(Incrementality::FullDataset),
-            timestamp: Some(newest(plan, feeds, views)),
+            timestamp: Some(newest),
             unknown: Bytes::new(alloc, b"")?,
         },
-        entity: Entities::new(entities),
+        entity: Entities::new(Vec::new(alloc)),
         unknown: Bytes::new(alloc, b"")?,
-    })
+    };
+    write_message(&message, out)
 }
 
 /// The greatest last stamp of the schedule's feeds, 0 if it has none.
