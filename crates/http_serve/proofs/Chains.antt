@@ -1,0 +1,155 @@
+-- What is done for one response, and then for others, is done for all of them.
+use Rattle.std.proofs.Common.{◌≡◌, ◌==◌, ℕ, ◌+◌, ◌≤◌, true, List, [], ◌∷◌, ◌++◌, length, take, Option, refl, sym, ap, ap₂, ◌∙◌, subst, arith, append_assoc, append-nil, length-append, add-zero}
+use Rattle.std.specs.Option.{option_map}
+use Rattle.std.specs.Io.KnownBytes.{Appends}
+use Rattle.std.proofs.KnownBytes.{Appends-nil, Appends-trans}
+use Rattle.std.proofs.lemmas.List.{take-append-le}
+use Rattle.std.proofs.Math.Seq.{take-length}
+use Rattle.feed_defs.specs.declared.history.Entry.{Entry}
+use Rattle.sched_types.specs.Schedules.{Schedules}
+use Rattle.hub_outside.specs.Clock.{ShowsFirst, after_reading}
+use Rattle.board_core.specs.Looks.{GoesOn}
+use Rattle.board_defs.specs.Fold.{fold_of}
+use Rattle.http_defs.specs.declared.request.Item.{Item}
+use Rattle.http_defs.specs.Requests.{last_place}
+use Rattle.serve_defs.specs.Answers.{answer}
+use Rattle.http_serve.specs.Setting.{Setting, HubGoesOn, Readings, NeverFall}
+use Rattle.http_serve.specs.Replies.{Reply, items_of, moments_of, numbers_of, reply_bytes, replies_bytes, Begun, none_begun}
+use Rattle.http_serve.specs.Turns.{Answers}
+
+-- ---- the hub
+
+-- a history is not shorter than one with which it begins
+pub goes_on_longer : (old new : List Entry) → GoesOn old new → length old ≤ length new
+goes_on_longer old new g = omega (arith, length-append old g.more, ap length g.is)
+
+pub hub_stays : (a : Setting) → HubGoesOn a a
+hub_stays a = record {
+  history_goes_on = record { more = []; is = sym (append-nil a.history) };
+  steady_history_stays = λ _. refl;
+  steadiness_stays = refl;
+  plans_stay = refl;
+}
+
+pub hub_on : (a b c : Setting) → HubGoesOn a b → HubGoesOn b c → HubGoesOn a c
+hub_on a b c x y = record {
+  history_goes_on = record {
+    more = x.history_goes_on.more ++ y.history_goes_on.more;
+    is = y.history_goes_on.is ∙ ap (λ h. h ++ y.history_goes_on.more) x.history_goes_on.is
+        ∙ append_assoc a.history x.history_goes_on.more y.history_goes_on.more;
+  };
+  steady_history_stays = λ s. y.steady_history_stays (x.steadiness_stays ∙ s) ∙ x.steady_history_stays s;
+  steadiness_stays = y.steadiness_stays ∙ x.steadiness_stays;
+  plans_stay = y.plans_stay ∙ x.plans_stay;
+}
+
+-- ---- readings and numbers
+
+readings_on : (a b c : Option (List ℕ)) (xs ys : List ℕ) → Readings a b xs → Readings b c ys → Readings a c (xs ++ ys)
+readings_on a b c [] ys x y = subst (λ (o : Option (List ℕ)). Readings o c ys) x y
+readings_on a b c (m ∷ xs) ys x y = (x.0, readings_on (option_map after_reading a) b c xs ys x.1 y)
+
+never_fall_from : (low high top : ℕ) (ns : List ℕ) → low ≤ high → NeverFall high ns top → NeverFall low ns top
+never_fall_from low high top [] l f = omega arith
+never_fall_from low high top (n ∷ ns) l f = let least = f.0 in (omega arith, f.1)
+
+never_fall_on : (low mid high : ℕ) (ns ms : List ℕ) → NeverFall low ns mid → NeverFall mid ms high → NeverFall low (ns ++ ms) high
+never_fall_on low mid high [] ms x y = never_fall_from low mid high ms x y
+never_fall_on low mid high (n ∷ ns) ms x y = (x.0, never_fall_on n mid high ns ms x.1 y)
+
+-- none is above the highest
+never_fall_below : (low n high : ℕ) (ns : List ℕ) → NeverFall low (n ∷ ns) high → n ≤ high
+never_fall_below low n high [] f = f.1
+never_fall_below low n high (m ∷ ns) f = let next = f.1.0 in let later = never_fall_below n m high ns f.1 in omega arith
+
+-- ---- lists of responses
+
+pub items_of-append : (rs qs : List Reply) → items_of (rs ++ qs) ≡ items_of rs ++ items_of qs
+items_of-append [] qs = refl
+items_of-append (r ∷ rs) qs = ap (λ (xs : List Item). r.item ∷ xs) (items_of-append rs qs)
+
+pub moments_of-append : (rs qs : List Reply) → moments_of (rs ++ qs) ≡ moments_of rs ++ moments_of qs
+moments_of-append [] qs = refl
+moments_of-append (r ∷ rs) qs = ap (λ (xs : List ℕ). r.moment ∷ xs) (moments_of-append rs qs)
+
+pub numbers_of-append : (rs qs : List Reply) → numbers_of (rs ++ qs) ≡ numbers_of rs ++ numbers_of qs
+numbers_of-append [] qs = refl
+numbers_of-append (r ∷ rs) qs = ap (λ (xs : List ℕ). r.number ∷ xs) (numbers_of-append rs qs)
+
+pub length-items_of : (rs : List Reply) → length (items_of rs) ≡ length rs
+length-items_of [] = refl
+length-items_of (r ∷ rs) = let more = length-items_of rs in omega arith
+
+replies_append : (plans : Schedules) (h : List Entry) (place : ℕ) (rs qs : List Reply)
+    → replies_bytes plans h place (rs ++ qs) ≡ replies_bytes plans h place rs ++ replies_bytes plans h (place + length rs) qs
+replies_append plans h place [] qs = ap (λ n. replies_bytes plans h n qs) (sym (add-zero place))
+replies_append plans h place (r ∷ rs) qs =
+    let next : place + 1 + length rs ≡ place + length (r ∷ rs) = omega arith in
+    ap (λ xs. reply_bytes plans h place r ++ xs)
+    (replies_append plans h (place + 1) rs qs ∙ ap (λ n. replies_bytes plans h (place + 1) rs ++ replies_bytes plans h n qs) next)
+    ∙ sym (append_assoc (reply_bytes plans h place r) _ _)
+
+-- a response of a history that goes on is the same
+reply_kept : (plans : Schedules) (h later : List Entry) (place : ℕ) (r : Reply) → GoesOn h later → r.number ≤ length h
+    → reply_bytes plans later place r ≡ reply_bytes plans h place r
+unfolding reply_bytes
+reply_kept plans h later place r g within =
+    let same : take r.number later ≡ take r.number h = ap (take r.number) g.is ∙ take-append-le r.number h g.more within in
+    ap (λ xs. answer plans r.item (place == last_place) r.moment r.number (fold_of (length plans.feeds) xs)) same
+
+replies_kept : (plans : Schedules) (h later : List Entry) (low place : ℕ) (rs : List Reply) → GoesOn h later
+    → NeverFall low (numbers_of rs) (length h) → replies_bytes plans later place rs ≡ replies_bytes plans h place rs
+replies_kept plans h later low place [] g f = refl
+replies_kept plans h later low place (r ∷ rs) g f =
+    ap₂ (λ (xs ys : List ℕ). xs ++ ys) (reply_kept plans h later place r g (never_fall_below low r.number (length h) (numbers_of rs) f))
+    (replies_kept plans h later r.number (place + 1) rs g f.1)
+
+-- a response of the whole history
+pub reply_of_all : (plans : Schedules) (h : List Entry) (place : ℕ) (r : Reply) → r.number ≡ length h
+    → answer plans r.item (place == last_place) r.moment r.number (fold_of (length plans.feeds) h) ≡ reply_bytes plans h place r
+unfolding reply_bytes
+reply_of_all plans h place r whole =
+    ap (λ xs. answer plans r.item (place == last_place) r.moment r.number (fold_of (length plans.feeds) xs))
+    (sym (ap (λ n. take n h) whole ∙ take-length h))
+
+-- ---- responses, and then others
+
+-- none
+pub answers_none : (place : ℕ) (a : Setting) → Answers place a a [] none_begun
+answers_none place a = record {
+  hub = hub_stays a;
+  numbers = omega arith;
+  readings = refl;
+  output = Appends-nil a.written;
+  looks = sym (add-zero a.reads);
+  faults_later = omega arith;
+}
+
+moved : (xs ys zs all : List ℕ) → all ≡ xs ++ ys → (xs ++ []) ++ (ys ++ zs) ≡ all ++ zs
+moved xs ys zs all e =
+    ap (λ l. l ++ (ys ++ zs)) (append-nil xs) ∙ sym (append_assoc xs ys zs) ∙ ap (λ l. l ++ zs) (sym e)
+
+pub answers_on : (place : ℕ) (a b c : Setting) (rs qs : List Reply) (begun : Begun) → Answers place a b rs none_begun
+    → Answers (place + length rs) b c qs begun → Answers place a c (rs ++ qs) begun
+answers_on place a b c rs qs begun x y =
+    let written : replies_bytes a.plans c.history place (rs ++ qs)
+        ≡ replies_bytes a.plans b.history place rs ++ replies_bytes b.plans c.history (place + length rs) qs =
+    replies_append a.plans c.history place rs qs
+    ∙ ap₂ (λ (us vs : List ℕ). us ++ vs)
+    (replies_kept a.plans b.history c.history (length a.history) place rs y.hub.history_goes_on x.numbers)
+    (ap (λ p. replies_bytes p c.history (place + length rs) qs) (sym x.hub.plans_stay))
+    in
+    record {
+      hub = hub_on a b c x.hub y.hub;
+      numbers = subst (λ (ns : List ℕ). NeverFall (length a.history) ns (length c.history)) (sym (numbers_of-append rs qs))
+          (never_fall_on (length a.history) (length b.history) (length c.history) (numbers_of rs) (numbers_of qs) x.numbers y.numbers);
+      readings = subst (λ (ms : List ℕ). Readings a.ahead c.ahead ms)
+          (moved (moments_of rs) (moments_of qs) begun.readings (moments_of (rs ++ qs)) (moments_of-append rs qs))
+          (readings_on a.ahead b.ahead c.ahead _ _ x.readings y.readings);
+      output = subst (λ (bytes : List ℕ). Appends a.written c.written bytes)
+          (moved (replies_bytes a.plans b.history place rs) (replies_bytes b.plans c.history (place + length rs) qs) begun.cut
+          (replies_bytes a.plans c.history place (rs ++ qs)) written)
+          (Appends-trans a.written b.written c.written _ _ x.output y.output);
+      looks = let one = x.looks in let two = y.looks in let both = length-append rs qs in omega arith;
+      faults_later = let one = x.faults_later in let two = y.faults_later in omega arith;
+    }

@@ -1,0 +1,4 @@
+pub mod Chains
+pub mod OnWay
+pub mod Ends
+pub mod OneReply

@@ -1,0 +1,6 @@
+pub mod Setting
+pub mod Replies
+pub mod Notes
+pub mod Headings
+pub mod Serves
+pub mod Turns

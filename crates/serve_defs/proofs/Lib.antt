@@ -1,0 +1,2 @@
+pub mod QueryLaws
+mod CityResponses
