@@ -1,0 +1,131 @@
+-- The alerts that a query of a board lists.
+use Rattle.std.specs.Prelude.{ℕ, ◌+◌, Bool, true, ◌&&◌, ◌||◌, ◌==◌, nat_le, nat_lt, if◌then◌else◌, List, [], ◌∷◌, ◌++◌, length, map, find, Option, Some, None, unwrap_or}
+use Rattle.std.specs.List.{list_any, flat_map}
+use Rattle.std.specs.Option.{option_map, option_and_then, is_none}
+use Rattle.rt_types.specs.declared.alert.Alert.{Alert}
+use Rattle.rt_types.specs.declared.alert.Period.{Period}
+use Rattle.rt_types.specs.declared.alert.Selector.{Selector}
+use Rattle.rt_types.specs.declared.alert.Translated.{Translated}
+use Rattle.rt_types.specs.declared.alert.Translation.{Translation}
+use Rattle.feed_defs.specs.Enums.{cause_number, effect_number}
+use Rattle.feed_defs.specs.History.{Change}
+use Rattle.sched_types.specs.declared.plans.NamedFeed.{NamedFeed}
+use Rattle.sched_types.specs.Schedules.{Schedules}
+use Rattle.sched_types.specs.Timetable.{Timetable, number_of}
+use Rattle.board_defs.specs.declared.query.BoardQuery.{BoardQuery}
+use Rattle.board_defs.specs.Fold.{FeedFold}
+use Rattle.board_defs.specs.Rows.{BoardRow, board, timetable_in}
+use Rattle.alert_defs.specs.declared.rows.AlertRow.{AlertRow}
+use Rattle.alert_defs.specs.Touching.{Touched, touches}
+use Rattle.alert_defs.specs.Touching.Touched.{StopItself, RowAt}
+
+-- ---- when
+
+abbrev pub is_begun : ℕ → Option ℕ → Bool
+is_begun at None = true
+is_begun at (Some start) = nat_le start at
+
+abbrev pub goes_on : ℕ → Option ℕ → Bool
+goes_on at None = true
+goes_on at (Some end) = nat_lt at end
+
+-- a period holds from its start on, up to but not at its end; an absent bound is open (GTFS Realtime,
+-- TimeRange)
+abbrev pub holds_at : ℕ → Period → Bool
+holds_at at period = is_begun at period.start && goes_on at period.end
+
+-- an alert is active in one of its periods, and always where it has none (Alert, active_period)
+unfoldable pub is_active : Alert → ℕ → Bool
+is_active alert at =
+    (length alert.active_period == 0) || list_any (holds_at at) alert.active_period
+
+-- ---- what
+
+-- what a row of a board is to a selector
+abbrev pub touched_as : BoardRow → Touched
+touched_as row = RowAt row.subject row.stop
+
+-- a selector touches the stop, or one of the rows
+abbrev pub touches_any : Timetable → ℕ → ℕ → List Touched → Selector → Bool
+touches_any t stamp stop rows selector =
+    touches t selector stamp (StopItself stop)
+    || list_any (λ row. touches t selector stamp row) rows
+
+-- one of the alert's selectors touches the stop, or one of the rows
+unfoldable pub concerns : Timetable → Alert → ℕ → ℕ → List Touched → Bool
+concerns t alert stamp stop rows =
+    list_any (touches_any t stamp stop rows) alert.informed_entity
+
+-- ---- how it is shown
+
+-- the first translation that tells no language, else the first, else nothing (TranslatedString)
+abbrev pub text_among : List Translation → List ℕ
+text_among [] = []
+text_among (first ∷ others) =
+    (unwrap_or (find (λ one. is_none one.language) (first ∷ others)) first).text
+
+abbrev pub header_of : Option Translated → List ℕ
+header_of None = []
+header_of (Some translated) = text_among translated.translation
+
+abbrev pub alert_row : ℕ → List ℕ → Alert → AlertRow
+alert_row feed id alert = record {
+  feed = feed;
+  id = id;
+  cause = option_map cause_number alert.cause;
+  effect = option_map effect_number alert.effect;
+  header = header_of alert.header_text;
+}
+
+-- ---- the list
+
+-- the row of an entity that has an alert, where it is active and touches what is asked for
+abbrev pub row_of_alert : Timetable → ℕ → ℕ → List Touched → ℕ → Change → Option Alert
+    → Option AlertRow
+row_of_alert t at stop rows feed change None = None
+row_of_alert t at stop rows feed change (Some alert) =
+    if is_active alert at && concerns t alert change.1.stamp stop rows
+    then Some (alert_row feed change.0 alert) else None
+
+abbrev pub row_of_change : Timetable → ℕ → ℕ → List Touched → ℕ → Change → Option AlertRow
+row_of_change t at stop rows feed change =
+    row_of_alert t at stop rows feed change change.1.entity.alert
+
+-- something of each entity that the feeds of a schedule hold, by feed and then by id; the feeds are
+-- numbered from `first` on
+unfoldable pub over_feeds : {A : Type 0} → (ℕ → Change → List A) → ℕ → ℕ → List NamedFeed
+    → List FeedFold → List A
+over_feeds each plan first [] folds = []
+over_feeds each plan first (feed ∷ feeds) [] = []
+over_feeds each plan first (feed ∷ feeds) (fold ∷ folds) =
+    (if feed.plan == plan then flat_map (each first) fold.entities else [])
+    ++ over_feeds each plan (first + 1) feeds folds
+
+-- at most one of a kind
+abbrev pub listed : {A : Type 0} → Option A → List A
+listed None = []
+listed (Some x) = x ∷ []
+
+abbrev pub alerts_at : Timetable → Schedules → List FeedFold → BoardQuery → List Touched → ℕ
+    → List AlertRow
+alerts_at t schedules folds query rows stop =
+    over_feeds (λ feed change. listed (row_of_change t query.at stop rows feed change))
+    query.plan 0 schedules.feeds folds
+
+abbrev pub alerts_in : Timetable → Schedules → List FeedFold → BoardQuery → List BoardRow
+    → Option (List AlertRow)
+alerts_in t schedules folds query rows =
+    option_map (alerts_at t schedules folds query (map touched_as rows))
+    (number_of (λ stop. stop.id) t.stops query.stop)
+
+abbrev pub alerts_beside : Option Timetable → Schedules → List FeedFold → BoardQuery
+    → List BoardRow → Option (List AlertRow)
+alerts_beside None schedules folds query rows = None
+alerts_beside (Some t) schedules folds query rows = alerts_in t schedules folds query rows
+
+-- The alerts that are active at the query's moment and touch its stop or one of the rows of its
+-- board, by feed and id; None where no row of stops.txt has the asked id.
+unfoldable pub alerts : Schedules → List FeedFold → BoardQuery → Option (List AlertRow)
+alerts schedules folds query =
+    option_and_then (alerts_beside (timetable_in schedules query.plan) schedules folds query)
+    (board schedules folds query)

@@ -1,0 +1,5 @@
+-- The agency of the id that is given.
+use Rattle.alert_select.proofs.aim.agency_of.Goals as goal
+
+pub returns-in-Some : goal.returns-in-Some
+returns-in-Some c = rw (c.in-Some.is, ← c.as_str.ensures) c.agency_of.ensures.value

@@ -1,0 +1,14 @@
+-- The ids of a feed's alerts.
+use Rattle.std.specs.Prelude.{ℕ, List, Option, Some, None, if◌then◌else◌}
+use Rattle.std.specs.List.{filter_map}
+use Rattle.std.specs.Option.{is_some}
+use Rattle.feed_defs.specs.declared.history.Stored.{Stored}
+use Rattle.feed_defs.specs.History.{Change}
+
+-- the id of an entity, where it has an alert
+abbrev pub alert_id : Stored → Option (List ℕ)
+alert_id stored = if is_some stored.entity.alert then Some stored.entity.id else None
+
+-- the ids of the entities that have one, in their order
+abbrev pub alert_ids : List Change → List (List ℕ)
+alert_ids changes = filter_map (λ change. alert_id change.1) changes

@@ -1,0 +1,4 @@
+mod Fronts
+mod Cells
+mod Logs
+mod Moves

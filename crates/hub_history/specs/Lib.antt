@@ -1,0 +1,4 @@
+pub mod Log
+pub mod Rules
+pub mod Told
+pub mod Authors
