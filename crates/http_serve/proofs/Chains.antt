@@ -1,5 +1,5 @@
 -- What is done for one response, and then for others, is done for all of them.
-use Rattle.std.proofs.Common.{◌≡◌, ◌==◌, ℕ, ◌+◌, ◌≤◌, true, List, [], ◌∷◌, ◌++◌, length, take, Option, refl, sym, ap, ap₂, ◌∙◌, subst, arith, append_assoc, append-nil, length-append, add-zero}
+use Rattle.std.proofs.Common.{◌≡◌, ◌==◌, ℕ, ◌+◌, ◌≤◌, List, [], ◌∷◌, ◌++◌, length, take, Option, refl, sym, ap, ap₂, ◌∙◌, subst, arith, append_assoc, append-nil, length-append, add-zero}
 use Rattle.std.specs.Option.{option_map}
 use Rattle.std.specs.Io.KnownBytes.{Appends}
 use Rattle.std.proofs.KnownBytes.{Appends-nil, Appends-trans}
@@ -7,7 +7,7 @@ use Rattle.std.proofs.lemmas.List.{take-append-le}
 use Rattle.std.proofs.Math.Seq.{take-length}
 use Rattle.feed_defs.specs.declared.history.Entry.{Entry}
 use Rattle.sched_types.specs.Schedules.{Schedules}
-use Rattle.hub_outside.specs.Clock.{ShowsFirst, after_reading}
+use Rattle.hub_outside.specs.Clock.{after_reading}
 use Rattle.board_core.specs.Looks.{GoesOn}
 use Rattle.board_defs.specs.Fold.{fold_of}
 use Rattle.http_defs.specs.declared.request.Item.{Item}
@@ -133,7 +133,7 @@ pub answers_on : (place : ℕ) (a b c : Setting) (rs qs : List Reply) (begun : B
     → Answers (place + length rs) b c qs begun → Answers place a c (rs ++ qs) begun
 answers_on place a b c rs qs begun x y =
     let written : replies_bytes a.plans c.history place (rs ++ qs)
-        ≡ replies_bytes a.plans b.history place rs ++ replies_bytes b.plans c.history (place + length rs) qs =
+    ≡ replies_bytes a.plans b.history place rs ++ replies_bytes b.plans c.history (place + length rs) qs =
     replies_append a.plans c.history place rs qs
     ∙ ap₂ (λ (us vs : List ℕ). us ++ vs)
     (replies_kept a.plans b.history c.history (length a.history) place rs y.hub.history_goes_on x.numbers)

@@ -1,5 +1,5 @@
 -- How a connection ends.
-use Rattle.std.proofs.Common.{◌≡◌, ◌≢◌, ℕ, ◌+◌, ◌≤◌, ◌<◌, Bool, true, false, List, [], ◌∷◌, ◌++◌, length, take, Option, None, Some, Err, refl, sym, ap, ap₂, ◌∙◌, subst, arith, append-nil}
+use Rattle.std.proofs.Common.{◌≡◌, ℕ, ◌+◌, ◌≤◌, ◌<◌, Bool, true, false, List, [], ◌∷◌, ◌++◌, length, take, Option, None, Some, Err, refl, sym, ap, ap₂, ◌∙◌, subst, arith, append-nil}
 use Rattle.std.specs.Bool.{MatchBool}
 use Rattle.std.specs.Io.KnownBytes.{Consumes, IsAtEnd}
 use Rattle.std.proofs.KnownBytes.{Consumes-nil, Consumes-trans}
@@ -15,10 +15,10 @@ use Rattle.http_serve.specs.declared.session.End.{End}
 use Rattle.http_serve.specs.declared.session.End.TheVariants.{Ended, Closed, Bad, ReadFault, WriteFault, NoMemory}
 use Rattle.http_serve.specs.declared.serving.Turn.TheVariants.{Ends}
 use Rattle.http_serve.specs.Setting.{Setting}
-use Rattle.http_serve.specs.Replies.{Reply, items_of, moments_of, numbers_of, reply_bytes, Begun, none_begun}
+use Rattle.http_serve.specs.Replies.{Reply, items_of, reply_bytes, Begun, none_begun}
 use Rattle.http_serve.specs.Notes.{Noted, noted}
-use Rattle.http_serve.specs.Serves.{StandsFirst, Behind, AreAnswered, WasCut, WasStarved, IsBegun, HasEndCause, Serves}
-use Rattle.http_serve.specs.Turns.{Answers, Replied, IsCut, TakesItem, TakesNext, ItemAnswered, Turns}
+use Rattle.http_serve.specs.Serves.{StandsFirst, AreAnswered, WasCut, WasStarved, IsBegun, HasEndCause, Serves}
+use Rattle.http_serve.specs.Turns.{Answers, IsCut, TakesItem, TakesNext, ItemAnswered, Turns}
 use Rattle.http_serve.proofs.Chains.{answers_none}
 use Rattle.http_serve.proofs.OnWay.{OnWay, nothing_noted, on_way_first, noted_on, items_push, place_behind, answers_behind, input_told, stands_first}
 
@@ -154,7 +154,7 @@ was_cut place bytes held held' left now later a b c before item begun w takes cu
     let behind = place_behind place w.replies w.place_is in omega arith
     in
     let same : reply_bytes b.plans c.history place cut.reply
-        ≡ reply_bytes a.plans c.history (length (items_of w.replies) + 1) cut.reply =
+    ≡ reply_bytes a.plans c.history (length (items_of w.replies) + 1) cut.reply =
     ap₂ (λ (plans : Schedules) (n : ℕ). reply_bytes plans c.history n cut.reply) w.answers.hub.plans_stay at
     in
     record {

@@ -1,19 +1,18 @@
 -- Where a connection stands between two requests.
-use Rattle.std.proofs.Common.{◌≡◌, ◌≢◌, ℕ, ◌+◌, ◌≤◌, true, false, List, [], ◌∷◌, ◌++◌, length, Option, None, Some, IfSome, refl, sym, ap, ap₂, ◌∙◌, subst, arith, append-nil, length-append}
+use Rattle.std.proofs.Common.{◌≡◌, ◌≢◌, ℕ, ◌+◌, ◌≤◌, false, List, [], ◌∷◌, ◌++◌, length, Option, None, Some, IfSome, refl, sym, ap, ap₂, ◌∙◌, subst, arith, length-append}
 use Rattle.std.specs.Io.KnownBytes.{Consumes}
 use Rattle.std.proofs.KnownBytes.{Consumes-nil, Consumes-trans}
-use Rattle.http_defs.specs.declared.request.Request.{Request}
 use Rattle.http_defs.specs.declared.request.Item.{Item}
 use Rattle.http_defs.specs.declared.request.Item.TheVariants.{Asked, Malformed}
-use Rattle.http_defs.specs.Requests.{NoHead, Begins, is_last, last_place, Leads}
+use Rattle.http_defs.specs.Requests.{NoHead, is_last, last_place, Leads}
 use Rattle.http_defs.proofs.RequestLaws.{leads_more, leads_push, leads_short, begins_more}
 use Rattle.http_req.specs.Reading.{known}
 use Rattle.http_serve.specs.declared.serving.Turn.TheVariants.{GoesOn}
 use Rattle.http_serve.specs.Setting.{Setting}
-use Rattle.http_serve.specs.Replies.{Reply, items_of, moments_of, numbers_of, Begun, none_begun}
+use Rattle.http_serve.specs.Replies.{Reply, items_of, Begun, none_begun}
 use Rattle.http_serve.specs.Notes.{Noted, noted}
 use Rattle.http_serve.specs.Serves.{StandsFirst}
-use Rattle.http_serve.specs.Turns.{Answers, Replied, TakesItem, ItemAnswered, Turns}
+use Rattle.http_serve.specs.Turns.{Answers, TakesItem, Turns}
 use Rattle.http_serve.proofs.Chains.{items_of-append, moments_of-append, numbers_of-append, length-items_of, answers_none, answers_on}
 
 -- nothing is noted

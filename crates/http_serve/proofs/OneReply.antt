@@ -1,5 +1,5 @@
 -- The response to one item, from the look to the last byte.
-use Rattle.std.proofs.Common.{◌≡◌, ◌==◌, ℕ, ◌+◌, ◌-◌, ◌≤◌, ◌<◌, Bool, true, List, [], ◌∷◌, ◌++◌, length, take, Option, Ok, Err, refl, sym, ap, ap₂, ◌∙◌, subst, arith, append-nil}
+use Rattle.std.proofs.Common.{◌≡◌, ◌==◌, ℕ, ◌+◌, ◌-◌, ◌≤◌, ◌<◌, Bool, List, [], ◌∷◌, ◌++◌, length, take, Option, Ok, Err, refl, sym, ap, ◌∙◌, subst, arith, append-nil}
 use Rattle.std.specs.Option.{option_map}
 use Rattle.std.specs.Io.KnownBytes.{Appends}
 use Rattle.std.proofs.KnownBytes.{Appends-nil}
@@ -15,8 +15,8 @@ use Rattle.http_defs.specs.declared.request.Item.{Item}
 use Rattle.http_defs.specs.Requests.{last_place}
 use Rattle.serve_defs.specs.Answers.{answer}
 use Rattle.http_serve.specs.Setting.{Setting, setting, HubGoesOn}
-use Rattle.http_serve.specs.Replies.{Reply, reply_bytes, Begun, none_begun}
-use Rattle.http_serve.specs.Notes.{Noted, noted}
+use Rattle.http_serve.specs.Replies.{Reply, reply_bytes, Begun}
+use Rattle.http_serve.specs.Notes.{Noted}
 use Rattle.http_serve.specs.Serves.{WasStarved}
 use Rattle.http_serve.specs.Turns.{Answers, IsCut, Replied}
 use Rattle.http_serve.proofs.Chains.{goes_on_longer, reply_of_all}

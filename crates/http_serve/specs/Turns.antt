@@ -1,6 +1,5 @@
 -- What one turn of a connection does: an item is taken, and answered.
 use Rattle.std.specs.Prelude.{◌≡◌, ◌≢◌, ℕ, ◌+◌, ◌≤◌, ◌<◌, if◌then◌else◌, true, false, List, [], ◌∷◌, ◌++◌, length, take, Option, Result, Ok, Err}
-use Rattle.std.specs.Global.{Vec}
 use Rattle.std.specs.Io.KnownBytes.{Appends, Consumes, IsAtEnd}
 use Rattle.hub_outside.specs.Count.{Rose}
 use Rattle.http_defs.specs.declared.request.Request.{Request}
@@ -15,7 +14,7 @@ use Rattle.http_serve.specs.declared.replying.Unwritten.TheVariants.{Cut, Starve
 use Rattle.http_serve.specs.declared.serving.Turn.{Turn}
 use Rattle.http_serve.specs.declared.serving.Turn.TheVariants.{GoesOn, Ends}
 use Rattle.http_serve.specs.Setting.{Setting, HubGoesOn, Readings, NeverFall}
-use Rattle.http_serve.specs.Replies.{Reply, items_of, moments_of, numbers_of, reply_bytes, replies_bytes, Begun, none_begun}
+use Rattle.http_serve.specs.Replies.{Reply, moments_of, numbers_of, reply_bytes, replies_bytes, Begun, none_begun}
 use Rattle.http_serve.specs.Notes.{Noted, noted}
 use Rattle.http_serve.specs.Serves.{WasStarved, HasEndCause}
 

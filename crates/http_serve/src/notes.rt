@@ -1,6 +1,6 @@
 //! What is kept of the responses that were written.
 ghost use Rattle.std.specs.Prelude.{◌≡◌, [], ◌∷◌, ◌++◌, OnOk};
-ghost use Rattle.http_serve.specs.Notes.{Noted, noted_in, HasRoom};
+ghost use Rattle.http_serve.specs.Notes.{noted_in, HasRoom};
 
 use crate::{End, NoMemory, Session};
 use std::alloc::Global;

@@ -1,5 +1,4 @@
 //! The response to one item.
-ghost use Rattle.std.specs.Prelude.{◌≡◌};
 ghost use Rattle.http_serve.specs.Setting.{setting};
 ghost use Rattle.http_serve.specs.Notes.{noted_in};
 ghost use Rattle.http_serve.specs.Turns.{Replies};

@@ -1,5 +1,5 @@
 //! The requests of a connection, one after another.
-ghost use Rattle.std.specs.Prelude.{◌≡◌, ◌≤◌, [], IfOk};
+ghost use Rattle.std.specs.Prelude.{◌≡◌, [], IfOk};
 ghost use Rattle.http_serve.specs.Setting.{setting};
 ghost use Rattle.http_serve.specs.Notes.{noted_in};
 ghost use Rattle.http_serve.specs.Serves.{Serves};

@@ -1,12 +1,10 @@
 //! Connections over a hub of one schedule without stops and of one feed, which sent nothing, at the
 //! second 7. Boards with rows are asked for in the tests of `hub_main`.
-ghost use Rattle.std.specs.Prelude.{◌≡◌, ℕ, List, Some, is_some};
+ghost use Rattle.std.specs.Prelude.{Some};
 ghost use Rattle.hub_outside.specs.Memory.{bytes_left, source_faults, bytes_written, sink_faults};
 
 use crate::{End, NoMemory, Session, serve_connection};
-use hub_outside::{
-    FixedClock, MemorySink, MemorySource, ReadAnswer, Sink, Source, WriteAnswer,
-};
+use hub_outside::{FixedClock, MemorySink, MemorySource, ReadAnswer, Sink, Source, WriteAnswer};
 use hub_state::ReplayHub;
 use rt_types::Text;
 use sched_types::{NamedFeed, NamedPlan, Plan, Plans};
@@ -18,19 +16,25 @@ use std::test::Fail;
 /// A request for a combined feed, and the response to it.
 const ASK: &[u8] = b"GET /feed/city HTTP/1.1\r\n\r\n";
 
-const FEED: &[u8] = b"HTTP/1.1 200 OK\r\nContent-Type: application/x-protobuf\r\nContent-Length: 11\r\nX-Hub-Sequence: 0\r\nX-Hub-Moment: 7\r\nConnection: keep-alive\r\n\r\n\x0a\x09\x0a\x032.0\x10\x00\x18\x00";
+const FEED: &[u8] =
+    b"HTTP/1.1 200 OK\r\nContent-Type: application/x-protobuf\r\nContent-Length: 11\r\nX-Hub-Sequence: 0\r\nX-Hub-Moment: 7\r\nConnection: keep-alive\r\n\r\n\x0a\x09\x0a\x032.0\x10\x00\x18\x00";
 
 /// The same where the connection closes behind it.
-const THOUSANDTH: &[u8] = b"HTTP/1.1 200 OK\r\nContent-Type: application/x-protobuf\r\nContent-Length: 11\r\nX-Hub-Sequence: 0\r\nX-Hub-Moment: 7\r\nConnection: close\r\n\r\n\x0a\x09\x0a\x032.0\x10\x00\x18\x00";
+const THOUSANDTH: &[u8] =
+    b"HTTP/1.1 200 OK\r\nContent-Type: application/x-protobuf\r\nContent-Length: 11\r\nX-Hub-Sequence: 0\r\nX-Hub-Moment: 7\r\nConnection: close\r\n\r\n\x0a\x09\x0a\x032.0\x10\x00\x18\x00";
 
 /// Refusals.
-const MALFORMED: &[u8] = b"HTTP/1.1 400 Bad Request\r\nContent-Type: text/plain; charset=utf-8\r\nContent-Length: 12\r\nX-Hub-Sequence: 0\r\nX-Hub-Moment: 7\r\nConnection: close\r\n\r\nbad request\n";
+const MALFORMED: &[u8] =
+    b"HTTP/1.1 400 Bad Request\r\nContent-Type: text/plain; charset=utf-8\r\nContent-Length: 12\r\nX-Hub-Sequence: 0\r\nX-Hub-Moment: 7\r\nConnection: close\r\n\r\nbad request\n";
 
-const OUT_OF_RANGE: &[u8] = b"HTTP/1.1 400 Bad Request\r\nContent-Type: text/plain; charset=utf-8\r\nContent-Length: 12\r\nX-Hub-Sequence: 0\r\nX-Hub-Moment: 7\r\nConnection: keep-alive\r\n\r\nbad request\n";
+const OUT_OF_RANGE: &[u8] =
+    b"HTTP/1.1 400 Bad Request\r\nContent-Type: text/plain; charset=utf-8\r\nContent-Length: 12\r\nX-Hub-Sequence: 0\r\nX-Hub-Moment: 7\r\nConnection: keep-alive\r\n\r\nbad request\n";
 
-const NOT_FOUND: &[u8] = b"HTTP/1.1 404 Not Found\r\nContent-Type: text/plain; charset=utf-8\r\nContent-Length: 10\r\nX-Hub-Sequence: 0\r\nX-Hub-Moment: 7\r\nConnection: keep-alive\r\n\r\nnot found\n";
+const NOT_FOUND: &[u8] =
+    b"HTTP/1.1 404 Not Found\r\nContent-Type: text/plain; charset=utf-8\r\nContent-Length: 10\r\nX-Hub-Sequence: 0\r\nX-Hub-Moment: 7\r\nConnection: keep-alive\r\n\r\nnot found\n";
 
-const OTHER_METHOD: &[u8] = b"HTTP/1.1 405 Method Not Allowed\r\nContent-Type: text/plain; charset=utf-8\r\nContent-Length: 19\r\nAllow: GET\r\nX-Hub-Sequence: 0\r\nX-Hub-Moment: 7\r\nConnection: close\r\n\r\nmethod not allowed\n";
+const OTHER_METHOD: &[u8] =
+    b"HTTP/1.1 405 Method Not Allowed\r\nContent-Type: text/plain; charset=utf-8\r\nContent-Length: 19\r\nAllow: GET\r\nX-Hub-Sequence: 0\r\nX-Hub-Moment: 7\r\nConnection: close\r\n\r\nmethod not allowed\n";
 
 /// A hub with a timetable without rows as `city`, and with the feed `a`.
 #[tactic(auto, unfolding(text_defs::specs::Names::is_name))]
@@ -59,9 +63,7 @@ fn serve<S: Source, K: Sink>(
 ) -> Result<Session, NoMemory> {
     let mut hub = hub(alloc)?;
     let mut clock = FixedClock::new(vec![in alloc; 7]?);
-    Ok(serve_connection(
-        alloc, source, sink, &mut hub, &mut clock,
-    ))
+    Ok(serve_connection(alloc, source, sink, &mut hub, &mut clock))
 }
 
 /// Whether the bytes are so many of these, one after another, and then the front of one.

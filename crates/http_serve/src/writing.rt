@@ -1,5 +1,4 @@
 //! Responses to a sink.
-ghost use Rattle.std.specs.Prelude.{◌≡◌};
 ghost use Rattle.hub_outside.specs.Writing.{HasWritingCause};
 ghost use Rattle.http_serve.specs.Turns.{WritesWhole};
 

@@ -1,7 +1,6 @@
 -- Whole responses about the small city: each line computes.
-use Rattle.std.specs.Prelude.{◌≡◌, ℕ, Bool, true, false, List, [], ◌∷◌, ◌++◌, length, refl, codes}
+use Rattle.std.specs.Prelude.{◌≡◌, ℕ, Bool, true, false, List, [], ◌∷◌, ◌++◌, refl, codes}
 use Rattle.std.specs.Fmt.{decimal, digits}
-use Rattle.json.specs.Print.{escape_byte, print_from}
 use Rattle.text_defs.specs.Cleaned.{line_feed}
 use Rattle.text_defs.specs.Dates.{is_day, date_plus, next_day, date_in}
 use Rattle.feed_defs.specs.History.{messages_of, since_full, changes_by_id, entities_of}
@@ -15,9 +14,7 @@ use Rattle.board_defs.specs.Fold.{fold_of}
 use Rattle.board_defs.specs.Rows.{all_runs, run_rows, board_at, board}
 use Rattle.board_text_defs.specs.Lines.{tab, between_tabs}
 use Rattle.board_text_defs.specs.BoardText.{board_text}
-use Rattle.board_text_defs.specs.BoardJson.{board_json}
 use Rattle.board_text_defs.specs.Answers.{board_answer, feed_answer, schedule_number}
-use Rattle.http_defs.specs.declared.request.Request.{Request}
 use Rattle.http_defs.specs.declared.request.Item.{Item}
 use Rattle.http_defs.specs.declared.request.Item.TheVariants.{Asked, Malformed}
 use Rattle.http_defs.specs.Responses.{crlf, refusal}

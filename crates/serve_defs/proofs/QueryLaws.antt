@@ -1,5 +1,5 @@
 -- What requests ask is what may be asked.
-use Rattle.std.proofs.Common.{◌≡◌, ℕ, ◌≤◌, Bool, true, false, not, bytes_eq, codes, List, Option, Some, None, refl, subst, arith}
+use Rattle.std.proofs.Common.{◌≡◌, ℕ, ◌≤◌, Bool, true, false, not, bytes_eq, codes, List, Option, Some, None, refl, arith}
 use Rattle.std.specs.Prelude.{if◌then◌else◌, ◌&&◌, nat_le, ⊤}
 use Rattle.std.specs.Option.{option_and_then, option_map}
 use Rattle.std.specs.Str.{is_utf8}
@@ -12,7 +12,7 @@ use Rattle.http_defs.specs.declared.asked.Choices.{Choices}
 use Rattle.http_defs.specs.declared.asked.Query.{Query}
 use Rattle.http_defs.specs.declared.asked.Query.TheVariants.{Board, Alerts, Feed, Unmatched, Refused}
 use Rattle.http_defs.specs.Routes.{routes, kind_at}
-use Rattle.http_defs.specs.Targets.{begins_with_slash, path_in, form_in, text_at, first_value, number_or, span_in, limit_in, json_in, choices_in, or_bad, stop_query, query_by, query_at, query_of}
+use Rattle.http_defs.specs.Targets.{begins_with_slash, path_in, form_in, text_at, first_value, number_or, span_in, limit_in, json_in, choices_in, or_bad, query_by, query_at, query_of}
 use Rattle.serve_defs.specs.Questions.{AreChoices, IsAskable}
 
 -- a number is one of its range
