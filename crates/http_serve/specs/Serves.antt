@@ -52,8 +52,8 @@ pub record WasStarved (begun : Begun) : Type 0 where
   pub reading_behind_look : length begun.readings ≤ begun.looks
   pub unwritten : begun.cut ≡ []
 
--- what was begun behind the responses that were written whole: nothing, but where the sink failed or
--- memory was wanting
+-- what was begun behind the responses that were written whole: nothing, but where the sink failed
+-- or memory was wanting
 abbrev pub IsBegun : Schedules → List Entry → List ℕ → List Item → Begun → End → Type 0
 IsBegun plans history input items begun Ended = begun ≡ none_begun
 IsBegun plans history input items begun Closed = begun ≡ none_begun

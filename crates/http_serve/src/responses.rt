@@ -125,7 +125,8 @@ fn answer_query(
 fn refuse(status: u16, body: &mut Vec<u8>) -> Result<Heading, NoMemory>
     requires known { is_refusal status ≡ true }
     requires empty { body.old.items ≡ [] }
-    ensures answered { IfOk result (λ heading. answered_by heading body.new.items ≡ refused status) }
+    ensures answered { IfOk result (λ heading. answered_by heading body.new.items
+        ≡ refused status) }
     ensures status { IfOk result (λ heading. is_status heading.status ≡ true) }
 {
     body.extend_from_slice(refusal_body(status))?;

@@ -61,8 +61,8 @@ item_answered schedules folds Malformed moment = refused 400
 item_answered schedules folds (Asked r) moment =
     query_answered schedules folds (query_of r) moment
 
--- Whether the connection closes behind the answer to an item: it is no request, is no GET, may carry
--- a body or asks to close, or is the thousandth.
+-- Whether the connection closes behind the answer to an item: it is no request, is no GET, may
+-- carry a body or asks to close, or is the thousandth.
 unfoldable pub closes_behind : Item → Bool → Bool
 closes_behind Malformed thousandth = true
 closes_behind (Asked r) thousandth =

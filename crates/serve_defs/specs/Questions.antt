@@ -5,8 +5,8 @@ use Rattle.http_defs.specs.declared.asked.Query.TheVariants.{Board, Alerts, Feed
 use Rattle.board_text_defs.specs.Answers.{Question}
 use Rattle.board_text_defs.specs.Answers.Question.{FeedOf, BoardOf}
 
--- The question of a query that is asked at a moment; a refused one asks nothing. Alerts, the list of
--- unmatched updates and the status of the feeds aren't answered yet: they have no question.
+-- The question of a query that is asked at a moment; a refused one asks nothing. Alerts, the list
+-- of unmatched updates and the status of the feeds aren't answered yet: they have no question.
 abbrev pub question_of : Query → ℕ → Option Question
 question_of (Board schedule stop span limit json) moment = Some (BoardOf (record {
   schedule = schedule;
