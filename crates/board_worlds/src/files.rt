@@ -85,8 +85,16 @@ pub(crate) fn folder(alloc: Global, world: &World) -> Result<MemoryFiles, AllocE
             "route_id,agency_id,route_short_name,route_type\nR7,A,7,3\n"
         )?,
         file(alloc, "city/trips.txt", trips(alloc, world)?.as_str())?,
-        file(alloc, "city/stop_times.txt", stop_times(alloc, world)?.as_str())?,
-        file(alloc, "city/calendar_dates.txt", days(alloc, world)?.as_str())?,
+        file(
+            alloc,
+            "city/stop_times.txt",
+            stop_times(alloc, world)?.as_str()
+        )?,
+        file(
+            alloc,
+            "city/calendar_dates.txt",
+            days(alloc, world)?.as_str()
+        )?,
     ]?;
     Ok(MemoryFiles::new(files, Vec::new(alloc)))
 }

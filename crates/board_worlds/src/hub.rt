@@ -179,11 +179,7 @@ fn counted<L: Ledger>(
     FeedView::next(alloc, &plan, old, message, &mut steps)
 }
 
-fn feed_after(
-    alloc: Global,
-    old: &FeedView,
-    message: FeedMessage,
-) -> Result<FeedView, AllocError>
+fn feed_after(alloc: Global, old: &FeedView, message: FeedMessage) -> Result<FeedView, AllocError>
     requires moment { IsTrue (is_stamp (stamp_of message)) }
     requires newer { old.now.fold.stamp < stamp_of message }
     ensures { IfOk result (λ next. next.fold.count ≡ old.now.fold.count + 1) }
@@ -202,7 +198,11 @@ fn spoken(alloc: Global, view: &HubView, world: &World, feed: u32) -> Result<Hub
     if stamp == 0 || stamp > LAST_MOMENT || old.stamp() >= stamp {
         return Err(AllocError);
     }
-    let next = feed_after(alloc, old, message(alloc, stamp, entities(alloc, world, feed)?)?)?;
+    let next = feed_after(
+        alloc,
+        old,
+        message(alloc, stamp, entities(alloc, world, feed)?)?,
+    )?;
     view.with_feed(alloc, feed, next)
 }
 
