@@ -32,12 +32,18 @@ added_of prefix plan feed fold = if feed.plan == plan then entity_fields prefix 
 
 -- the message of which the combined feed of a schedule is written
 abbrev pub schedule_message : Schedules → ℕ → List FeedFold → FeedMessage
-schedule_message schedules plan folds = feed_message (prefix_of schedules plan) (feeds_of plan schedules.feeds folds)
+schedule_message schedules plan folds = feed_message (prefix_of schedules plan)
+    (feeds_of plan schedules.feeds folds)
 
 -- a whole data set of no entities, with its stamp
 abbrev pub header_of : ℕ → FeedMessage
 header_of newest = record {
-  header = record { version = codes "2.0"; incrementality = Some FullDataset; timestamp = Some newest; unknown = [] };
+  header = record {
+    version = codes "2.0";
+    incrementality = Some FullDataset;
+    timestamp = Some newest;
+    unknown = [];
+  };
   entity = [];
   unknown = [];
 }

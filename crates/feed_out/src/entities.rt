@@ -52,12 +52,7 @@ fn push_feed(
 
 /// Appends what a feed of that name holds, entity by entity: the ids of the timetable in it under the prefix, and its
 /// own under the feed's name.
-fn push_table(
-    prefix: &str,
-    feed: &str,
-    table: &Table,
-    out: &mut Vec<u8>,
-) -> Result<(), NoMemory>
+fn push_table(prefix: &str, feed: &str, table: &Table, out: &mut Vec<u8>) -> Result<(), NoMemory>
     ensures { OnOk result (out.new.items
         ≡ out.old.items
         ++ flat_map entity_field (map (combined_entity prefix.now feed.now) table.now)) }

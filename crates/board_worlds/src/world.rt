@@ -1,0 +1,184 @@
+//! A timetable of four stops and up to three trips, and what two feeds say of it.
+
+use crate::dice::Dice;
+use rt_types::{StopRelation, TripRelation};
+use std::alloc::{AllocError, Global};
+
+/// The stops, in order of their ids. The last is a station: the first lies in it, the second in some worlds.
+pub(crate) const STOPS: [&str; 4] = ["A", "B", "C", "P"];
+
+/// The trips, in order of their ids.
+pub(crate) const TRIPS: [&str; 3] = ["T0", "T1", "T2"];
+
+/// The days of the window. On the second the clock goes forward.
+pub(crate) const DATES: [&str; 3] = ["20250329", "20250330", "20250331"];
+
+/// The instants at which these days begin, counted from noon.
+pub(crate) const BASES: [i64; 3] = [1_743_202_800, 1_743_285_600, 1_743_372_000];
+
+/// The stamp of the first message; others lie a second or two behind.
+pub(crate) const FIRST_STAMP: u64 = 1_743_280_000;
+
+/// A place of a trip, its times in seconds from the beginning of the day on.
+#[derive(Clone, Copy)]
+pub(crate) struct MadePlace {
+    pub(crate) stop: u32,
+    pub(crate) sequence: u32,
+    pub(crate) arrival: u32,
+    pub(crate) departure: u32,
+    pub(crate) pickup: u8,
+}
+
+/// A trip, with the days on which it runs.
+#[derive(Drop)]
+pub(crate) struct MadeTrip {
+    pub(crate) runs: [bool; 3],
+    pub(crate) places: Vec<MadePlace>,
+}
+
+/// What an update says of a place.
+#[derive(Clone, Copy)]
+pub(crate) struct MadeStop {
+    pub(crate) sequence: u32,
+    pub(crate) relation: Option<StopRelation>,
+    pub(crate) arrival: Option<i32>,
+    pub(crate) departure: Option<i32>,
+}
+
+/// An update of a trip on a day, either of which the timetable may lack.
+#[derive(Drop)]
+pub(crate) struct MadeUpdate {
+    pub(crate) feed: u32,
+    pub(crate) id: &'static str,
+    pub(crate) stamp: Option<u64>,
+    pub(crate) trip: u32,
+    pub(crate) day: u32,
+    pub(crate) relation: Option<TripRelation>,
+    pub(crate) delay: Option<i32>,
+    pub(crate) stops: Vec<MadeStop>,
+}
+
+/// A world: a timetable, the stamps of the messages of two feeds, and the updates in these.
+#[derive(Drop)]
+pub(crate) struct World {
+    pub(crate) in_station: bool,
+    pub(crate) trips: Vec<MadeTrip>,
+    pub(crate) stamps: [u64; 2],
+    pub(crate) updates: Vec<MadeUpdate>,
+}
+
+/// A delay of some minutes, early or late, or none. Few values make for ties.
+fn delay(dice: &mut Dice) -> Option<i32> {
+    match dice.below(6) {
+        0 => Some(-300),
+        1 => Some(0),
+        2 => Some(300),
+        3 => Some(600),
+        _ => None,
+    }
+}
+
+/// A trip of two to four places, some minutes from one to the next.
+fn trip(alloc: Global, dice: &mut Dice) -> Result<MadeTrip, AllocError> {
+    let mut places = Vec::new(alloc);
+    let mut time = 28_800 + 300 * dice.below(4);
+    for i in 0..2 + dice.below(3) {
+        let arrival = time;
+        let departure = arrival.saturating_add(300 * dice.below(2));
+        places.push(MadePlace {
+            stop: dice.below(4),
+            sequence: 10 + 10 * i,
+            arrival,
+            departure,
+            pickup: if dice.one_in(6) { 1 } else { 0 },
+        })?;
+        time = departure.saturating_add(300 * dice.below(3));
+    }
+    let first = dice.below(3);
+    Ok(MadeTrip {
+        runs: [
+            first == 0 || dice.one_in(2),
+            first == 1 || dice.one_in(2),
+            first == 2 || dice.one_in(2),
+        ],
+        places,
+    })
+}
+
+/// What an update says of some place.
+fn stop(dice: &mut Dice) -> MadeStop {
+    MadeStop {
+        sequence: 10 + 10 * dice.below(4),
+        relation: match dice.below(8) {
+            0 => Some(StopRelation::Scheduled),
+            1 => Some(StopRelation::NoData),
+            2 => Some(StopRelation::Unscheduled),
+            3 | 4 => Some(StopRelation::Skipped),
+            _ => None,
+        },
+        arrival: delay(dice),
+        departure: delay(dice),
+    }
+}
+
+/// An update of one of so many trips, on some day; rarely of a trip or a day that isn't there.
+fn update(
+    alloc: Global,
+    dice: &mut Dice,
+    trips: u32,
+    feed: u32,
+    id: &'static str,
+) -> Result<MadeUpdate, AllocError> {
+    let mut stops = Vec::new(alloc);
+    for _ in 0..dice.below(4) {
+        stops.push(stop(dice))?;
+    }
+    Ok(MadeUpdate {
+        feed,
+        id,
+        stamp: match dice.below(3) {
+            0 => None,
+            late => Some(FIRST_STAMP + u64::from(late)),
+        },
+        trip: if dice.one_in(9) { 3 } else { dice.below(trips) },
+        day: if dice.one_in(9) { 3 } else { dice.below(3) },
+        relation: match dice.below(10) {
+            0 | 1 => Some(TripRelation::Canceled),
+            2 => Some(TripRelation::Deleted),
+            3 => Some(TripRelation::Added),
+            4 => Some(TripRelation::Unscheduled),
+            5 => Some(TripRelation::Scheduled),
+            _ => None,
+        },
+        delay: delay(dice),
+        stops,
+    })
+}
+
+/// A world of one to three trips, and up to three updates of each feed.
+pub(crate) fn made_world(alloc: Global, dice: &mut Dice) -> Result<World, AllocError> {
+    let count = 1 + dice.below(3);
+    let mut trips = Vec::new(alloc);
+    for _ in 0..count {
+        trips.push(trip(alloc, dice)?)?;
+    }
+    let mut updates = Vec::new(alloc);
+    for feed in 0..2u32 {
+        // They stand in the message against the order of their ids.
+        for id in ["z", "y", "x"] {
+            if !dice.one_in(4) {
+                updates.push(update(alloc, dice, count, feed, id)?)?;
+            }
+        }
+    }
+    let stamps = [
+        FIRST_STAMP + u64::from(dice.below(2)),
+        FIRST_STAMP + u64::from(dice.below(2)),
+    ];
+    Ok(World {
+        in_station: dice.one_in(2),
+        trips,
+        stamps,
+        updates,
+    })
+}
