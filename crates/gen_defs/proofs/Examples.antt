@@ -1,5 +1,5 @@
 -- Draws, lines and a message of the sample of the seed 1, computed by the definitions.
-use Rattle.std.specs.Prelude.{◌≡◌, ℕ, List, [], ◌∷◌, ◌++◌, refl, codes, take, length, map, true, pos, negsuc}
+use Rattle.std.specs.Prelude.{◌≡◌, [], ◌∷◌, ◌++◌, refl, codes, take, map, pos, negsuc}
 use Rattle.std.specs.Fmt.{digits}
 use Rattle.text_defs.specs.Cleaned.{line_feed}
 use Rattle.rt_types.specs.declared.enums.Incrementality.TheVariants.{FullDataset, Differential}
@@ -7,8 +7,8 @@ use Rattle.wire_defs.specs.Writing.{groups, varint, payload_bytes, field_bytes}
 use Rattle.feed_defs.specs.Rows.{message_bytes}
 use Rattle.feed_defs.specs.Table.{write}
 use Rattle.gen_defs.specs.Draws.{draw, state_after, state_behind}
-use Rattle.gen_defs.specs.Network.{route_line, sample_files, stop_at, stop_line, stop_time_line, time_text, trip_line, stops_txt, trips_txt, stop_times_txt, routes_txt}
-use Rattle.gen_defs.specs.Messages.{delay_by, deleted, entities_from, entity_of, feed_of, incrementality_of, late, message_of, offer_of}
+use Rattle.gen_defs.specs.Network.{route_line, stop_line, stop_time_line, time_text, trip_line}
+use Rattle.gen_defs.specs.Messages.{delay_by, deleted, entities_from, feed_of, incrementality_of, late, offer_of}
 
 -- the first six numbers of the seed 1, and the first three of the last seed
 pub first_draws : map (draw 1) (0 ∷ 1 ∷ 2 ∷ 3 ∷ 4 ∷ 5 ∷ []) ≡ 908834774 ∷ 1093944153 ∷ 1392341196 ∷ 822192870 ∷ 1708211034 ∷ 1074839795 ∷ []
