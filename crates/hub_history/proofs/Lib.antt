@@ -1,4 +1,4 @@
-mod Fronts
+pub mod Fronts
 mod Cells
-mod Logs
+pub mod Logs
 mod Moves

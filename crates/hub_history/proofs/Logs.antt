@@ -66,3 +66,17 @@ author_more head count pen_book pen book log item items pen_book' pen' book' new
   pen_is = same_pen ∙ sym same_book;
   away = nib_is ∙ ap (λ (n : ℕ). first_away n) (omega (arith, len, ap length is, length-append log (item ∷ [])));
 }
+
+pub goes_on_more : (log : List LogItem) (e : Entry) → is_ended log ≡ false → is_ended (log ++ Accepted e ∷ []) ≡ false
+goes_on_more [] e goes_on = refl
+goes_on_more (Accepted x ∷ log) e goes_on = goes_on_more log e goes_on
+goes_on_more (Ended ∷ log) e goes_on = absurd (cc)
+
+pub ended_more : (log : List LogItem) → is_ended (log ++ Ended ∷ []) ≡ true
+ended_more [] = refl
+ended_more (Accepted x ∷ log) = ended_more log
+ended_more (Ended ∷ log) = refl
+
+-- the messages of a log that was closed
+pub entries_closed : (log : List LogItem) → entries_of (log ++ Ended ∷ []) ≡ entries_of log
+entries_closed log = entries_append log (Ended ∷ []) ∙ append-nil (entries_of log)

@@ -1,5 +1,5 @@
 -- The log of a hub: what it accepted, and the mark of its end.
-use Rattle.std.specs.Prelude.{ℕ, Bool, true, false, List, [], ◌∷◌}
+use Rattle.std.specs.Prelude.{Bool, true, false, List, [], ◌∷◌, None}
 use Rattle.feed_defs.specs.declared.history.Entry.{Entry}
 use Rattle.hub_history.specs.declared.item.LogItem.{LogItem}
 use Rattle.hub_history.specs.declared.item.LogItem.TheVariants.{Accepted, Ended}
@@ -22,3 +22,14 @@ is_orderly [] = true
 is_orderly (Accepted entry ∷ log) = is_orderly log
 is_orderly (Ended ∷ []) = true
 is_orderly (Ended ∷ item ∷ log) = false
+
+-- some entry, which stands where a call names its own
+abbrev pub some_entry : Entry
+some_entry = record {
+  feed = 0;
+  message = record {
+    header = record { version = []; incrementality = None; timestamp = None; unknown = [] };
+    entity = [];
+    unknown = [];
+  };
+}

@@ -2,7 +2,7 @@
 
 use crate::item::LogItem;
 use logbook::{Gain, Plain, Play, Rule};
-use std::marker::PhantomData;
+use std::marker::{Brand, PhantomData};
 
 /// The law of the book (`specs/Rules`).
 pub struct Law;
@@ -66,6 +66,12 @@ pub trait Naming {
     ghost use Rattle.feed_defs.specs.declared.history.Entry.{Entry};
 
     ghost entry: { Entry };
+}
+
+impl Naming for Brand {
+    ghost use Rattle.hub_history.specs.Log.{some_entry};
+
+    ghost entry = { some_entry };
 }
 
 /// A step asks for the named message.

@@ -1,6 +1,6 @@
 //! A beginning of the history.
 
-ghost use Rattle.std.specs.Prelude.{◌≡◌, ◌⊎◌, true, length};
+ghost use Rattle.std.specs.Prelude.{◌≡◌, ◌⊎◌, true, length, nat_lt};
 ghost use mathlib.Core.List.{IsPrefix};
 ghost use Rattle.feed_defs.specs.History.{IsLegal};
 ghost use Rattle.hub_history.specs.Log.{is_ended, is_orderly};
@@ -42,6 +42,13 @@ impl Line {
         ensures { result ≡ length (history_of self.now) }
     {
         self.entries
+    }
+
+    /// Whether it knows less of the log than the other.
+    pub fn is_behind(&self, other: &Line) -> bool
+        ensures { result ≡ nat_lt (length self.now.log) (length other.now.log) }
+    {
+        self.items < other.items
     }
 
     /// Does nothing; its contract tells what is true of every line.

@@ -1,0 +1,12 @@
+-- Each step keeps the rule.
+use Rattle.snapshot_cell.proofs.Steps.{admits, tells, learns}
+use Rattle.snapshot_cell.proofs.seats.pass_at.Goals as goal
+
+pub reader-requires : goal.reader-requires
+reader-requires c = admits
+
+pub tell-note-requires : goal.tell-note-requires
+tell-note-requires c = tells _ _
+
+pub learn-requires-clause-rule : goal.learn-requires-clause-rule
+learn-requires-clause-rule c = learns _ _ _ _

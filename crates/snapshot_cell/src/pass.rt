@@ -1,0 +1,116 @@
+//! Passes.
+
+ghost use Rattle.std.specs.Prelude.{◌≡◌, ◌⊎◌, false};
+ghost use mathlib.Core.List.{IsPrefix};
+ghost use Rattle.board_core.specs.Looks.{Looked};
+ghost use Rattle.hub_history.specs.Told.{history_of, AreOne};
+
+use crate::NoMemory;
+use crate::copies::SnapReader;
+use crate::ending::Ending;
+use crate::glance::{Glance, look_on};
+use crate::receipt::Receipt;
+use board_core::{HubView, Oracle};
+use hub_history::Line;
+use std::alloc::Global;
+use std::marker::Model;
+use std::sync::Arc;
+
+/// A reader's pass. A contract sees what it knows of the history, how often it looked, and the view
+/// that it shows.
+#[derive(Drop)]
+pub struct Pass {
+    pub(crate) reader: Option<SnapReader>,
+    pub(crate) line: Line,
+    pub(crate) view: Arc<HubView, Global>,
+}
+
+impl Model for Pass {
+    ghost use Rattle.std.specs.Arc.{arc_value};
+    ghost use Rattle.left_right.specs.Sides as sides;
+    ghost use Rattle.snapshot_cell.specs.Seen.{PassSeen, Knows, at_some, AtSome};
+
+    ghost Value = { PassSeen };
+
+    ghost view = { λ pass. record {
+      line = pass.line;
+      reads = at_some pass.reader (λ reader. (sides.view reader.place).reads) 0;
+      shown = arc_value pass.view;
+    } };
+
+    ghost invariant = { λ pass. AtSome pass.reader
+        (λ reader. Knows (sides.view reader.place) (arc_value pass.view) pass.line) };
+}
+
+impl Pass {
+    /// Knows what the receipt knows, if that is more. It takes no memory, and the view stays.
+    pub fn learn(&mut self, receipt: &Receipt)
+        requires { AreOne receipt.now self.old.line }
+        ensures one { (self.new.line ≡ self.old.line) ⊎ (self.new.line ≡ receipt.now) }
+        ensures begins { IsPrefix self.old.line.log self.new.line.log }
+        ensures receipt_begins { IsPrefix receipt.now.log self.new.line.log }
+        ensures reads { self.new.reads ≡ self.old.reads }
+        ensures shown { self.new.shown ≡ self.old.shown }
+    {
+        self.line.learn(&receipt.line);
+    }
+
+    /// Knows the whole of the ended history, which begins with all that it knew. It takes no memory,
+    /// and the view stays.
+    pub fn finish(&mut self, ending: &Ending)
+        requires { AreOne ending.now self.old.line }
+        ensures whole { self.new.line ≡ ending.now }
+        ensures begins { IsPrefix self.old.line.log ending.now.log }
+        ensures reads { self.new.reads ≡ self.old.reads }
+        ensures shown { self.new.shown ≡ self.old.shown }
+    {
+        self.line.finish(&ending.line);
+    }
+
+    /// A look, in the words of `Oracle`.
+    fn take_look(&mut self) -> Result<u64, NoMemory>
+        ensures looked { Looked (history_of self.old.line) (history_of self.new.line)
+            self.old.shown self.new.shown self.old.reads self.new.reads false result }
+        ensures hub { AreOne self.new.line self.old.line }
+        ensures plans { self.new.shown.plans ≡ self.old.shown.plans }
+    {
+        let Some(reader) = self.reader.take() else {
+            unreachable!()
+        };
+        let (reader, found) = look_on(reader, &self.line);
+        self.reader = Some(reader);
+        match found {
+            Glance::Found(line, view) => {
+                let number = line.number();
+                self.line = line;
+                self.view = view;
+                Ok(number)
+            }
+            Glance::Behind => Err(NoMemory),
+            Glance::NoMemory => Err(NoMemory),
+        }
+    }
+}
+
+impl Oracle for Pass {
+    ghost use Rattle.std.specs.Prelude.{false};
+    ghost use Rattle.hub_history.specs.Told.{history_of};
+
+    ghost history = { λ pass. history_of pass.line };
+
+    ghost plans = { λ pass. pass.shown.plans };
+
+    ghost reads = { λ pass. pass.reads };
+
+    ghost shown = { λ pass. pass.shown };
+
+    ghost steady = { λ _. false };
+
+    fn look(&mut self) -> Result<u64, NoMemory> {
+        self.take_look()
+    }
+
+    fn view(&self) -> &HubView {
+        &self.view
+    }
+}
