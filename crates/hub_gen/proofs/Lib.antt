@@ -1,5 +1,0 @@
-pub mod Ranges
-pub mod Drawn
-pub mod Offers
-pub mod LineLaws
-pub mod Told
