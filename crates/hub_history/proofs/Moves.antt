@@ -50,9 +50,9 @@ grows_goes v ask old cs log kept true is =
       None,
       tt,
       with_nothing (set cs 1 written ++ (0, false) ∷ []) log (same_cells cs (set cs 1 written ++ (0, false) ∷ []) log (kept.made + 1) kept
-        (omega (arith, length-append (set cs 1 written) ((0, false) ∷ []), length-set cs 1 written, kept.all))
-        (cell_snoc (set cs 1 written) 1 ∙ cell_set cs 1 written within ∙ becomes)
-        (λ k other. cell_snoc (set cs 1 written) k ∙ cell_else cs 1 k written other)),
+          (omega (arith, length-append (set cs 1 written) ((0, false) ∷ []), length-set cs 1 written, kept.all))
+          (cell_snoc (set cs 1 written) 1 ∙ cell_set cs 1 written within ∙ becomes)
+          (λ k other. cell_snoc (set cs 1 written) k ∙ cell_else cs 1 k written other)),
       inl (refl, refl),
       rw hit (ap (λ (n : ℕ). nib may_make n 0) (omega (arith, kept.all, here))),
     )
@@ -116,7 +116,7 @@ adds_goes v item items cs log len same orderly kept within =
       None,
       refl,
       subst (λ (c : Cell). IsKept (set (set cs 0 c) (length v + 2) (0, true)) (log ++ item ∷ [])) (sym becomes)
-      (subst (λ (k : ℕ). IsKept (set (set cs 0 (length log + 1, true)) k (0, true)) (log ++ item ∷ [])) (sym place) (adds_kept cs log item kept within orderly')),
+          (subst (λ (k : ℕ). IsKept (set (set cs 0 (length log + 1, true)) k (0, true)) (log ++ item ∷ [])) (sym place) (adds_kept cs log item kept within orderly')),
       inl (refl, refl),
       (ap (λ (xs : List LogItem). xs ++ item ∷ []) (sym same), orderly'),
     )
