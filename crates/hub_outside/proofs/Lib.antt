@@ -1,4 +1,5 @@
 pub mod Parts
 pub mod ReadBehind
+pub mod SourceBehind
 pub mod Fetching
 pub mod Rising

@@ -1,10 +1,12 @@
 //! A buffer that tells how much it takes without memory.
-ghost use Rattle.std.specs.Prelude.{◌≡◌, ℕ, ◌+◌, ◌-◌, ◌<◌, ◌≤◌, min, [], ◌++◌, length, IsOk, OnOk, OnErr, IfOk};
+ghost use Rattle.std.specs.Prelude.{◌≡◌, ℕ, ◌+◌, ◌-◌, ◌<◌, ◌≤◌, min, [], ◌++◌, length, is_some, IsOk, OnOk, OnErr, IfOk};
 ghost use Rattle.std.specs.Io.{StartsWith, appended_bytes};
 ghost use Rattle.std.specs.Io.KnownBytes.{Consumes, IsAtEnd};
 ghost use Rattle.hub_outside.specs.Buffer.{BufferContents, room_of, MakesRoom, contents_with, cleared_contents};
+ghost use Rattle.hub_outside.specs.Source.{HasReadCause, IsReadWithin, ReadsBehind};
 
 use crate::adapters::retry::read_once;
+use crate::sources::{ReadAnswer, Source};
 use std::alloc::{AllocError, Global};
 use std::io;
 use std::io::Read;
@@ -82,15 +84,38 @@ impl Buf {
         self.items.clear();
     }
 
+    /// One read of a source to the end of the buffer, of up to `most` bytes, which have to be to
+    /// spare. The bytes are read to where they stay; a read that gives none leaves those before.
+    pub fn take_from<S: Source>(&mut self, source: &mut S, most: usize) -> ReadAnswer
+        requires some { 0 < most }
+        requires spare { most ≤ self.old.spare }
+        ensures within { IsReadWithin result most }
+        ensures bytes { ReadsBehind result (S.left source.old) (S.left source.new) self.old.bytes
+            self.new.bytes }
+        ensures told { is_some (S.left source.new) ≡ is_some (S.left source.old) }
+        ensures room { room_of self.new ≡ room_of self.old }
+        ensures cause { HasReadCause result (S.faults source.old) (S.faults source.new) }
+    {
+        let start = self.items.len();
+        let Ok(()) = self.items.resize(start + most, 0) else {
+            unreachable!()
+        };
+        let answer = source.read(&mut self.items[start..]);
+        let count = answer.count();
+        self.items.truncate(start + count);
+        self.spare -= count;
+        answer
+    }
+
     /// How many bytes it holds.
-    pub(crate) fn len(&self) -> usize
+    pub fn len(&self) -> usize
         ensures { result ≡ length self.now.bytes }
     {
         self.items.len()
     }
 
     /// How many more bytes it takes without memory.
-    pub(crate) fn spare(&self) -> usize
+    pub fn spare(&self) -> usize
         ensures { result ≡ self.now.spare }
     {
         self.spare

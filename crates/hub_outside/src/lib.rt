@@ -33,6 +33,7 @@ pub use adapters::source::StdSource;
 pub use buffers::Buf;
 pub use clocks::Clock;
 pub use file_stores::{FileAnswer, Files};
+pub use memory::calls::Calls;
 pub use memory::clock::FixedClock;
 pub use memory::files::{MemoryFile, MemoryFiles};
 pub use memory::sink::MemorySink;

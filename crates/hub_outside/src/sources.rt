@@ -1,6 +1,6 @@
 //! Where bytes come from.
 ghost use Rattle.std.specs.Prelude.{◌≡◌, ℕ, ◌<◌, List, Option, length, is_some};
-ghost use Rattle.hub_outside.specs.Source.{IsReadWithin, TakesBytes, HasReadCause};
+ghost use Rattle.hub_outside.specs.Source.{bytes_got, IsReadWithin, TakesBytes, HasReadCause};
 
 /// What one read of a [`Source`] came to.
 #[derive(Clone, Copy, Debug, PartialEq, Eq)]
@@ -11,6 +11,18 @@ pub enum ReadAnswer {
     End,
     /// The outside failed: the count of faults rose, and no byte was taken.
     Failed,
+}
+
+impl ReadAnswer {
+    /// How many bytes the read gave.
+    pub(crate) fn count(self) -> usize
+        ensures { result ≡ bytes_got self }
+    {
+        match self {
+            ReadAnswer::Got(count) => count,
+            ReadAnswer::End | ReadAnswer::Failed => 0,
+        }
+    }
 }
 
 /// A stream of bytes to be read, as a connection, a file or a list in memory.

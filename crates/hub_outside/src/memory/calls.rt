@@ -5,8 +5,10 @@ ghost use Rattle.hub_outside.specs.Calls.{no_calls, is_failing, with_call, with_
 
 use std::marker::Model;
 
+/// The calls of a form in memory. A contract sees how many there were, how many of them were faults,
+/// and which fail.
 #[derive(Drop)]
-pub(crate) struct Calls {
+pub struct Calls {
     failing: Vec<u64>,
     calls: u64,
     faults: u64,
@@ -21,7 +23,8 @@ impl Model for Calls {
 }
 
 impl Calls {
-    pub(crate) fn new(failing: Vec<u64>) -> Calls
+    /// No call yet. The calls whose numbers, from 1 on, are in `failing` fail. It takes no memory.
+    pub fn new(failing: Vec<u64>) -> Calls
         ensures { result ≡ no_calls failing.items }
     {
         Calls {
@@ -39,7 +42,7 @@ impl Calls {
     }
 
     /// Counts a call, and says whether it is to fail. One that fails is counted as a fault too.
-    pub(crate) fn begin(&mut self) -> bool
+    pub fn begin(&mut self) -> bool
         ensures fails { result ≡ is_failing self.old }
         ensures after { self.new ≡ (if result then with_fault self.old else with_call self.old) }
         ensures faults { self.old.faults ≤ self.new.faults }
