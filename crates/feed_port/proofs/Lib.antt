@@ -1,0 +1,5 @@
+pub mod Pieces
+pub mod Framing
+pub mod Handing
+pub mod Spooled
+pub mod StreamCases

@@ -1,0 +1,1 @@
+use Rattle.feed_port.proofs.filling.fill.Goals as goal
