@@ -1,5 +1,5 @@
 -- The next message of a list.
-use Rattle.std.proofs.Common.{◌≡◌, ℕ, zero, suc, ◌<◌, ◌≤◌, List, [], ◌∷◌, Some, Vec, Global, length, drop, map, get_or, refl, sym, ap, ◌∙◌, subst, arith, false}
+use Rattle.std.proofs.Common.{◌≡◌, ℕ, zero, suc, ◌<◌, ◌≤◌, List, [], ◌∷◌, Some, Vec, Global, length, drop, map, get_or, sym, ap, ◌∙◌, subst, arith, false}
 use Rattle.feed_defs.specs.History.{longest_message}
 use Rattle.feed_port.specs.declared.port.PortAnswer.{PortAnswer}
 use Rattle.feed_port.specs.declared.port.PortAnswer.TheVariants.{Message, TooLong, End, Failed}

@@ -1,5 +1,5 @@
 -- What reading the message in front of a source comes to, case by case.
-use Rattle.std.proofs.Common.{◌≡◌, ℕ, zero, suc, ◌+◌, ◌<◌, ◌≤◌, List, [], ◌∷◌, ◌++◌, Option, Some, None, length, refl, sym, ap, ◌∙◌, subst, arith, length-append, inr}
+use Rattle.std.proofs.Common.{◌≡◌, ℕ, ◌+◌, ◌<◌, ◌≤◌, List, [], ◌∷◌, ◌++◌, Option, Some, None, length, refl, sym, ap, ◌∙◌, arith, length-append, inr}
 use Rattle.std.specs.Prelude.{replicate, IfSome, ◌⊎◌}
 use Rattle.std.specs.Option.{option_map}
 use Rattle.std.specs.Int.{from_be_bytes, w32}
@@ -7,7 +7,7 @@ use Rattle.std.specs.Io.KnownBytes.{Consumes, IsAtEnd}
 use Rattle.std.proofs.lemmas.List.{length-replicate}
 use Rattle.feed_defs.specs.History.{longest_message}
 use Rattle.feed_port.specs.Frames.{frame_at, frame_of, messages_in}
-use Rattle.feed_port.specs.Frames.Frame.{Whole as WholeFrame, Over as OverLimit, Cut as CutFrame, Nothing}
+use Rattle.feed_port.specs.Frames.Frame.{Whole as WholeFrame, Over as OverLimit, Nothing}
 use Rattle.hub_outside.specs.Count.{Rose}
 use Rattle.feed_port.specs.Ports.{Gives, IsDone, HasPortCause}
 use Rattle.feed_port.specs.Streams.{Fills, ReadsFrame, answer_of}

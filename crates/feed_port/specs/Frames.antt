@@ -1,6 +1,6 @@
 -- Messages in a stream of bytes: in front of each stands its length in four bytes, the most
 -- significant first.
-use Rattle.std.specs.Prelude.{ℕ, zero, suc, ◌+◌, nat_lt, List, [], ◌∷◌, length, take, drop, replicate, if◌then◌else◌}
+use Rattle.std.specs.Prelude.{ℕ, zero, suc, nat_lt, List, [], ◌∷◌, length, take, drop, replicate, if◌then◌else◌}
 use Rattle.std.specs.Int.{from_be_bytes, w32}
 use Rattle.feed_defs.specs.History.{longest_message}
 

@@ -1,1 +1,0 @@
-use Rattle.feed_port.proofs.filling.fill.Goals as goal

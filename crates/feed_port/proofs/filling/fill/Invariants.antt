@@ -1,4 +1,4 @@
-use Rattle.std.proofs.Common.{ℕ, ◌-◌, length}
+use Rattle.std.proofs.Common.{◌-◌, length}
 use Rattle.hub_outside.specs.Buffer.{room_of}
 use Rattle.feed_port.proofs.Pieces.{Filling}
 use Rattle.feed_port.proofs.filling.fill.Given as goal
