@@ -1,0 +1,7 @@
+-- The loop goes on for ever.
+use Rattle.std.proofs.Common.{◌≡◌}
+use Rattle.keyed_lock.proofs.lock.KeyedLock.take.Given as goal
+
+abbrev pub invariant-loop : goal.invariant-loop
+invariant-loop g l =
+    (goal.iterator-loop g).can_next l.iterator' × (goal.iterator-loop g).is_finite l.iterator'
