@@ -19,7 +19,8 @@ pub(crate) fn parser<'a>(alloc: Global) -> Result<Command<'a>, AllocError>
     top(alloc)
         .subcommand(replay(alloc)?)?
         .subcommand(wanting(alloc, "check", &["config"])?)?
-        .subcommand(wanting(alloc, "board", &BOARD_WORDS)?)
+        .subcommand(wanting(alloc, "board", &BOARD_WORDS)?)?
+        .subcommand(wanting(alloc, "gen", &["seed", "trips", "messages"])?)
 }
 
 /// The program without its commands.
