@@ -1,0 +1,12 @@
+-- The line of the sample was written, or that of its refusal.
+use Rattle.command_defs.specs.Samples.{gen_output, sample_lines}
+use Rattle.hub_outside.specs.Outside.{stream}
+use Rattle.hub_main.proofs.Commands.{check_answers, lines_printed, print_short, refusal_printed}
+use Rattle.hub_main.proofs.offline.run_gen.Goals as goal
+
+pub returns-in-Ok : goal.returns-in-Ok
+returns-in-Ok g c =
+    lines_printed (sample_lines c.args.seed c.args.trips c.args.messages) c.deref.result.now c.write_line.result
+    (stream (g.K.Sink.written c.args.out.now) (g.K.Sink.faults c.args.out.now))
+    (stream (g.K.Sink.written c.write_line.new.out) (g.K.Sink.faults c.write_line.new.out))
+    c.in-Ok.ensures.told c.write_line.ensures
