@@ -69,7 +69,8 @@ too_large low high least byte bytes below other long =
     large : (is_digit : Bool) → is_ascii_digit byte ≡ is_digit → IfSome (cond is_digit (digits_after (0 * 10 + (byte - 48)) bytes) None) (λ n. high < n)
     large false e = tt
     large true e =
-        let digit : least ≤ 0 * 10 + (byte - 48) = other e in
+        let is_least = other e in
+        let digit : least ≤ 0 * 10 + (byte - 48) = omega (arith, is_least) in
         let ten : zero < 10 = omega arith in
         let wide : 10_000_000_000_000_000_000 ≤ 10 ^ length bytes = pow-le-pow_right {n = 10} ten {i = 19} {j = length bytes} long in
         let all = at_least least (0 * 10 + (byte - 48)) 10_000_000_000_000_000_000 (10 ^ length bytes) digit wide in
@@ -94,19 +95,20 @@ past_one byte bytes no_zero no_one long = too_large 0 last_seed 2 byte bytes (om
 -- what is in front of digits counts by their number
 shifted : (value more : ℕ) (bytes : List ℕ) → digits_after (value + more) bytes ≡ option_map (λ n. value * 10 ^ length bytes + n) (digits_after more bytes)
 shifted value more [] = ap Some (omega arith)
-shifted value more (b ∷ bytes) = go (is_ascii_digit b)
+shifted value more (b ∷ bytes) = go (is_ascii_digit b) (whole (shifted (value * 10) (more * 10 + (b - 48)) bytes))
   where
-    whole : digits_after ((value + more) * 10 + (b - 48)) bytes ≡ option_map (λ n. value * 10 ^ suc (length bytes) + n) (digits_after (more * 10 + (b - 48)) bytes)
-    whole =
+    whole : digits_after (value * 10 + (more * 10 + (b - 48))) bytes ≡ option_map (λ n. value * 10 * 10 ^ length bytes + n) (digits_after (more * 10 + (b - 48)) bytes)
+        → digits_after ((value + more) * 10 + (b - 48)) bytes ≡ option_map (λ n. value * 10 ^ suc (length bytes) + n) (digits_after (more * 10 + (b - 48)) bytes)
+    whole rest =
         let front : (value + more) * 10 + (b - 48) ≡ value * 10 + (more * 10 + (b - 48)) = omega arith in
         let power : value * 10 * 10 ^ length bytes ≡ value * 10 ^ suc (length bytes) = mul_assoc value 10 (10 ^ length bytes) ∙ ap (λ p. value * p) (sym (pow-succ' 10 (length bytes))) in
-        ap (λ v. digits_after v bytes) front ∙ shifted (value * 10) (more * 10 + (b - 48)) bytes
+        ap (λ v. digits_after v bytes) front ∙ rest
         ∙ ap (λ p. option_map (λ n. p + n) (digits_after (more * 10 + (b - 48)) bytes)) power
 
-    go : (is_digit : Bool) → cond is_digit (digits_after ((value + more) * 10 + (b - 48)) bytes) None
-        ≡ option_map (λ n. value * 10 ^ suc (length bytes) + n) (cond is_digit (digits_after (more * 10 + (b - 48)) bytes) None)
-    go true = whole
-    go false = refl
+    go : (is_digit : Bool) → digits_after ((value + more) * 10 + (b - 48)) bytes ≡ option_map (λ n. value * 10 ^ suc (length bytes) + n) (digits_after (more * 10 + (b - 48)) bytes)
+        → cond is_digit (digits_after ((value + more) * 10 + (b - 48)) bytes) None ≡ option_map (λ n. value * 10 ^ suc (length bytes) + n) (cond is_digit (digits_after (more * 10 + (b - 48)) bytes) None)
+    go true same = same
+    go false same = refl
 
 -- the number behind the digit 1
 abbrev pub behind_one : ℕ → ℕ
