@@ -8,7 +8,7 @@ use Rattle.std.proofs.KnownBytes.{Appends-nil, Consumes-nil}
 use Rattle.hub_outside.specs.Outside.{FileStore, Outside, Stream}
 use Rattle.sched_types.specs.Schedules.{Schedules}
 use Rattle.text_defs.specs.Cleaned.{line_feed}
-use Rattle.hub_load.specs.Told.{HasCause, IsAsTold, refusal_line}
+use Rattle.hub_load.specs.Told.{HasCause, IsAsTold, NeedsNoFile, TellsFault, refusal_line}
 use Rattle.hub_load.specs.declared.fault.HubFault.{HubFault}
 use Rattle.hub_load.specs.declared.fault.HubFault.TheVariants.{Refused, FileFault, NoMemory}
 use Rattle.hub_replay.specs.Outcome.{IsReplayStatus, Last}
@@ -117,6 +117,15 @@ refusal_printed (Err words) line status output output' is last =
     let same : line ≡ words ++ line_feed = cc in
     let here = subst (λ bytes. Last 3 bytes status output.told output'.told output.faults output'.faults) same last in
     printed (output_of_check (Err words)) status output output' (inr (inl refl)) here
+
+-- a fault that no file has, once it is printed
+pub sample_fault : (told : Result (List ℕ) (List ℕ)) (fault : HubFault) (status : ℕ) (output output' : Stream) → TellsFault told fault
+    → NeedsNoFile {B = Vec ℕ Global} (Err fault) → PrintsFault fault output output' status → PrintsOutput (output_of_check told) output output' status
+sample_fault told (Refused line) status output output' is no_file printed = refusal_printed told line.items status output output' is printed
+sample_fault told FileFault status output output' is no_file printed = absurd no_file
+sample_fault told NoMemory status output output' is no_file (short, same) =
+    subst (λ s. PrintsOutput (output_of_check told) output output' s) (sym short)
+    (subst (λ o. PrintsOutput (output_of_check told) output o 6) (sym same) (print_short (output_of_check told) output (check_answers told)))
 
 -- ---- commands
 

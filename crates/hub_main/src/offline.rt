@@ -73,11 +73,13 @@ pub fn run_offline<F: Files, S: Source, K: Sink, C: Clock>(
         Ok(Command::ReplayWith(path)) => run_replay(alloc, files, path, input, out),
         Ok(Command::Check(path)) => run_check(alloc, files, path, out),
         Ok(Command::Board { config, asked }) => run_board(alloc, files, config, &asked, out),
-        Ok(Command::Gen {
-            seed,
-            trips,
-            messages,
-        }) => run_gen(alloc, seed, trips, messages, out),
+        Ok(
+            Command::Gen {
+                seed,
+                trips,
+                messages,
+            },
+        ) => run_gen(alloc, seed, trips, messages, out),
         Err(WordsFault::Usage) => run_usage(out),
         Err(WordsFault::NoMemory) => NO_MEMORY,
     }
@@ -185,8 +187,7 @@ fn run_gen<K: Sink>(alloc: Global, seed: u64, trips: u32, messages: u32, out: &m
 {
     match run_sample(alloc, seed, trips, messages) {
         Ok(line) => write_line(&line, DONE, out),
-        Err(HubFault::Refused(line)) => write_line(&line, REFUSED_CONF, out),
-        Err(_) => NO_MEMORY,
+        Err(fault) => write_fault(&fault, out),
     }
 }
 

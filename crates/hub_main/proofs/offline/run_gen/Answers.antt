@@ -1,7 +1,7 @@
 -- The line of the sample was written, or that of its refusal.
-use Rattle.command_defs.specs.Samples.{gen_output, sample_lines}
+use Rattle.command_defs.specs.Samples.{sample_lines}
 use Rattle.hub_outside.specs.Outside.{stream}
-use Rattle.hub_main.proofs.Commands.{check_answers, lines_printed, print_short, refusal_printed}
+use Rattle.hub_main.proofs.Commands.{lines_printed, sample_fault}
 use Rattle.hub_main.proofs.offline.run_gen.Goals as goal
 
 pub returns-in-Ok : goal.returns-in-Ok
@@ -10,3 +10,10 @@ returns-in-Ok g c =
     (stream (g.K.Sink.written c.args.out.now) (g.K.Sink.faults c.args.out.now))
     (stream (g.K.Sink.written c.write_line.new.out) (g.K.Sink.faults c.write_line.new.out))
     c.in-Ok.ensures.told c.write_line.ensures
+
+pub returns-in-Err : goal.returns-in-Err
+returns-in-Err g c =
+    sample_fault (sample_lines c.args.seed c.args.trips c.args.messages) c.in-Err.fault c.write_fault.result
+    (stream (g.K.Sink.written c.args.out.now) (g.K.Sink.faults c.args.out.now))
+    (stream (g.K.Sink.written c.write_fault.new.out) (g.K.Sink.faults c.write_fault.new.out))
+    c.in-Err.ensures.told c.in-Err.ensures.no_file c.write_fault.ensures
