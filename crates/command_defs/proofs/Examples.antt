@@ -8,7 +8,7 @@ use Rattle.conf_defs.specs.declared.conf.ScheduleConf.{ScheduleConf}
 use Rattle.text_defs.specs.Cleaned.{line_feed}
 use Rattle.text_defs.specs.Numbers.{number}
 use Rattle.command_defs.specs.Words.{command_of}
-use Rattle.command_defs.specs.Words.Command.{Replay, ReplayWith, Check, Board}
+use Rattle.command_defs.specs.Words.Command.{Replay, ReplayWith, Check, Board, Gen}
 use Rattle.command_defs.specs.Checks.{timetables, counts_lines, conf_in}
 use Rattle.command_defs.specs.Commands.{offline, usage_line}
 
@@ -40,6 +40,22 @@ pub board_asked : (command_of (board_words (codes "50"))
     × (command_of (board_words (codes "50") ++ codes "x" ∷ []) ≡ None)
 unfolding command_of number
 board_asked = (refl, refl, refl)
+
+-- a seed of 64 bits, and one more than that; samples that are too large or empty, and a word too few
+abbrev gen_words : List ℕ → List ℕ → List ℕ → List (List ℕ)
+gen_words seed trips messages = codes "gen" ∷ seed ∷ trips ∷ messages ∷ []
+
+pub sample_asked : (command_of (gen_words (codes "18446744073709551615") (codes "20000") (codes "2000"))
+    ≡ Some (Gen 18446744073709551615 20000 2000))
+    × (command_of (gen_words (codes "0") (codes "01") (codes "1")) ≡ Some (Gen 0 1 1))
+    × (command_of (gen_words (codes "18446744073709551616") (codes "10") (codes "5")) ≡ None)
+    × (command_of (gen_words (codes "1") (codes "20001") (codes "5")) ≡ None)
+    × (command_of (gen_words (codes "1") (codes "0") (codes "5")) ≡ None)
+    × (command_of (gen_words (codes "1") (codes "10") (codes "2001")) ≡ None)
+    × (command_of (gen_words (codes "1") (codes "10") (codes "0")) ≡ None)
+    × (command_of (codes "gen" ∷ codes "1" ∷ codes "10" ∷ []) ≡ None)
+unfolding command_of number
+sample_asked = (refl, refl, refl, refl, refl, refl, refl, refl)
 
 pub check_one : command_of (codes "check" ∷ codes "hub.toml" ∷ []) ≡ Some (Check (codes "hub.toml"))
 unfolding command_of

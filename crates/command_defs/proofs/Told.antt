@@ -3,7 +3,7 @@ use Rattle.std.proofs.Common.{◌≡◌, ℕ, List, length, Option, Some, None, 
 use Rattle.std.specs.Prelude.{codes}
 use Rattle.conf_defs.specs.Conf.{conf_of}
 use Rattle.command_defs.specs.Words.{Command, command_of}
-use Rattle.command_defs.specs.Words.Command.{Replay, ReplayWith, Check, Board}
+use Rattle.command_defs.specs.Words.Command.{Replay, ReplayWith, Check, Board, Gen}
 use Rattle.command_defs.specs.Checks.{conf_in, conf_or_line}
 use Rattle.command_defs.specs.Commands.{offline, output_by, output_where_told}
 
@@ -14,6 +14,7 @@ told_by_case (Some Replay) files input = refl
 told_by_case (Some (ReplayWith path)) files input = refl
 told_by_case (Some (Check path)) files input = refl
 told_by_case (Some (Board path asked)) files input = refl
+told_by_case (Some (Gen seed trips messages)) files input = refl
 
 -- it is the whole offline output
 pub offline_is_told : (words : List (List ℕ)) (files : List (List ℕ × List ℕ)) (input : List ℕ)

@@ -8,9 +8,10 @@ use Rattle.board_text_defs.specs.Answers.{BoardAsked, board_answer}
 use Rattle.script_defs.specs.Output.{Output, replayed}
 use Rattle.script_defs.specs.Record.{configured, start}
 use Rattle.command_defs.specs.Words.{Command, command_of}
-use Rattle.command_defs.specs.Words.Command.{Replay, ReplayWith, Check, Board}
+use Rattle.command_defs.specs.Words.Command.{Replay, ReplayWith, Check, Board, Gen}
 use Rattle.command_defs.specs.Checks.{check_output}
 use Rattle.command_defs.specs.Hubs.{schedules_at}
+use Rattle.command_defs.specs.Samples.{gen_output}
 
 abbrev pub usage_line : List ℕ
 usage_line = codes "hub: usage" ++ line_feed
@@ -49,6 +50,7 @@ output_by (Some (ReplayWith path)) files input =
 output_by (Some (Check path)) files input = check_output files path
 output_by (Some (Board path asked)) files input =
     with_schedules (board_output asked) (schedules_at files path)
+output_by (Some (Gen seed trips messages)) files input = gen_output seed trips messages
 
 unfoldable pub offline : List (List ℕ) → List (List ℕ × List ℕ) → List ℕ → Output
 offline words files input = output_by (command_of words) files input
@@ -66,6 +68,7 @@ output_where_told (Some (ReplayWith path)) files input =
 output_where_told (Some (Check path)) files input = option_map (λ fs. check_output fs path) files
 output_where_told (Some (Board path asked)) files input =
     option_map (λ fs. with_schedules (board_output asked) (schedules_at fs path)) files
+output_where_told (Some (Gen seed trips messages)) files input = Some (gen_output seed trips messages)
 
 -- the line of a file that can't be read
 abbrev pub file_fault_line : List ℕ

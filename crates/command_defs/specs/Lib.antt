@@ -2,4 +2,5 @@ pub mod Words
 pub mod Faults
 pub mod Checks
 pub mod Hubs
+pub mod Samples
 pub mod Commands

@@ -1,18 +1,20 @@
--- The boards that words ask for are in range.
+-- The boards and the samples that words ask for are in range.
 use Rattle.std.proofs.Common.{◌≡◌, ℕ, ◌≤◌, List, [], ◌∷◌, Option, Some, None, Bool, true, false, refl, subst}
 use Rattle.std.specs.Prelude.{◌&&◌, nat_le, if◌then◌else◌, codes}
 use Rattle.std.specs.Option.{option_and_then}
 use Rattle.std.specs.List.{list_any}
 use Rattle.std.specs.Str.{bytes_eq}
 use Rattle.std.proofs.lemmas.Bool.{and_parts, leb-true}
+use Rattle.std.proofs.lemmas.Option.{same_Some}
 use Rattle.text_defs.specs.Moments.{last_moment}
 use Rattle.text_defs.specs.Numbers.{digits, number, within}
 use Rattle.board_text_defs.specs.Answers.{BoardAsked}
 use Rattle.script_defs.specs.Lines.{board_in_words, is_json_in}
 use Rattle.script_defs.proofs.Options.{bind_some}
 use Rattle.view_answers.specs.Questions.{MayAsk}
-use Rattle.command_defs.specs.Words.{Command, board_command, check_command, command_of, command_with, is_option, replay_command, word_digits}
-use Rattle.command_defs.specs.Words.Command.{Replay, ReplayWith, Check, Board}
+use Rattle.hub_main.specs.Offline.{MayMake}
+use Rattle.command_defs.specs.Words.{Command, board_command, check_command, command_of, command_with, gen_command, is_option, last_seed, most_messages, most_trips, replay_command, word_digits}
+use Rattle.command_defs.specs.Words.Command.{Replay, ReplayWith, Check, Board, Gen}
 
 kept : (test : Bool) (v n : ℕ) → (if test then Some v else None) ≡ Some n → (test ≡ true) × (v ≡ n)
 kept true v n h = (refl, cc)
@@ -51,39 +53,72 @@ words_range most (schedule ∷ stop ∷ moment ∷ span ∷ limit ∷ form ∷ [
     })
 words_range most _ asked h = cc
 
-no_replay : {R : Type 0} (words : List (List ℕ)) (config : List ℕ) (asked : BoardAsked) → replay_command words ≡ Some (Board config asked) → R
-no_replay [] config asked h = cc
-no_replay (path ∷ []) config asked h = cc
-no_replay _ config asked h = cc
+-- what is in range of a command
+abbrev IsRight : Command → Type 0
+IsRight (Board config asked) = MayAsk asked
+IsRight (Gen seed trips messages) = MayMake trips messages
+IsRight Replay = Unit {0}
+IsRight (ReplayWith path) = Unit {0}
+IsRight (Check path) = Unit {0}
 
-no_check : {R : Type 0} (words : List (List ℕ)) (config : List ℕ) (asked : BoardAsked) → check_command words ≡ Some (Board config asked) → R
-no_check (path ∷ []) config asked h = cc
-no_check _ config asked h = cc
+-- ---- by the name in front
 
-board_range : (words : List (List ℕ)) (config : List ℕ) (asked : BoardAsked) → board_command words ≡ Some (Board config asked) → MayAsk asked
-board_range [] config asked h = cc
-board_range (path ∷ words) config asked h =
-    let (found, read, h2) = bind_some (board_in_words word_digits words) _ (Board config asked) h in
-    let same : found ≡ asked = cc in
-    subst MayAsk same (words_range word_digits words found read)
+replay_right : (words : List (List ℕ)) (command : Command) → replay_command words ≡ Some command → IsRight command
+replay_right [] command h = subst IsRight (same_Some Replay command h) tt
+replay_right (path ∷ []) command h = subst IsRight (same_Some (ReplayWith path) command h) tt
+replay_right _ command h = cc
 
-named : {R : Type 0} (a b c : Bool) (x y z : Option Command) (command : Command) → (x ≡ Some command → R) → (y ≡ Some command → R) → (z ≡ Some command → R)
-    → (if a then x else (if b then y else (if c then z else None))) ≡ Some command → R
-named true b c x y z command fx fy fz h = fx h
-named false true c x y z command fx fy fz h = fy h
-named false false true x y z command fx fy fz h = fz h
-named false false false x y z command fx fy fz h = cc
+check_right : (words : List (List ℕ)) (command : Command) → check_command words ≡ Some command → IsRight command
+check_right (path ∷ []) command h = subst IsRight (same_Some (Check path) command h) tt
+check_right _ command h = cc
+
+board_right : (words : List (List ℕ)) (command : Command) → board_command words ≡ Some command → IsRight command
+board_right [] command h = cc
+board_right (path ∷ words) command h =
+    let (asked, read, h2) = bind_some (board_in_words word_digits words) _ command h in
+    subst IsRight (same_Some (Board path asked) command h2) (words_range word_digits words asked read)
+
+gen_right : (words : List (List ℕ)) (command : Command) → gen_command words ≡ Some command → IsRight command
+gen_right (seed_word ∷ trips_word ∷ messages_word ∷ []) command h =
+    let (seed, read_seed, h2) = bind_some (number word_digits 0 last_seed seed_word) _ command h in
+    let (trips, read_trips, h3) = bind_some (number word_digits 1 most_trips trips_word) _ command h2 in
+    let (messages, read_messages, h4) = bind_some (number word_digits 1 most_messages messages_word) _ command h3 in
+    let trips_range = number_range word_digits 1 most_trips trips trips_word read_trips in
+    let messages_range = number_range word_digits 1 most_messages messages messages_word read_messages in
+    subst IsRight (same_Some (Gen seed trips messages) command h4) (record {
+      some_trips = trips_range.0;
+      few_trips = trips_range.1;
+      some_messages = messages_range.0;
+      few_messages = messages_range.1;
+    })
+gen_right _ command h = cc
+
+named : {R : Type 0} (a b c d : Bool) (x y z w : Option Command) (command : Command)
+    → (x ≡ Some command → R) → (y ≡ Some command → R) → (z ≡ Some command → R) → (w ≡ Some command → R)
+    → (if a then x else (if b then y else (if c then z else (if d then w else None)))) ≡ Some command → R
+named true b c d x y z w command fx fy fz fw h = fx h
+named false true c d x y z w command fx fy fz fw h = fy h
+named false false true d x y z w command fx fy fz fw h = fz h
+named false false false true x y z w command fx fy fz fw h = fw h
+named false false false false x y z w command fx fy fz fw h = cc
 
 no_options : {R : Type 0} (test : Bool) (x : Option Command) (command : Command) → (x ≡ Some command → R) → (if test then None else x) ≡ Some command → R
 no_options true x command f h = cc
 no_options false x command f h = f h
 
-with_name : (words : List (List ℕ)) (config : List ℕ) (asked : BoardAsked) → command_with words ≡ Some (Board config asked) → MayAsk asked
-with_name [] config asked h = cc
-with_name (name ∷ words) config asked h =
-    named (bytes_eq name (codes "replay")) (bytes_eq name (codes "check")) (bytes_eq name (codes "board")) (replay_command words) (check_command words) (board_command words)
-    (Board config asked) (no_replay words config asked) (no_check words config asked) (board_range words config asked) h
+with_name : (words : List (List ℕ)) (command : Command) → command_with words ≡ Some command → IsRight command
+with_name [] command h = cc
+with_name (name ∷ words) command h =
+    named (bytes_eq name (codes "replay")) (bytes_eq name (codes "check")) (bytes_eq name (codes "board")) (bytes_eq name (codes "gen"))
+    (replay_command words) (check_command words) (board_command words) (gen_command words)
+    command (replay_right words command) (check_right words command) (board_right words command) (gen_right words command) h
+
+right : (words : List (List ℕ)) (command : Command) → command_of words ≡ Some command → IsRight command
+unfolding command_of
+right words command h = no_options (list_any is_option words) (command_with words) command (with_name words command) h
 
 pub asked_range : (words : List (List ℕ)) (config : List ℕ) (asked : BoardAsked) → command_of words ≡ Some (Board config asked) → MayAsk asked
-unfolding command_of
-asked_range words config asked h = no_options (list_any is_option words) (command_with words) (Board config asked) (with_name words config asked) h
+asked_range words config asked h = right words (Board config asked) h
+
+pub sample_range : (words : List (List ℕ)) (seed trips messages : ℕ) → command_of words ≡ Some (Gen seed trips messages) → MayMake trips messages
+sample_range words seed trips messages h = right words (Gen seed trips messages) h

@@ -8,7 +8,7 @@ use Rattle.std.proofs.KnownBytes.{Appends-nil, Consumes-nil}
 use Rattle.hub_outside.specs.Outside.{FileStore, Outside, Stream}
 use Rattle.sched_types.specs.Schedules.{Schedules}
 use Rattle.text_defs.specs.Cleaned.{line_feed}
-use Rattle.hub_load.specs.Told.{HasCause, IsAsTold, refusal_line}
+use Rattle.hub_load.specs.Told.{HasCause, IsAsTold, NeedsNoFile, TellsFault, refusal_line}
 use Rattle.hub_load.specs.declared.fault.HubFault.{HubFault}
 use Rattle.hub_load.specs.declared.fault.HubFault.TheVariants.{Refused, FileFault, NoMemory}
 use Rattle.hub_replay.specs.Outcome.{IsReplayStatus, Last}
@@ -16,10 +16,11 @@ use Rattle.script_defs.specs.Output.{Output, replayed}
 use Rattle.script_defs.specs.Record.{start}
 use Rattle.board_text_defs.specs.Answers.{BoardAsked}
 use Rattle.command_defs.specs.Words.{Command}
-use Rattle.command_defs.specs.Words.Command.{Replay, ReplayWith, Check, Board}
-use Rattle.command_defs.specs.Checks.{check_output}
+use Rattle.command_defs.specs.Words.Command.{Replay, ReplayWith, Check, Board, Gen}
+use Rattle.command_defs.specs.Checks.{check_output, output_of_check}
 use Rattle.command_defs.specs.Commands.{board_output, file_fault_line, found_or_not, output_where_told, replay_output, usage_line, with_schedules}
 use Rattle.command_defs.specs.Hubs.{schedules_at}
+use Rattle.command_defs.specs.Samples.{gen_output, sample_lines}
 use Rattle.hub_main.specs.Offline.{FilesRose, IsDone, IsRefusedWith, LoadFailed, OutcomeOf, PrintsFault, PrintsOutput, UsageOutcome, WritesWhole}
 
 -- the line for words that are no command
@@ -53,6 +54,81 @@ load_short path files files' output output' files_count same = record {
   output_count = subst (λ o. output.faults ≤ o.faults) (sym same) (omega arith);
 }
 
+-- ---- one output, which is made whole before it is printed
+
+-- an output whose status is none of a fault
+abbrev pub IsAnswer : Output → Type 0
+IsAnswer output = (output.status ≡ 0) ⊎ (output.status ≡ 3) ⊎ (output.status ≡ 8)
+
+no_fault : {A : Type 0} (status defined : ℕ) → (defined ≡ 0) ⊎ (defined ≡ 3) ⊎ (defined ≡ 8) → status ≡ defined → (status ≡ 5) ⊎ (status ≡ 6) → A
+no_fault status defined (inl d) e (inl f) = absurd (omega arith)
+no_fault status defined (inl d) e (inr f) = absurd (omega arith)
+no_fault status defined (inr (inl d)) e (inl f) = absurd (omega arith)
+no_fault status defined (inr (inl d)) e (inr f) = absurd (omega arith)
+no_fault status defined (inr (inr d)) e (inl f) = absurd (omega arith)
+no_fault status defined (inr (inr d)) e (inr f) = absurd (omega arith)
+
+-- its bytes were written, or a front of them
+pub printed : (defined : Output) (status : ℕ) (output output' : Stream) → IsAnswer defined
+    → Last defined.status defined.written status output.told output'.told output.faults output'.faults
+    → PrintsOutput defined output output' status
+printed defined status output output' answer (count, inl (e, wrote)) = record {
+  is_status = inl e;
+  whole = λ _. wrote;
+  output_fault = λ f. no_fault status defined.status answer e (inl f);
+  no_memory = λ f. no_fault status defined.status answer e (inr f);
+  output_count = count;
+}
+printed defined status output output' answer (count, inr (e, rose, cut)) = record {
+  is_status = inr (inl e);
+  whole = λ f. no_fault status defined.status answer f (inl e);
+  output_fault = λ _. (rose, cut);
+  no_memory = λ f. absurd (omega arith);
+  output_count = count;
+}
+
+-- memory ran out before anything was printed
+pub print_short : (defined : Output) (output : Stream) → IsAnswer defined → PrintsOutput defined output output 6
+print_short defined output answer = record {
+  is_status = inr (inr refl);
+  whole = λ f. no_fault 6 defined.status answer f (inr refl);
+  output_fault = λ f. absurd (omega arith);
+  no_memory = λ _. Appends-nil output.told;
+  output_count = omega arith;
+}
+
+pub found_answers : (o : Option (List ℕ)) → IsAnswer (found_or_not o)
+found_answers None = inr (inr refl)
+found_answers (Some bytes) = inl refl
+
+pub check_answers : (lines : Result (List ℕ) (List ℕ)) → IsAnswer (output_of_check lines)
+check_answers (Ok lines) = inl refl
+check_answers (Err line) = inr (inl refl)
+
+-- lines that are told were written, or the line of a refusal
+pub lines_printed : (told : Result (List ℕ) (List ℕ)) (lines : List ℕ) (status : ℕ) (output output' : Stream) → told ≡ Ok lines
+    → Last 0 lines status output.told output'.told output.faults output'.faults → PrintsOutput (output_of_check told) output output' status
+lines_printed told lines status output output' is last = rw is (printed (output_of_check (Ok lines)) status output output' (inl refl) last)
+
+pub refusal_printed : (told : Result (List ℕ) (List ℕ)) (line : List ℕ) (status : ℕ) (output output' : Stream) → refusal_line told ≡ Some line
+    → Last 3 line status output.told output'.told output.faults output'.faults → PrintsOutput (output_of_check told) output output' status
+refusal_printed (Ok lines) line status output output' is last = cc
+refusal_printed (Err words) line status output output' is last =
+    let same : line ≡ words ++ line_feed = cc in
+    let here = subst (λ bytes. Last 3 bytes status output.told output'.told output.faults output'.faults) same last in
+    printed (output_of_check (Err words)) status output output' (inr (inl refl)) here
+
+-- a fault that no file has, once it is printed
+pub sample_fault : (told : Result (List ℕ) (List ℕ)) (fault : HubFault) (status : ℕ) (output output' : Stream) → TellsFault told fault
+    → NeedsNoFile {B = Vec ℕ Global} (Err fault) → PrintsFault fault output output' status → PrintsOutput (output_of_check told) output output' status
+sample_fault told (Refused line) status output output' is no_file printed = refusal_printed told line.items status output output' is printed
+sample_fault told FileFault status output output' is no_file printed = absurd no_file
+sample_fault told NoMemory status output output' is no_file (short, same) =
+    subst (λ s. PrintsOutput (output_of_check told) output output' s) (sym short)
+    (subst (λ o. PrintsOutput (output_of_check told) output o 6) (sym same) (print_short (output_of_check told) output (check_answers told)))
+
+-- ---- commands
+
 -- memory ran out before the words were read, whatever they are
 pub short_outcome : (command : Option Command) (before : Outside) → OutcomeOf command before before 6
 short_outcome None before = record {
@@ -79,6 +155,7 @@ short_outcome (Some (ReplayWith path)) before =
     inl (load_short path before.files before.files before.output before.output (omega arith) refl, refl)
 short_outcome (Some (Board path asked)) before =
     inl (load_short path before.files before.files before.output before.output (omega arith) refl)
+short_outcome (Some (Gen seed trips messages)) before = print_short (gen_output seed trips messages) before.output (check_answers (sample_lines seed trips messages))
 short_outcome (Some (Check path)) before = record {
   is_status = inr (inr (inr (inr refl)));
   whole = elim [ inl f ↦ absurd (omega arith) | inr f ↦ absurd (omega arith) ];
@@ -277,51 +354,8 @@ told_whole (Some (Board path asked)) before after status (inr (plans, loaded, co
     let is = print_status status (board_output asked plans).status o.is_status done in
     of_part (λ fs. with_schedules (board_output asked) (schedules_at fs path)) before.files.told before.output.told after.output.told status
     (told_loaded (board_output asked) path before.files.told plans before.output after.output status loaded (o.whole is, is))
-
--- ---- one output of a hub that was loaded
-
--- an output whose status is none of a fault
-abbrev pub IsAnswer : Output → Type 0
-IsAnswer output = (output.status ≡ 0) ⊎ (output.status ≡ 8)
-
-no_fault : {A : Type 0} (status defined : ℕ) → (defined ≡ 0) ⊎ (defined ≡ 8) → status ≡ defined → (status ≡ 5) ⊎ (status ≡ 6) → A
-no_fault status defined (inl d) e (inl f) = absurd (omega arith)
-no_fault status defined (inl d) e (inr f) = absurd (omega arith)
-no_fault status defined (inr d) e (inl f) = absurd (omega arith)
-no_fault status defined (inr d) e (inr f) = absurd (omega arith)
-
--- its bytes were written, or a front of them
-pub printed : (defined : Output) (status : ℕ) (output output' : Stream) → IsAnswer defined
-    → Last defined.status defined.written status output.told output'.told output.faults output'.faults
-    → PrintsOutput defined output output' status
-printed defined status output output' answer (count, inl (e, wrote)) = record {
-  is_status = inl e;
-  whole = λ _. wrote;
-  output_fault = λ f. no_fault status defined.status answer e (inl f);
-  no_memory = λ f. no_fault status defined.status answer e (inr f);
-  output_count = count;
-}
-printed defined status output output' answer (count, inr (e, rose, cut)) = record {
-  is_status = inr (inl e);
-  whole = λ f. no_fault status defined.status answer f (inl e);
-  output_fault = λ _. (rose, cut);
-  no_memory = λ f. absurd (omega arith);
-  output_count = count;
-}
-
--- memory ran out before anything was printed
-pub print_short : (defined : Output) (output : Stream) → IsAnswer defined → PrintsOutput defined output output 6
-print_short defined output answer = record {
-  is_status = inr (inr refl);
-  whole = λ f. no_fault 6 defined.status answer f (inr refl);
-  output_fault = λ f. absurd (omega arith);
-  no_memory = λ _. Appends-nil output.told;
-  output_count = omega arith;
-}
-
-pub found_answers : (o : Option (List ℕ)) → IsAnswer (found_or_not o)
-found_answers None = inr refl
-found_answers (Some bytes) = inl refl
+told_whole (Some (Gen seed trips messages)) before after status o done =
+    let is = print_status status (gen_output seed trips messages).status o.is_status done in (o.whole is, is)
 
 -- ---- a hub that could not be loaded
 

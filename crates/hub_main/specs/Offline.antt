@@ -14,10 +14,11 @@ use Rattle.sched_types.specs.Schedules.{Schedules}
 use Rattle.script_defs.specs.Output.{Output}
 use Rattle.script_defs.specs.Record.{configured, start}
 use Rattle.command_defs.specs.Words.{Command}
-use Rattle.command_defs.specs.Words.Command.{Replay, ReplayWith, Check, Board}
+use Rattle.command_defs.specs.Words.Command.{Replay, ReplayWith, Check, Board, Gen}
 use Rattle.command_defs.specs.Checks.{check_output}
 use Rattle.command_defs.specs.Commands.{board_output, file_fault_line, usage_line}
 use Rattle.command_defs.specs.Hubs.{schedules_at}
+use Rattle.command_defs.specs.Samples.{gen_output}
 
 -- done, no command, refused configuration or timetable, input or file fault, output fault, no
 -- memory, refused script, no such schedule or stop
@@ -145,6 +146,8 @@ OutcomeOf (Some (Check path)) before after status =
 OutcomeOf (Some (Board path asked)) before after status =
     BoardOutcome path (board_output asked) before.files after.files before.output after.output
     status
+OutcomeOf (Some (Gen seed trips messages)) before after status =
+    PrintsOutput (gen_output seed trips messages) before.output after.output status
 
 -- the statuses at which the whole output was written
 abbrev pub IsDone : ℕ → Type 0
@@ -162,6 +165,7 @@ ReadsFiles (Some Replay) = ⊥
 ReadsFiles (Some (ReplayWith path)) = Unit {0}
 ReadsFiles (Some (Check path)) = Unit {0}
 ReadsFiles (Some (Board path asked)) = Unit {0}
+ReadsFiles (Some (Gen seed trips messages)) = ⊥
 
 abbrev pub ReadsInput : Option Command → Type 0
 ReadsInput None = ⊥
@@ -169,6 +173,14 @@ ReadsInput (Some Replay) = Unit {0}
 ReadsInput (Some (ReplayWith path)) = Unit {0}
 ReadsInput (Some (Check path)) = ⊥
 ReadsInput (Some (Board path asked)) = ⊥
+ReadsInput (Some (Gen seed trips messages)) = ⊥
+
+-- a sample that may be made: 1 to 20,000 trips, and 1 to 2,000 messages
+pub record MayMake (trips messages : ℕ) : Type 0 where
+  pub some_trips : 1 ≤ trips
+  pub few_trips : trips ≤ 20000
+  pub some_messages : 1 ≤ messages
+  pub few_messages : messages ≤ 2000
 
 -- the plans with one owner who may share them, or want of memory
 abbrev pub IsShare : Schedules → Result (Arc Schedules Global) HubFault → Type 0

@@ -7,10 +7,12 @@ ghost use Rattle.hub_words.specs.Answer.{asked_seen};
 ghost use Rattle.view_answers.specs.Questions.{MayAsk};
 ghost use Rattle.command_defs.specs.Words.{command_of};
 ghost use Rattle.command_defs.specs.Commands.{board_output, output_where_told};
-ghost use Rattle.hub_main.specs.Offline.{BoardOutcome, CheckOutcome, IsExitStatus, OutcomeOf, PrintsFault, PrintsOutput, ReadsFiles, ReadsInput, ReplayWithOutcome, UsageOutcome, WritesWhole};
+ghost use Rattle.command_defs.specs.Samples.{gen_output};
+ghost use Rattle.hub_main.specs.Offline.{BoardOutcome, CheckOutcome, IsExitStatus, MayMake, OutcomeOf, PrintsFault, PrintsOutput, ReadsFiles, ReadsInput, ReplayWithOutcome, UsageOutcome, WritesWhole};
 
 use crate::boards::{board_of, load_shared};
 use hub_check::check;
+use hub_gen::run_sample;
 use hub_load::HubFault;
 use hub_outside::{Clock, Files, OutputFault, Sink, Source, write_all};
 use hub_replay::replay;
@@ -33,8 +35,8 @@ const NOT_FOUND: u8 = 8;
 /// timetable is refused, 4 where the input or a file failed, 5 where the output did, 6 where memory
 /// ran out, 7 where a script is refused, and 8 where the schedule or the stop of a board isn't there.
 /// The commands are `replay`, which reads a script on the input and asks for no file, `replay CONFIG`,
-/// which reads files and then a script, and `check CONFIG` and `board CONFIG ..`, which read files and
-/// no input.
+/// which reads files and then a script, `check CONFIG` and `board CONFIG ..`, which read files and
+/// no input, and `gen SEED TRIPS MESSAGES`, which reads neither.
 ///
 /// It always returns, and reads no clock.
 pub fn run_offline<F: Files, S: Source, K: Sink, C: Clock>(
@@ -71,6 +73,13 @@ pub fn run_offline<F: Files, S: Source, K: Sink, C: Clock>(
         Ok(Command::ReplayWith(path)) => run_replay(alloc, files, path, input, out),
         Ok(Command::Check(path)) => run_check(alloc, files, path, out),
         Ok(Command::Board { config, asked }) => run_board(alloc, files, config, &asked, out),
+        Ok(
+            Command::Gen {
+                seed,
+                trips,
+                messages,
+            },
+        ) => run_gen(alloc, seed, trips, messages, out),
         Err(WordsFault::Usage) => run_usage(out),
         Err(WordsFault::NoMemory) => NO_MEMORY,
     }
@@ -165,6 +174,20 @@ fn run_check<F: Files, K: Sink>(alloc: Global, files: &mut F, path: &str, out: &
         Err(HubFault::Refused(line)) => write_line(&line, REFUSED_CONF, out),
         Err(HubFault::FileFault) => write_line(b"hub: file fault\n", FAULT, out),
         Err(HubFault::NoMemory) => NO_MEMORY,
+    }
+}
+
+/// `gen`: the sample of the seed, run.
+fn run_gen<K: Sink>(alloc: Global, seed: u64, trips: u32, messages: u32, out: &mut K) -> u8
+    requires { MayMake trips messages }
+    ensures { PrintsOutput (gen_output seed trips messages)
+        (stream (K.written out.old) (K.faults out.old))
+        (stream (K.written out.new) (K.faults out.new))
+        result }
+{
+    match run_sample(alloc, seed, trips, messages) {
+        Ok(line) => write_line(&line, DONE, out),
+        Err(fault) => write_fault(&fault, out),
     }
 }
 

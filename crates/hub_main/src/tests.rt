@@ -179,3 +179,27 @@ fn faults(rt: HostRuntime) -> Result<(), Fail> {
     assert_eq!(rt; got.written.as_slice(), b"hub: input fault\n".as_slice());
     Ok(())
 }
+
+/// Ten trips that begin in the first ten minutes of a day are gone by noon.
+#[test]
+fn a_sample_is_run(rt: HostRuntime) -> Result<(), Fail> {
+    let alloc = rt.alloc();
+    let mut words = Vec::new(alloc);
+    for word in ["gen", "1", "10", "5"] {
+        words.push(Text::new(alloc, word)?)?;
+    }
+    let got = run_words(
+        alloc,
+        &words,
+        b"",
+        Vec::new(alloc),
+        Vec::new(alloc),
+        Vec::new(alloc),
+    )?;
+    assert_eq!(rt; got.status, 0);
+    assert_eq!(rt;
+        got.written.as_slice(),
+        b"trips 10 messages 5 accepted 5 refused 0 rows 0 delays 0\n".as_slice()
+    );
+    Ok(())
+}

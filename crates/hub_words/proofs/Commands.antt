@@ -15,8 +15,8 @@ use Rattle.clap.specs.Faults.{built_fault, check_fault, defaults_fault, entered_
 use Rattle.clap.specs.declared.error.kind.ErrorKind.TheVariants as kind
 use Rattle.clap.proofs.FaultLemmas.{stopped_fault}
 use Rattle.clap.proofs.WalkLemmas.{walk_stopped}
-use Rattle.command_defs.specs.Words.{Command, board_command, check_command, command_by_name, command_of, command_with, is_option, replay_command}
-use Rattle.hub_words.specs.Forms.{Form, app_for, board_form, check_form, command_in, read_rows, replay_form, fits, form_of, forms, given, number_under, takes_words, word_under}
+use Rattle.command_defs.specs.Words.{Command, board_command, check_command, command_by_name, command_of, command_with, gen_command, is_option, replay_command}
+use Rattle.hub_words.specs.Forms.{Form, app_for, board_form, check_form, command_in, gen_form, read_rows, replay_form, fits, form_of, forms, given, number_under, takes_words, word_under}
 use Rattle.hub_words.proofs.Leaves.{Distinct, Looks, and_false, at, leaf, leaf_fitted, or_false, passes, placed, turn_is}
 
 -- ---- commands by their names
@@ -213,13 +213,19 @@ built_is : built (app_for forms) ≡ built_for forms
 built_is = refl
 
 all_good : AllGood forms
-all_good = (((refl, refl, refl), (refl, tt)), (((refl, refl, refl), (refl, tt)), ((board_looks, board_distinct), tt)))
+all_good = (((refl, refl, refl), (refl, tt)), (((refl, refl, refl), (refl, tt)), ((board_looks, board_distinct), ((gen_looks, gen_distinct), tt))))
   where
     board_looks : Looks (placed 1 board_form.positionals) 1 board_form.positionals
     board_looks = (refl, refl, (refl, refl, (refl, refl, (refl, refl, (refl, refl, (refl, refl, (refl, refl, refl)))))))
 
     board_distinct : Distinct board_form.positionals
     board_distinct = (refl, (refl, (refl, (refl, (refl, (refl, (refl, tt)))))))
+
+    gen_looks : Looks (placed 1 gen_form.positionals) 1 gen_form.positionals
+    gen_looks = (refl, refl, (refl, refl, (refl, refl, refl)))
+
+    gen_distinct : Distinct gen_form.positionals
+    gen_distinct = (refl, (refl, (refl, tt)))
 
 hub_parsed : (words : List Text) → list_any is_option words ≡ false
     → (passes (fault_of (app_for forms) words) ≡ takes_words forms words) × (takes_words forms words ≡ true → subcommand_of (app_for forms) words ≡ read_rows forms words)
@@ -241,48 +247,56 @@ Knows true rows command = command_in rows ≡ command
 Knows false rows command = command ≡ None
 
 -- the command by whether the first word is each name
-abbrev form_by : Bool → Bool → Bool → Option Form
-form_by replay check board = cond replay (Some replay_form) (cond check (Some check_form) (cond board (Some board_form) None))
+abbrev form_by : Bool → Bool → Bool → Bool → Option Form
+form_by replay check board sample = cond replay (Some replay_form) (cond check (Some check_form) (cond board (Some board_form) (cond sample (Some gen_form) None)))
 
-abbrev command_by : Bool → Bool → Bool → List Text → Option Command
-command_by replay check board args = cond replay (replay_command args) (cond check (check_command args) (cond board (board_command args) None))
+abbrev command_by : Bool → Bool → Bool → Bool → List Text → Option Command
+command_by replay check board sample args =
+    cond replay (replay_command args) (cond check (check_command args) (cond board (board_command args) (cond sample (gen_command args) None)))
 
 abbrev KnowsBy : Option Form → List Text → Option Command → Type 0
 KnowsBy form args command =
     Knows (option_map_or (λ f. fits f.positionals args) form false) (option_map (λ f. (f.name, given [] f.positionals args)) form) command
 
-knows : (replay check board : Bool) (args : List Text) → KnowsBy (form_by replay check board) args (command_by replay check board args)
+knows : (replay check board sample : Bool) (args : List Text) → KnowsBy (form_by replay check board sample) args (command_by replay check board sample args)
 unfolding word_under number_under
-knows true check board [] = refl
-knows true check board (a ∷ []) = refl
-knows true check board (a ∷ b ∷ more) = refl
-knows false true board [] = refl
-knows false true board (a ∷ []) = refl
-knows false true board (a ∷ b ∷ more) = refl
-knows false false true [] = refl
-knows false false true (a ∷ []) = refl
-knows false false true (a ∷ b ∷ []) = refl
-knows false false true (a ∷ b ∷ c ∷ []) = refl
-knows false false true (a ∷ b ∷ c ∷ d ∷ []) = refl
-knows false false true (a ∷ b ∷ c ∷ d ∷ e ∷ []) = refl
-knows false false true (a ∷ b ∷ c ∷ d ∷ e ∷ f ∷ []) = refl
-knows false false true (a ∷ b ∷ c ∷ d ∷ e ∷ f ∷ g ∷ []) = refl
-knows false false true (a ∷ b ∷ c ∷ d ∷ e ∷ f ∷ g ∷ h ∷ more) = refl
-knows false false false args = refl
+knows true check board sample [] = refl
+knows true check board sample (a ∷ []) = refl
+knows true check board sample (a ∷ b ∷ more) = refl
+knows false true board sample [] = refl
+knows false true board sample (a ∷ []) = refl
+knows false true board sample (a ∷ b ∷ more) = refl
+knows false false true sample [] = refl
+knows false false true sample (a ∷ []) = refl
+knows false false true sample (a ∷ b ∷ []) = refl
+knows false false true sample (a ∷ b ∷ c ∷ []) = refl
+knows false false true sample (a ∷ b ∷ c ∷ d ∷ []) = refl
+knows false false true sample (a ∷ b ∷ c ∷ d ∷ e ∷ []) = refl
+knows false false true sample (a ∷ b ∷ c ∷ d ∷ e ∷ f ∷ []) = refl
+knows false false true sample (a ∷ b ∷ c ∷ d ∷ e ∷ f ∷ g ∷ []) = refl
+knows false false true sample (a ∷ b ∷ c ∷ d ∷ e ∷ f ∷ g ∷ h ∷ more) = refl
+knows false false false true [] = refl
+knows false false false true (a ∷ []) = refl
+knows false false false true (a ∷ b ∷ []) = refl
+knows false false false true (a ∷ b ∷ c ∷ []) = refl
+knows false false false true (a ∷ b ∷ c ∷ d ∷ more) = refl
+knows false false false false args = refl
 
 -- the definition asks the names the other way round
-by_names : (word : Text) (args : List Text) → command_by (bytes_eq (codes "replay") word) (bytes_eq (codes "check") word) (bytes_eq (codes "board") word) args ≡ command_by_name word args
+by_names : (word : Text) (args : List Text)
+    → command_by (bytes_eq (codes "replay") word) (bytes_eq (codes "check") word) (bytes_eq (codes "board") word) (bytes_eq (codes "gen") word) args ≡ command_by_name word args
 by_names word args =
     let swapped : (name : Text) → bytes_eq name word ≡ bytes_eq word name = λ name. sym (bytes_eq_swap name word (bytes_eq name word) refl) in
-    ap (λ b. command_by b (bytes_eq (codes "check") word) (bytes_eq (codes "board") word) args) (swapped (codes "replay"))
-    ∙ ap (λ b. command_by (bytes_eq word (codes "replay")) b (bytes_eq (codes "board") word) args) (swapped (codes "check"))
-    ∙ ap (λ b. command_by (bytes_eq word (codes "replay")) (bytes_eq word (codes "check")) b args) (swapped (codes "board"))
+    ap (λ b. command_by b (bytes_eq (codes "check") word) (bytes_eq (codes "board") word) (bytes_eq (codes "gen") word) args) (swapped (codes "replay"))
+    ∙ ap (λ b. command_by (bytes_eq word (codes "replay")) b (bytes_eq (codes "board") word) (bytes_eq (codes "gen") word) args) (swapped (codes "check"))
+    ∙ ap (λ b. command_by (bytes_eq word (codes "replay")) (bytes_eq word (codes "check")) b (bytes_eq (codes "gen") word) args) (swapped (codes "board"))
+    ∙ ap (λ b. command_by (bytes_eq word (codes "replay")) (bytes_eq word (codes "check")) (bytes_eq word (codes "board")) b args) (swapped (codes "gen"))
 
 knows_all : (words : List Text) → Knows (takes_words forms words) (read_rows forms words) (command_with words)
 knows_all [] = refl
 knows_all (word ∷ args) =
     subst (λ command. KnowsBy (form_of forms word) args command) (by_names word args)
-    (knows (bytes_eq (codes "replay") word) (bytes_eq (codes "check") word) (bytes_eq (codes "board") word) args)
+    (knows (bytes_eq (codes "replay") word) (bytes_eq (codes "check") word) (bytes_eq (codes "board") word) (bytes_eq (codes "gen") word) args)
 
 -- where clap finds no error the command is the one that its matches tell, and where it finds one there is no command
 pub record Exact (words : List Text) : Type 0 where

@@ -1,11 +1,12 @@
 -- Numbers of up to 20 digits, by those of up to 19.
-use Rattle.std.proofs.Common.{◌≡◌, ◌≢◌, ℕ, zero, suc, ◌+◌, ◌-◌, ◌*◌, ◌^◌, ◌<◌, ◌≤◌, ◌&&◌, Bool, true, false, cond, refl, ap, List, [], ◌∷◌, length, Option, Some, None, arith, nat_le}
-use Rattle.std.proofs.Math.Nat.{add-mul, mul_assoc, mul-le-mul_right, pow-succ', pow-le-pow_right}
+use Rattle.std.proofs.Common.{◌≡◌, ◌≢◌, ◌∙◌, sym, ℕ, zero, suc, ◌+◌, ◌-◌, ◌*◌, ◌^◌, ◌<◌, ◌≤◌, ◌&&◌, Bool, true, false, cond, refl, ap, List, [], ◌∷◌, length, Option, Some, None, arith, nat_le}
+use Rattle.std.proofs.Math.Nat.{add-mul, mul_assoc, mul-le-mul_left, mul-le-mul_right, pow-succ', pow-le-pow_right}
 use Rattle.std.proofs.lemmas.Bool.Decides.{nat_tests}
 use Rattle.std.specs.Prelude.{IfSome}
 use Rattle.std.specs.Char.{is_ascii_digit}
-use Rattle.std.specs.Option.{option_and_then}
+use Rattle.std.specs.Option.{option_and_then, option_map}
 use Rattle.text_defs.specs.Numbers.{digits_after, number, within}
+use Rattle.command_defs.specs.Words.{last_seed}
 
 -- fewer than 20 digits are at most 19
 pub few_digits : (low high : ℕ) (bytes : List ℕ) → length bytes < 20 → number 19 low high bytes ≡ number 20 low high bytes
@@ -52,22 +53,27 @@ outside : (low high : ℕ) (found : Option ℕ) → IfSome found (λ n. high < n
 outside low high None h = refl
 outside low high (Some n) h = grind (arith, nat_tests)
 
-at_least : (value limit power : ℕ) → 1 ≤ value → limit ≤ power → limit ≤ value * power
-at_least value limit power some wide = let more : 1 * power ≤ value * power = mul-le-mul_right power some in omega (arith, more, wide)
+at_least : (least value limit power : ℕ) → least ≤ value → limit ≤ power → least * limit ≤ value * power
+at_least least value limit power some wide =
+    let more : least * power ≤ value * power = mul-le-mul_right power some in
+    let wider : least * limit ≤ least * power = mul-le-mul_left least wide in
+    omega (arith, more, wider)
 
--- 19 digits behind one that is no 0 write too large a number
-pub too_large : (low high byte : ℕ) (bytes : List ℕ) → high < 10_000_000_000_000_000_000 → byte ≢ 48 → 19 ≤ length bytes → number 20 low high (byte ∷ bytes) ≡ None
+-- 19 digits behind one that is large write too large a number
+too_large : (low high least byte : ℕ) (bytes : List ℕ) → high < least * 10_000_000_000_000_000_000 → (is_ascii_digit byte ≡ true → least ≤ byte - 48) → 19 ≤ length bytes
+    → number 20 low high (byte ∷ bytes) ≡ None
 unfolding number
-too_large low high byte bytes below other long =
+too_large low high least byte bytes below other long =
     outside low high _ (counted (nat_le 1 (length (byte ∷ bytes)) && nat_le (length (byte ∷ bytes)) 20))
   where
     large : (is_digit : Bool) → is_ascii_digit byte ≡ is_digit → IfSome (cond is_digit (digits_after (0 * 10 + (byte - 48)) bytes) None) (λ n. high < n)
     large false e = tt
     large true e =
-        let digit : 1 ≤ 0 * 10 + (byte - 48) = grind (arith, nat_tests) in
+        let is_least = other e in
+        let digit : least ≤ 0 * 10 + (byte - 48) = omega (arith, is_least) in
         let ten : zero < 10 = omega arith in
         let wide : 10_000_000_000_000_000_000 ≤ 10 ^ length bytes = pow-le-pow_right {n = 10} ten {i = 19} {j = length bytes} long in
-        let all = at_least (0 * 10 + (byte - 48)) 10_000_000_000_000_000_000 (10 ^ length bytes) digit wide in
+        let all = at_least least (0 * 10 + (byte - 48)) 10_000_000_000_000_000_000 (10 ^ length bytes) digit wide in
         larger_some (digits_after (0 * 10 + (byte - 48)) bytes) ((0 * 10 + (byte - 48)) * 10 ^ length bytes) high (omega (arith, all, below)) (grows (0 * 10 + (byte - 48)) bytes)
 
     counted : (b : Bool) → IfSome (cond b (digits_after 0 (byte ∷ bytes)) None) (λ n. high < n)
@@ -76,4 +82,63 @@ too_large low high byte bytes below other long =
 
 pub no_zero_in_front : (low high : ℕ) (bytes : List ℕ) → high < 10_000_000_000_000_000_000 → 20 ≤ length bytes → ((rest : List ℕ) → bytes ≢ 48 ∷ rest) → number 20 low high bytes ≡ None
 no_zero_in_front low high [] below long other = absurd (omega arith)
-no_zero_in_front low high (b ∷ bytes) below long other = too_large low high b bytes below (λ e. other bytes (ap (λ x. x ∷ bytes) e)) (omega arith)
+no_zero_in_front low high (b ∷ bytes) below long other =
+    let no_zero : b ≢ 48 = λ e. other bytes (ap (λ x. x ∷ bytes) e) in
+    too_large low high 1 b bytes (omega (arith, below)) (λ e. grind (arith, nat_tests)) (omega arith)
+
+-- ---- numbers of 64 bits
+
+-- 19 digits behind one that is neither 0 nor 1 write no such number
+pub past_one : (byte : ℕ) (bytes : List ℕ) → byte ≢ 48 → byte ≢ 49 → 19 ≤ length bytes → number 20 0 last_seed (byte ∷ bytes) ≡ None
+past_one byte bytes no_zero no_one long = too_large 0 last_seed 2 byte bytes (omega arith) (λ e. grind (arith, nat_tests)) long
+
+-- what is in front of digits counts by their number
+shifted : (value more : ℕ) (bytes : List ℕ) → digits_after (value + more) bytes ≡ option_map (λ n. value * 10 ^ length bytes + n) (digits_after more bytes)
+shifted value more [] = ap Some (omega arith)
+shifted value more (b ∷ bytes) = go (is_ascii_digit b) (whole (shifted (value * 10) (more * 10 + (b - 48)) bytes))
+  where
+    whole : digits_after (value * 10 + (more * 10 + (b - 48))) bytes ≡ option_map (λ n. value * 10 * 10 ^ length bytes + n) (digits_after (more * 10 + (b - 48)) bytes)
+        → digits_after ((value + more) * 10 + (b - 48)) bytes ≡ option_map (λ n. value * 10 ^ suc (length bytes) + n) (digits_after (more * 10 + (b - 48)) bytes)
+    whole rest =
+        let front : (value + more) * 10 + (b - 48) ≡ value * 10 + (more * 10 + (b - 48)) = omega arith in
+        let power : value * 10 * 10 ^ length bytes ≡ value * 10 ^ suc (length bytes) = mul_assoc value 10 (10 ^ length bytes) ∙ ap (λ p. value * p) (sym (pow-succ' 10 (length bytes))) in
+        ap (λ v. digits_after v bytes) front ∙ rest
+        ∙ ap (λ p. option_map (λ n. p + n) (digits_after (more * 10 + (b - 48)) bytes)) power
+
+    go : (is_digit : Bool) → digits_after ((value + more) * 10 + (b - 48)) bytes ≡ option_map (λ n. value * 10 ^ suc (length bytes) + n) (digits_after (more * 10 + (b - 48)) bytes)
+        → cond is_digit (digits_after ((value + more) * 10 + (b - 48)) bytes) None ≡ option_map (λ n. value * 10 ^ suc (length bytes) + n) (cond is_digit (digits_after (more * 10 + (b - 48)) bytes) None)
+    go true same = same
+    go false same = refl
+
+-- the number behind the digit 1
+abbrev pub behind_one : ℕ → ℕ
+behind_one n = 10_000_000_000_000_000_000 + n
+
+fits_behind : (n : ℕ) → within 0 last_seed (behind_one n) ≡ option_map behind_one (within 0 (last_seed - 10_000_000_000_000_000_000) n)
+fits_behind n =
+    let same : (nat_le 0 (behind_one n) && nat_le (behind_one n) last_seed) ≡ (nat_le 0 n && nat_le n (last_seed - 10_000_000_000_000_000_000)) = grind (arith, nat_tests) in
+    ap (λ b. cond b (Some (behind_one n)) None) same ∙ go (nat_le 0 n && nat_le n (last_seed - 10_000_000_000_000_000_000))
+  where
+    go : (b : Bool) → cond b (Some (behind_one n)) None ≡ option_map behind_one (cond b (Some n) None)
+    go true = refl
+    go false = refl
+
+each_behind : (found : Option ℕ) → option_map behind_one (option_and_then (within 0 (last_seed - 10_000_000_000_000_000_000)) found) ≡ option_and_then (within 0 last_seed) (option_map behind_one found)
+each_behind None = refl
+each_behind (Some n) = sym (fits_behind n)
+
+-- the number of 64 bits that 19 digits write behind the digit 1
+pub one_in_front : (bytes : List ℕ) → 19 ≤ length bytes
+    → option_map behind_one (number 19 0 (last_seed - 10_000_000_000_000_000_000) bytes) ≡ number 20 0 last_seed (49 ∷ bytes)
+unfolding number
+one_in_front bytes long =
+    let same : (nat_le 1 (length bytes) && nat_le (length bytes) 19) ≡ (nat_le 1 (length (49 ∷ bytes)) && nat_le (length (49 ∷ bytes)) 20) = grind (arith, nat_tests) in
+    go (nat_le 1 (length bytes) && nat_le (length bytes) 19) refl ∙ ap (λ b. option_and_then (within 0 last_seed) (cond b (digits_after 1 bytes) None)) same
+  where
+    go : (b : Bool) → (nat_le 1 (length bytes) && nat_le (length bytes) 19) ≡ b
+        → option_map behind_one (option_and_then (within 0 (last_seed - 10_000_000_000_000_000_000)) (cond b (digits_after 0 bytes) None)) ≡ option_and_then (within 0 last_seed) (cond b (digits_after 1 bytes) None)
+    go false e = refl
+    go true e =
+        let count : length bytes ≡ 19 = grind (arith, nat_tests) in
+        let moved : digits_after 1 bytes ≡ option_map behind_one (digits_after 0 bytes) = shifted 1 0 bytes ∙ ap (λ k. option_map (λ n. 1 * 10 ^ k + n) (digits_after 0 bytes)) count in
+        each_behind (digits_after 0 bytes) ∙ ap (option_and_then (within 0 last_seed)) (sym moved)

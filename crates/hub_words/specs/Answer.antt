@@ -6,7 +6,7 @@ use Rattle.clap.specs.declared.error.kind.ErrorKind.{ErrorKind}
 use Rattle.clap.specs.declared.error.kind.ErrorKind.TheVariants.{OutOfMemory}
 use Rattle.board_text_defs.specs.Answers.{BoardAsked}
 use Rattle.command_defs.specs.Words.{Command, command_of}
-use Rattle.command_defs.specs.Words.Command.{Replay, ReplayWith, Check, Board}
+use Rattle.command_defs.specs.Words.Command.{Replay, ReplayWith, Check, Board, Gen}
 use Rattle.hub_words.specs.Forms.{command_in}
 use Rattle.hub_words.specs.declared.board.BoardAsked.{BoardAsked as AskedRead}
 use Rattle.hub_words.specs.declared.read.Command.{Command as Read}
@@ -30,6 +30,7 @@ seen read.Replay = Replay
 seen (read.ReplayWith path) = ReplayWith path.now
 seen (read.Check path) = Check path.now
 seen (read.Board config asked) = Board config.now (asked_seen asked)
+seen (read.Gen seed trips messages) = Gen seed trips messages
 
 -- an answer is the command that the words are, or says that they are none; want of memory may come
 -- in place of it

@@ -14,8 +14,8 @@ use Rattle.clap.specs.declared.builder.command.Command.TheViews.{out-Command}
 use Rattle.clap.specs.declared.builder.value_parser.ValueParser.TheVariants as vp
 use Rattle.clap.specs.declared.parser.matches.ValueSource.TheVariants.{CommandLine}
 use Rattle.board_text_defs.specs.Answers.{BoardAsked}
-use Rattle.command_defs.specs.Words.{Command, word_digits}
-use Rattle.command_defs.specs.Words.Command.{Replay, ReplayWith, Check, Board}
+use Rattle.command_defs.specs.Words.{Command, last_seed, most_messages, most_trips, word_digits}
+use Rattle.command_defs.specs.Words.Command.{Replay, ReplayWith, Check, Board, Gen}
 use Rattle.script_defs.specs.Lines.{is_json_in}
 use Rattle.script_defs.specs.Optional.{◌>>=◌}
 use Rattle.text_defs.specs.Moments.{last_moment}
@@ -52,9 +52,12 @@ board_form =
     wanting (codes "board") (codes "config" ∷ codes "schedule" ∷ codes "stop" ∷ codes "moment"
     ∷ codes "span" ∷ codes "limit" ∷ codes "format" ∷ [])
 
+abbrev pub gen_form : Form
+gen_form = wanting (codes "gen") (codes "seed" ∷ codes "trips" ∷ codes "messages" ∷ [])
+
 -- the commands of `hub`
 abbrev pub forms : List Form
-forms = replay_form ∷ check_form ∷ board_form ∷ []
+forms = replay_form ∷ check_form ∷ board_form ∷ gen_form ∷ []
 
 -- ---- as clap is told of them
 
@@ -164,11 +167,20 @@ board_in rows =
     asked_in rows >>= λ asked.
     Some (Board config asked)
 
+-- the sample that the words ask for
+abbrev pub gen_in : List Row → Option Command
+gen_in rows =
+    number_under (codes "seed") 0 last_seed rows >>= λ seed.
+    number_under (codes "trips") 1 most_trips rows >>= λ trips.
+    number_under (codes "messages") 1 most_messages rows >>= λ messages.
+    Some (Gen seed trips messages)
+
 abbrev pub named : List ℕ → List Row → Option Command
 named name rows =
     if bytes_eq name (codes "replay") then Some (replay_in rows)
     else (if bytes_eq name (codes "check") then option_map Check (word_under (codes "config") rows)
-    else (if bytes_eq name (codes "board") then board_in rows else None))
+    else (if bytes_eq name (codes "board") then board_in rows
+    else (if bytes_eq name (codes "gen") then gen_in rows else None)))
 
 abbrev pub command_in : Option (List ℕ × List Row) → Option Command
 command_in None = None

@@ -1,7 +1,7 @@
 //! The commands as `clap` is told of them.
-ghost use Rattle.std.specs.Prelude.{◌≡◌, IfOk, false, map};
+ghost use Rattle.std.specs.Prelude.{◌≡◌, IfOk, false, [], ◌∷◌, map};
 ghost use Rattle.clap.specs.Words.{app_of, rule_of};
-ghost use Rattle.hub_words.specs.Forms.{app_for, forms, has_globals, leaf_for, optional};
+ghost use Rattle.hub_words.specs.Forms.{app_for, check_form, forms, has_globals, leaf_for, optional};
 ghost use Rattle.hub_words.specs.Forms.{replay_form, required, rule_for, top_app, wanting};
 
 use clap::{Arg, ArgAction, Command};
@@ -12,14 +12,25 @@ const BOARD_WORDS: [&str; 7] = [
     "config", "schedule", "stop", "moment", "span", "limit", "format",
 ];
 
+/// The words of `gen`.
+const GEN_WORDS: [&str; 3] = ["seed", "trips", "messages"];
+
 /// The parser of all commands. They have no flags, so that there is no help either.
 pub(crate) fn parser<'a>(alloc: Global) -> Result<Command<'a>, AllocError>
     ensures { IfOk result (λ parser. app_of parser ≡ app_for forms) }
 {
+    replay_and_check(alloc)?
+        .subcommand(wanting(alloc, "board", &BOARD_WORDS)?)?
+        .subcommand(wanting(alloc, "gen", &GEN_WORDS)?)
+}
+
+/// The program with these two commands.
+fn replay_and_check<'a>(alloc: Global) -> Result<Command<'a>, AllocError>
+    ensures { IfOk result (λ parser. app_of parser ≡ app_for (replay_form ∷ check_form ∷ [])) }
+{
     top(alloc)
         .subcommand(replay(alloc)?)?
-        .subcommand(wanting(alloc, "check", &["config"])?)?
-        .subcommand(wanting(alloc, "board", &BOARD_WORDS)?)
+        .subcommand(wanting(alloc, "check", &["config"])?)
 }
 
 /// The program without its commands.

@@ -5,11 +5,11 @@ ghost use Rattle.std.specs.List.{list_any};
 ghost use Rattle.clap.specs.Words.{found_of, kind_of, rows_of, subcommand_rows_of};
 ghost use Rattle.command_defs.specs.Words.{command_of, is_option};
 ghost use Rattle.command_defs.specs.Words.Command.{Check};
-ghost use Rattle.hub_words.specs.Forms.{board_in, command_in, named, replay_in, word_under};
+ghost use Rattle.hub_words.specs.Forms.{board_in, command_in, gen_in, named, replay_in, word_under};
 ghost use Rattle.hub_words.specs.Answer.{IsCommandOf, IsFaultOf, Parses, seen};
 
 use crate::board::{BoardAsked, asked_in};
-use crate::given::word_under;
+use crate::given::{number_under, seed_under, word_under};
 use crate::parser::parser;
 use clap::error::ErrorKind;
 use clap::{ArgMatches, Error};
@@ -32,7 +32,22 @@ pub enum Command<'a> {
         /// Which board is wanted.
         asked: BoardAsked<'a>,
     },
+    /// Makes a sample, runs the hub on it and writes what came of it.
+    Gen {
+        /// What the sample is drawn of.
+        seed: u64,
+        /// How many trips it has, 1 to 20,000.
+        trips: u32,
+        /// How many messages it has, 1 to 2,000.
+        messages: u32,
+    },
 }
+
+/// The most trips of a sample.
+const MOST_TRIPS: u64 = 20_000;
+
+/// The most messages of a sample.
+const MOST_MESSAGES: u64 = 2000;
 
 /// Why words are no command.
 #[derive(Clone, Copy, Debug, PartialEq, Eq, Drop, thiserror::Error)]
@@ -129,6 +144,8 @@ fn named_command<'a>(name: &str, words: &ArgMatches<'a>) -> Option<Command<'a>>
         check_in(words)
     } else if name == "board" {
         board_in(words)
+    } else if name == "gen" {
+        gen_in(words)
     } else {
         None
     }
@@ -159,4 +176,18 @@ fn board_in<'a>(words: &ArgMatches<'a>) -> Option<Command<'a>>
     let config = word_under(words, "config")?;
     let asked = asked_in(words)?;
     Some(Command::Board { config, asked })
+}
+
+/// `gen` of its words, where they are numbers in range.
+fn gen_in<'a>(words: &ArgMatches<'a>) -> Option<Command<'a>>
+    ensures { option_map seen result ≡ gen_in (rows_of (found_of words.now)) }
+{
+    let seed = seed_under(words, "seed")?;
+    let trips = number_under(words, "trips", 1, MOST_TRIPS)?;
+    let messages = number_under(words, "messages", 1, MOST_MESSAGES)?;
+    Some(Command::Gen {
+        seed,
+        trips: trips as u32,
+        messages: messages as u32,
+    })
 }

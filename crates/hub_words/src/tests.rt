@@ -117,6 +117,66 @@ fn no_boards(rt: HostRuntime) -> Result<(), Fail> {
     Ok(())
 }
 
+/// The sample of those words.
+const fn sample(seed: u64, trips: u32, messages: u32) -> Command<'static> {
+    Command::Gen {
+        seed,
+        trips,
+        messages,
+    }
+}
+
+#[test]
+fn samples(rt: HostRuntime) -> Result<(), Fail> {
+    let alloc = rt.alloc();
+    let samples: [([&str; 3], Command<'_>); 6] = [
+        (["7", "800", "5"], sample(7, 800, 5)),
+        (["0", "1", "1"], sample(0, 1, 1)),
+        (
+            ["18446744073709551615", "20000", "2000"],
+            sample(18_446_744_073_709_551_615, 20_000, 2000),
+        ),
+        (
+            ["10000000000000000000", "020000", "02000"],
+            sample(10_000_000_000_000_000_000, 20_000, 2000),
+        ),
+        (
+            ["09999999999999999999", "1", "1"],
+            sample(9_999_999_999_999_999_999, 1, 1),
+        ),
+        (
+            ["9999999999999999999", "1", "1"],
+            sample(9_999_999_999_999_999_999, 1, 1),
+        ),
+    ];
+    for ([seed, trips, messages], command) in samples {
+        assert!(rt; is_read(alloc, &["gen", seed, trips, messages], command)?);
+    }
+    Ok(())
+}
+
+#[test]
+fn no_samples(rt: HostRuntime) -> Result<(), Fail> {
+    let alloc = rt.alloc();
+    let refused: [&[&str]; 11] = [
+        &["gen"],
+        &["gen", "1", "10"],
+        &["gen", "1", "10", "5", "5"],
+        &["gen", "18446744073709551616", "10", "5"],
+        &["gen", "20000000000000000000", "10", "5"],
+        &["gen", "000000000000000000001", "10", "5"],
+        &["gen", "", "10", "5"],
+        &["gen", "1", "0", "5"],
+        &["gen", "1", "20001", "5"],
+        &["gen", "1", "10", "0"],
+        &["gen", "1", "10", "2001"],
+    ];
+    for words in refused {
+        assert!(rt; is_usage(alloc, words)?);
+    }
+    Ok(())
+}
+
 #[test]
 fn refusals(rt: HostRuntime) -> Result<(), Fail> {
     let alloc = rt.alloc();

@@ -2,8 +2,8 @@ use Rattle.hub_outside.specs.Outside.{file_store, outside, stream}
 use Rattle.command_defs.specs.Words.{command_of}
 use Rattle.std.proofs.Common.{◌≡◌, Some, subst}
 use Rattle.hub_words.specs.Answer.{asked_seen, seen}
-use Rattle.hub_words.specs.declared.read.Command.TheVariants.{Board}
-use Rattle.hub_main.proofs.Asked.{asked_range}
+use Rattle.hub_words.specs.declared.read.Command.TheVariants.{Board, Gen}
+use Rattle.hub_main.proofs.Asked.{asked_range, sample_range}
 use Rattle.hub_main.proofs.Commands.{short_outcome}
 use Rattle.hub_main.proofs.offline.run_offline.Goals as goal
 
@@ -20,3 +20,10 @@ run_board-requires g c =
     let is : command_of words ≡ Some (seen (Board c.in-Ok-Board.config c.in-Ok-Board.asked)) =
     subst (λ command. command_of words ≡ Some (seen command)) c.in-Ok-Board.field-0-is c.in-Ok-Board.ensures in
     asked_range words c.in-Ok-Board.config.now (asked_seen c.in-Ok-Board.asked) is
+
+pub run_gen-requires : goal.run_gen-requires
+run_gen-requires g c =
+    let words = c.args.words.now in
+    let is : command_of words ≡ Some (seen (Gen c.in-Ok-Gen.seed c.in-Ok-Gen.trips c.in-Ok-Gen.messages)) =
+    subst (λ command. command_of words ≡ Some (seen command)) c.in-Ok-Gen.field-0-is c.in-Ok-Gen.ensures in
+    sample_range words c.in-Ok-Gen.seed c.in-Ok-Gen.trips c.in-Ok-Gen.messages is

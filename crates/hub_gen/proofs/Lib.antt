@@ -1,0 +1,5 @@
+pub mod Ranges
+pub mod Drawn
+pub mod Offers
+pub mod LineLaws
+pub mod Told

@@ -1,0 +1,8 @@
+-- The texts that were gone over stand there.
+use Rattle.std.proofs.Common.{◌≡◌, ◌++◌, take}
+use Rattle.std.specs.List.{flat_map}
+use Rattle.hub_gen.proofs.lines.push_texts.Given as goal
+
+abbrev pub invariant-loop-text : goal.invariant-loop-text
+invariant-loop-text l =
+    l.out.items ≡ l.initial.out.items ++ flat_map (λ text. text.now) (take l.text-index l.texts)

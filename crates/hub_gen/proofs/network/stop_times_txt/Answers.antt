@@ -1,0 +1,15 @@
+-- Each turn appends the line of its number.
+use Rattle.std.proofs.Common.{arith}
+use Rattle.gen_defs.specs.Network.{trip_places, stop_times_txt}
+use Rattle.hub_gen.proofs.Ranges.{begins, ends, goes_on}
+use Rattle.hub_gen.proofs.network.stop_times_txt.Goals as goal
+
+pub loop-trip-init : goal.loop-trip-init
+loop-trip-init c = begins _ _
+
+pub loop-trip-preserved : goal.loop-trip-preserved
+loop-trip-preserved c = goes_on _ _ _ _ c.loop-trip.trip c.loop-trip.invariant c.in_ok-push_places.ensures
+
+pub returns : goal.returns
+unfolding stop_times_txt
+returns c = ends trip_places _ _ _ c.loop-trip.trip c.args.trips c.loop-trip.invariant c.in_ok-file.ensures (omega arith)
