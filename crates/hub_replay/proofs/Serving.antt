@@ -1,6 +1,7 @@
 -- A connection, by its input.
-use Rattle.std.proofs.Common.{◌≡◌, ℕ, ◌+◌, ◌≤◌, List, [], ◌∷◌, ◌++◌, length, take, drop, Some, None, Bool, true, false, refl, sym, ◌∙◌, arith, append-nil, length-drop, length-append}
+use Rattle.std.proofs.Common.{◌≡◌, ℕ, ◌+◌, ◌≤◌, List, [], ◌∷◌, ◌++◌, length, take, drop, Some, None, Result, Ok, Err, Bool, true, false, refl, sym, ap, ◌∙◌, arith, append-nil, append_assoc, length-drop, length-append}
 use Rattle.std.specs.Prelude.{slice_get, ◌==◌}
+use Rattle.std.specs.Result.{IsErrAnd}
 use Rattle.std.specs.Str.{bytes_eq}
 use Rattle.std.proofs.lemmas.List.Elements.{All-cons, All-nil}
 use Rattle.std.proofs.lemmas.Option.{slice_get_within}
@@ -12,7 +13,7 @@ use Rattle.script_defs.proofs.Connections.{first_is_served}
 use Rattle.script_defs.proofs.Opens.{input_short}
 use Rattle.script_defs.proofs.Payloads.{no_payload}
 use Rattle.hub_replay.specs.declared.records.Step.TheVariants.{Whole, Short, Refused}
-use Rattle.hub_replay.specs.Records.{Acts, Said}
+use Rattle.hub_replay.specs.Records.{Acts, Said, Says}
 use Rattle.hub_replay.proofs.Offering.{there}
 
 same_bytes : (xs ys : List ℕ) → xs ≡ ys → bytes_eq xs ys ≡ true
@@ -54,3 +55,20 @@ input_waits hub moment n behind bytes said within short =
       λ later. rw (append-nil (drop behind bytes), no_payload n (drop behind bytes) few) refl,
       λ later. rw (append-nil (drop behind bytes)) (input_short (serving later hub) moment n (drop behind bytes) few),
     )
+
+-- nothing was said
+pub says_nothing : {A E : Type 0} (r : Result A E) (said text : List ℕ) (P : E → Type 0) → IsErrAnd r P → Says r said said text
+says_nothing (Ok x) said text P e = absurd e
+says_nothing (Err x) said text P e = ([], sym (append-nil said))
+
+-- something was said behind two texts
+pub says_behind : {A E : Type 0} (r : Result A E) (said first second third line bytes last text : List ℕ) → first ≡ said ++ line → second ≡ first ++ bytes
+    → Says r second third last → line ++ (bytes ++ last) ≡ text → Says r said third text
+says_behind (Ok x) said first second third line bytes last text one two three all =
+    three ∙ ap (λ xs. xs ++ last) (two ∙ ap (λ xs. xs ++ bytes) one) ∙ ap (λ xs. xs ++ last) (append_assoc said line bytes)
+    ∙ append_assoc said (line ++ bytes) last ∙ ap (λ xs. said ++ xs) (append_assoc line bytes last ∙ all)
+says_behind (Err x) said first second third line bytes last text one two three all = (
+  line ++ (bytes ++ three.0),
+  three.1 ∙ ap (λ xs. xs ++ three.0) (two ∙ ap (λ xs. xs ++ bytes) one) ∙ ap (λ xs. xs ++ three.0) (append_assoc said line bytes)
+      ∙ append_assoc said (line ++ bytes) three.0 ∙ ap (λ xs. said ++ xs) (append_assoc line bytes three.0),
+)

@@ -1,6 +1,7 @@
 //! The record that serves a connection.
-ghost use Rattle.std.specs.Prelude.{◌≡◌, ◌≤◌, ◌++◌, length, codes};
+ghost use Rattle.std.specs.Prelude.{◌≡◌, ◌≤◌, ◌++◌, length, codes, IfOk};
 ghost use Rattle.std.specs.Fmt.{decimal};
+ghost use Rattle.std.specs.String.{string_bytes};
 ghost use Rattle.text_defs.specs.Cleaned.{line_feed};
 ghost use Rattle.text_defs.specs.Moments.{last_moment};
 ghost use Rattle.script_defs.specs.Lines.Head.{Connection};
@@ -79,9 +80,16 @@ fn say_connection(
         ++ decimal (length written.now) ++ codes " " ++ word.now ++ line_feed ++ written.now
         ++ line_feed) }
 {
-    let length = written.len();
-    let line = format!(in alloc; "connection {length} {word}\n")?;
+    let line = connection_line(alloc, written.len(), word)?;
     say(line.as_bytes(), said)?;
     say(written, said)?;
     say(b"\n", said)
+}
+
+/// The line that tells how many bytes were written on a connection, and with a word why it ended.
+fn connection_line(alloc: Global, length: usize, word: &str) -> Result<String, NoMemory>
+    ensures { IfOk result (λ line. string_bytes line ≡ codes "connection " ++ decimal length
+        ++ codes " " ++ word.now ++ line_feed) }
+{
+    format!(in alloc; "connection {length} {word}\n")
 }

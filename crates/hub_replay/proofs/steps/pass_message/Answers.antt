@@ -1,4 +1,4 @@
-use Rattle.std.proofs.Common.{sym, arith, append-nil, take-append-drop, take, drop, []}
+use Rattle.std.proofs.Common.{sym, ap, arith, length, length-append, append-nil, take-append-drop, take, drop, []}
 use Rattle.std.proofs.KnownBytes.{Consumes-nil}
 use Rattle.hub_replay.specs.declared.steps.Ending.TheVariants.{Refused, InputFault, OutputFault, NoMemory}
 use Rattle.hub_replay.specs.Steps.{at, at_serving}
@@ -39,3 +39,14 @@ returns-in-Err-clause-step g c =
     let wrote = c.in-Err.ensures.bytes in
     leave_here OutputFault (at c.args.run.now) [] (take wrote.0 c.args.run.now.said.items) (drop wrote.0 c.args.run.now.said.items) c.flush.new.said.items _ _ _ _ (Consumes-nil _) wrote.2
     (sym (take-append-drop wrote.0 c.args.run.now.said.items)) tt (omega arith) (λ later. tt)
+
+pub refuse_message-requires-clause-place : goal.refuse_message-requires-clause-place
+refuse_message-requires-clause-place g c =
+    let passes = c.in-More.ensures.skips in
+    let joined = length-append c.args.run.now.window.held passes.more in
+    let both = length-append passes.gone c.skip.new.window.held in
+    let same = ap length passes.all in
+    let size = passes.size in
+    let allowed = passes.allowed in
+    let place = c.requires.place in
+    omega arith
