@@ -12,7 +12,7 @@ use Rattle.text_defs.specs.Cleaned.{line_feed}
 use Rattle.hub_load.specs.Told.{HasCause, IsAsTold, refusal_line}
 use Rattle.hub_load.specs.declared.fault.HubFault.{HubFault}
 use Rattle.hub_load.specs.declared.fault.HubFault.TheVariants.{Refused, FileFault, NoMemory}
-use Rattle.hub_replay.specs.Outcome.{IsReplayStatus, Last, OutcomeOn}
+use Rattle.hub_replay.specs.Outcome.{IsReplayStatus, Last, OutcomeOn, ReplayOutcome}
 use Rattle.serve_defs.specs.Connections.{IsServed, Served}
 use Rattle.script_defs.specs.Output.{Output, replayed}
 use Rattle.script_defs.specs.Record.{Hub, configured, serving, start}
@@ -22,7 +22,7 @@ use Rattle.command_defs.specs.Words.Command.{Replay, ReplayWith, Check, Board}
 use Rattle.command_defs.specs.Checks.{check_output}
 use Rattle.command_defs.specs.Commands.{board_output, file_fault_line, found_or_not, output_where_told, replay_output, usage, usage_line, with_schedules}
 use Rattle.command_defs.specs.Hubs.{schedules_at}
-use Rattle.hub_main.specs.Offline.{FilesRose, IsDone, IsRefusedWith, LoadFailed, OutcomeOf, PrintsFault, PrintsOutput, UsageOutcome, WritesTold, WritesWhole}
+use Rattle.hub_main.specs.Offline.{FilesRose, IsDone, IsExitStatus, IsRefusedWith, LoadFailed, OutcomeOf, PrintsFault, PrintsOutput, ReplayWithOutcome, UsageOutcome, WritesTold, WritesWhole}
 
 -- the line for words that are no command
 pub usage_outcome : (status : ℕ) (output output' : Stream) → Last 2 usage_line status output.told output'.told output.faults output'.faults
@@ -90,6 +90,42 @@ short_outcome (Some (Check path)) before = record {
   files_count = omega arith;
   output_count = omega arith;
 }
+
+-- ---- what a replay says whatever connections are given
+
+exit_of : (status : ℕ) → IsReplayStatus status → IsExitStatus status
+exit_of status (inl e) = inl e
+exit_of status (inr (inl e)) = inr (inr (inr (inl e)))
+exit_of status (inr (inr (inl e))) = inr (inr (inr (inr (inl e))))
+exit_of status (inr (inr (inr (inl e)))) = inr (inr (inr (inr (inr (inl e)))))
+exit_of status (inr (inr (inr (inr e)))) = inr (inr (inr (inr (inr (inr (inl e))))))
+
+pub replay_exit : (hub : Hub) (input input' output output' : Stream) (status : ℕ) → ReplayOutcome hub input input' output output' status → IsExitStatus status
+replay_exit hub input input' output output' status (served, are_served, o) = exit_of status (o []).is_status
+
+pub replay_input : (hub : Hub) (input input' output output' : Stream) (status : ℕ) → ReplayOutcome hub input input' output output' status → input.faults ≤ input'.faults
+replay_input hub input input' output output' status (served, are_served, o) = (o []).input_count
+
+pub replay_output_count : (hub : Hub) (input input' output output' : Stream) (status : ℕ) → ReplayOutcome hub input input' output output' status → output.faults ≤ output'.faults
+replay_output_count hub input input' output output' status (served, are_served, o) = (o []).output_count
+
+load_exit : (status : ℕ) → (status ≡ 3) ⊎ (status ≡ 4) ⊎ (status ≡ 5) ⊎ (status ≡ 6) → IsExitStatus status
+load_exit status (inl e) = inr (inr (inl e))
+load_exit status (inr (inl e)) = inr (inr (inr (inl e)))
+load_exit status (inr (inr (inl e))) = inr (inr (inr (inr (inl e))))
+load_exit status (inr (inr (inr e))) = inr (inr (inr (inr (inr (inl e)))))
+
+pub configured_exit : (path : List ℕ) (before after : Outside) (status : ℕ) → ReplayWithOutcome path before after status → IsExitStatus status
+configured_exit path before after status (inl (o, same)) = load_exit status o.is_status
+configured_exit path before after status (inr (plans, loaded, count, o)) = replay_exit (configured plans) before.input after.input before.output after.output status o
+
+pub configured_input : (path : List ℕ) (before after : Outside) (status : ℕ) → ReplayWithOutcome path before after status → before.input.faults ≤ after.input.faults
+configured_input path before after status (inl (o, same)) = subst (λ s. before.input.faults ≤ s.faults) (sym same) (omega arith)
+configured_input path before after status (inr (plans, loaded, count, o)) = replay_input (configured plans) before.input after.input before.output after.output status o
+
+pub configured_output : (path : List ℕ) (before after : Outside) (status : ℕ) → ReplayWithOutcome path before after status → before.output.faults ≤ after.output.faults
+configured_output path before after status (inl (o, same)) = o.output_count
+configured_output path before after status (inr (plans, loaded, count, o)) = replay_output_count (configured plans) before.input after.input before.output after.output status o
 
 -- ---- which statuses a command has once all is written
 

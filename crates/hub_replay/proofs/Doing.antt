@@ -5,7 +5,7 @@ use Rattle.board_text_defs.specs.Answers.{answer_to, feed_number, Question}
 use Rattle.script_defs.specs.Optional.{◌>>=◌}
 use Rattle.script_defs.specs.Lines.{Head, line_within, longest_line, head_of}
 use Rattle.serve_defs.specs.Connections.{Served, IsServed}
-use Rattle.script_defs.specs.Record.{Hub, Turn, turn, act, payload_at, payload_waits, offered_turn, waits, serving, with_feed, may_declare, answer_reply, question_word, folds_in}
+use Rattle.script_defs.specs.Record.{Hub, turn, act, payload_at, payload_waits, offered_turn, waits, serving, with_feed, may_declare, answer_reply, question_word, folds_in}
 use Rattle.script_defs.specs.Lines.Head.{Feed, Message, Ask, End}
 use Rattle.script_defs.proofs.Options.{bind_at, bind_none}
 use Rattle.script_defs.proofs.Turns.{turn_line, no_line_here, no_line_turn}

@@ -1,20 +1,20 @@
 -- From the ending of a replay to the outcome of the command.
-use Rattle.std.proofs.Common.{◌≡◌, ℕ, zero, suc, ◌+◌, ◌-◌, ◌≤◌, List, [], ◌∷◌, ◌++◌, length, take, Option, Some, None, IfSome, Bool, true, false, refl, sym, ap, ◌∙◌, subst, arith, inl, inr, append-nil, append_assoc}
+use Rattle.std.proofs.Common.{◌≡◌, ℕ, ◌+◌, ◌-◌, ◌≤◌, List, [], ◌++◌, length, take, Option, Some, None, IfSome, Bool, true, false, refl, sym, ap, ◌∙◌, subst, arith, inl, inr, append-nil, append_assoc}
 use Rattle.std.specs.Prelude.{unwrap_or, min, ◌⊎◌}
 use Rattle.std.specs.Io.KnownBytes.{Appends, Consumes}
 use Rattle.std.proofs.KnownBytes.{Appends-nil, Appends-trans, Consumes-nil}
 use Rattle.std.proofs.lemmas.List.{take-append-le, take_min}
-use Rattle.std.proofs.Math.Seq.{take-append-add, take-append_seam, take-nil}
+use Rattle.std.proofs.Math.Seq.{take-append-add, take-append_seam}
 use Rattle.hub_outside.specs.Count.{Rose}
 use Rattle.hub_outside.proofs.Rising.{rose_later, rose_before}
 use Rattle.serve_defs.specs.Connections.{Served}
-use Rattle.script_defs.specs.Record.{Hub, serving}
+use Rattle.script_defs.specs.Record.{Hub}
 use Rattle.script_defs.specs.Output.{Run, Output, run, output_of, replayed, longest_script, refused_line, fault_line}
 use Rattle.hub_replay.specs.declared.steps.Ending.{Ending}
 use Rattle.hub_replay.specs.declared.steps.Ending.TheVariants.{Ended, Refused, InputFault, OutputFault, NoMemory}
 use Rattle.hub_replay.specs.Window.{remaining}
 use Rattle.hub_replay.specs.Steps.{At, at_first, at_serving, EndsAs, HasCause, Keeps, Leaves}
-use Rattle.hub_replay.specs.Outcome.{IsScript, IsUnfinished, IsCut, Outcome, InputFailed, OutputFailed, RanOut, Last, Finishes, fault_output, output_of_script, IsWhole}
+use Rattle.hub_replay.specs.Outcome.{IsScript, IsUnfinished, IsCut, Outcome, Finishes, fault_output, output_of_script, IsWhole}
 
 -- what is told of the script is told of all that the input had
 pub script_told : (left left' : Option (List ℕ)) (script : List ℕ) (P : List ℕ → Type 0) → IsScript left left' script → P script → IfSome left P

@@ -1,5 +1,5 @@
 -- A connection, by its input.
-use Rattle.std.proofs.Common.{◌≡◌, ℕ, ◌+◌, ◌≤◌, List, [], ◌∷◌, ◌++◌, length, take, drop, Some, None, Result, Ok, Err, Bool, true, false, refl, sym, ap, ◌∙◌, arith, append-nil, append_assoc, length-drop, length-append}
+use Rattle.std.proofs.Common.{◌≡◌, ℕ, ◌+◌, ◌≤◌, List, [], ◌∷◌, ◌++◌, length, take, drop, Some, Result, Ok, Err, true, false, refl, sym, ap, ◌∙◌, arith, append-nil, append_assoc, length-drop}
 use Rattle.std.specs.Prelude.{slice_get, ◌==◌}
 use Rattle.std.specs.Result.{IsErrAnd}
 use Rattle.std.specs.Str.{bytes_eq}
@@ -8,7 +8,7 @@ use Rattle.std.proofs.lemmas.Option.{slice_get_within}
 use Rattle.std.proofs.lemmas.Slice.Eq.{bytes_eq-Decides}
 use Rattle.serve_defs.specs.Connections.{Served, IsServed, connection_bytes}
 use Rattle.script_defs.specs.Lines.Head.{Connection}
-use Rattle.script_defs.specs.Record.{Hub, act, connection_of, connection_reply, folds_in, payload_waits, serving}
+use Rattle.script_defs.specs.Record.{Hub, connection_of, connection_reply, folds_in, serving}
 use Rattle.script_defs.proofs.Connections.{first_is_served}
 use Rattle.script_defs.proofs.Opens.{input_short}
 use Rattle.script_defs.proofs.Payloads.{no_payload}
@@ -49,8 +49,7 @@ pub input_waits : (hub : Hub) (moment n behind : ℕ) (bytes said : List ℕ) �
     → Acts (Connection moment n) behind Short hub hub bytes said said
 input_waits hub moment n behind bytes said within short =
     let size = length-drop behind bytes in
-    let few : length (drop behind bytes) ≤ n = omega arith in
-    (
+    let few : length (drop behind bytes) ≤ n = omega arith in (
       record { hub = refl; says = refl },
       λ later. rw (append-nil (drop behind bytes), no_payload n (drop behind bytes) few) refl,
       λ later. rw (append-nil (drop behind bytes)) (input_short (serving later hub) moment n (drop behind bytes) few),

@@ -1,5 +1,5 @@
 -- The hub of a script and its parts.
-use Rattle.std.specs.Prelude.{◌≡◌, ℕ, List, [], ◌∷◌, ◌++◌, length, Option, Some, None, Result, Ok, Err, Bool, true, false, ⊤}
+use Rattle.std.specs.Prelude.{◌≡◌, ℕ, List, [], ◌++◌, Option, Some, None, Result, Ok, Err, Bool, true, false, ⊤}
 use Rattle.feed_defs.specs.History.{Refusal as Cause, offer_outcome}
 use Rattle.hub_core.specs.Answers.{cause_of}
 use Rattle.hub_core.specs.declared.refusal.Refusal.{Refusal}

@@ -118,7 +118,14 @@ fn boards_out_of_range_are_no_records(rt: HostRuntime) {
 #[test]
 fn connections_are_served(rt: HostRuntime) {
     assert!(rt; serves(rt.alloc(), b"Q 1743314000 46", 1_743_314_000, 46));
-    assert!(rt; serves(rt.alloc(), b"Q 253402300799 16777216", 253_402_300_799, 16_777_216));
+    assert!(rt;
+        serves(
+            rt.alloc(),
+            b"Q 253402300799 16777216",
+            253_402_300_799,
+            16_777_216
+        )
+    );
     assert!(rt; is_no_line(rt.alloc(), b"Q 253402300800 0"));
     assert!(rt; is_no_line(rt.alloc(), b"Q 0 16777217"));
     assert!(rt; is_no_line(rt.alloc(), b"Q 0"));

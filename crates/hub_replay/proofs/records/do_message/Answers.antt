@@ -1,4 +1,4 @@
-use Rattle.std.proofs.Common.{refl, sym, ◌∙◌, arith, ap, rules, ◌≡◌, ◌<◌, ◌≤◌, ◌+◌, ◌-◌, ◌++◌, [], List, ℕ, length, take, drop, append-nil, Some}
+use Rattle.std.proofs.Common.{refl, sym, ◌∙◌, arith, ap, rules, ◌≡◌, ◌<◌, ◌≤◌, ◌+◌, ◌-◌, ◌++◌, [], length, take, drop, append-nil, Some}
 use Rattle.std.proofs.lemmas.Option.{slice_get_within}
 use Rattle.script_defs.specs.Record.{act, payload_at, payload_waits, serving}
 use Rattle.script_defs.specs.Lines.Head.{Message}
