@@ -73,7 +73,7 @@ pub no_words : command_of [] ≡ None
 unfolding command_of
 no_words = refl
 
-pub usage_is_said : offline [] [] [] ≡ record { written = usage_line; status = 2 }
+pub usage_is_said : offline [] [] [] [] ≡ record { written = usage_line; status = 2 }
 unfolding offline command_of
 usage_is_said = refl
 

@@ -1,5 +1,5 @@
 -- The schedules and feeds of a configuration are those that a hub may have.
-use Rattle.std.proofs.Common.{◌≡◌, ◌∙◌, ℕ, zero, suc, ◌≤◌, ◌<◌, ◌&&◌, nat_lt, refl, sym, ap, subst, List, [], ◌∷◌, length, map, slice_get, Bool, true, Option, Some, None, Ok, arith}
+use Rattle.std.proofs.Common.{◌≡◌, ◌∙◌, ℕ, zero, suc, ◌<◌, nat_lt, refl, sym, ap, subst, List, [], ◌∷◌, length, map, slice_get, true, Some, Ok, arith}
 use Rattle.std.specs.List.{list_all}
 use Rattle.std.specs.Option.{option_map}
 use Rattle.std.proofs.lemmas.Bool.{and_parts}
@@ -8,13 +8,13 @@ use Rattle.std.proofs.lemmas.List.{length-map}
 use Rattle.std.proofs.lemmas.Option.{none-some, same_Some, slice_get-map}
 use Rattle.sched_types.specs.declared.plans.NamedFeed.{NamedFeed}
 use Rattle.sched_types.specs.declared.plans.NamedPlan.{NamedPlan}
-use Rattle.sched_types.specs.Schedules.{AreSchedules, Schedules}
+use Rattle.sched_types.specs.Schedules.{AreSchedules}
 use Rattle.sched_types.specs.Timetable.{Timetable}
 use Rattle.conf_defs.specs.declared.conf.FeedConf.{FeedConf}
 use Rattle.conf_defs.specs.declared.conf.HubConf.{HubConf}
 use Rattle.conf_defs.specs.declared.conf.ScheduleConf.{ScheduleConf}
 use Rattle.conf_defs.specs.Conf.{conf_of}
-use Rattle.conf_defs.specs.Right.{AreNames, IsLegal, has_schedule_of}
+use Rattle.conf_defs.specs.Right.{IsLegal, has_schedule_of}
 use Rattle.conf_defs.proofs.ConfLaws.{conf_legal}
 use Rattle.command_defs.specs.Hubs.{named_feed, named_plans, schedules_of}
 

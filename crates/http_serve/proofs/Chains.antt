@@ -58,7 +58,7 @@ never_fall_on low mid high [] ms x y = never_fall_from low mid high ms x y
 never_fall_on low mid high (n ∷ ns) ms x y = (x.0, never_fall_on n mid high ns ms x.1 y)
 
 -- none is above the highest
-never_fall_below : (low n high : ℕ) (ns : List ℕ) → NeverFall low (n ∷ ns) high → n ≤ high
+pub never_fall_below : (low n high : ℕ) (ns : List ℕ) → NeverFall low (n ∷ ns) high → n ≤ high
 never_fall_below low n high [] f = f.1
 never_fall_below low n high (m ∷ ns) f = let next = f.1.0 in let later = never_fall_below n m high ns f.1 in omega arith
 

@@ -2,3 +2,4 @@ pub mod Chains
 pub mod OnWay
 pub mod Ends
 pub mod OneReply
+pub mod Standing

@@ -4,3 +4,4 @@ pub mod Notes
 pub mod Headings
 pub mod Serves
 pub mod Turns
+pub mod Transcript

@@ -17,6 +17,10 @@
 //! - at [`End::NoMemory`] whole responses were written;
 //! - over an oracle whose history stands still it is the same at the end.
 //!
+//! [`serve_bytes`] serves a connection in memory at one moment. Over a history that stands still what
+//! it writes is a matter of definition (`IsTranscript` of `specs/Transcript`), and it fails for want
+//! of memory alone.
+//!
 //! The crate stands on `http_req` for requests in any pieces, on `http_routes` for what they ask and
 //! for the bytes of responses, and on `view_answers` for their bodies.
 #![tactic(auto)]
@@ -29,8 +33,10 @@ mod serving;
 mod session;
 #[cfg(test)]
 mod tests;
+mod transcript;
 mod writing;
 
 pub use serving::serve_connection;
 pub use session::{End, Session};
 pub use std::alloc::AllocError as NoMemory;
+pub use transcript::{Finish, Transcript, serve_bytes};

@@ -3,7 +3,7 @@
 ghost use Rattle.std.specs.Prelude.{Some};
 ghost use Rattle.hub_outside.specs.Memory.{bytes_left, source_faults, bytes_written, sink_faults};
 
-use crate::{End, NoMemory, Session, serve_connection};
+use crate::{End, Finish, NoMemory, Session, serve_bytes, serve_connection};
 use hub_outside::{FixedClock, MemorySink, MemorySource, ReadAnswer, Sink, Source, WriteAnswer};
 use hub_state::ReplayHub;
 use rt_types::Text;
@@ -155,6 +155,37 @@ fn refusals_keep_the_connection(rt: HostRuntime) -> Result<(), Fail> {
 fn thousandth_closes(rt: HostRuntime) -> Result<(), Fail> {
     let alloc = rt.alloc();
     assert!(rt; is_served(alloc, asks(alloc, 1001)?, End::Closed, 999, THOUSANDTH)?);
+    Ok(())
+}
+
+#[test]
+fn cuts_change_nothing(rt: HostRuntime) -> Result<(), Fail> {
+    let alloc = rt.alloc();
+    for at in 1..27_u32 {
+        let pieces = vec![in alloc; at]?;
+        let mut source = MemorySource::new(asks(alloc, 1)?, pieces, Vec::new(alloc));
+        let mut sink = MemorySink::new(alloc, Vec::new(alloc), Vec::new(alloc));
+        let session = serve(alloc, &mut source, &mut sink)?;
+        assert_eq!(rt; session.end, End::Ended);
+        assert!(rt; sink.bytes() == FEED);
+    }
+    Ok(())
+}
+
+/// What is written for these bytes at the second 7, and why there is no further request.
+fn is_written(alloc: Global, input: &[u8], finish: Finish, bytes: &[u8]) -> Result<bool, NoMemory> {
+    let mut hub = hub(alloc)?;
+    let transcript = serve_bytes(alloc, &mut hub, 7, input)?;
+    Ok(transcript.finish == finish && transcript.written.bytes() == bytes)
+}
+
+#[test]
+fn bytes_are_served(rt: HostRuntime) -> Result<(), Fail> {
+    let alloc = rt.alloc();
+    assert!(rt; is_written(alloc, ASK, Finish::Ended, FEED)?);
+    assert!(rt; is_written(alloc, b"GE", Finish::Bad, MALFORMED)?);
+    let post = b"POST /status HTTP/1.1\r\n\r\n";
+    assert!(rt; is_written(alloc, post, Finish::Closed, OTHER_METHOD)?);
     Ok(())
 }
 

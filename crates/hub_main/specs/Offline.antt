@@ -1,5 +1,5 @@
 -- What running a command comes to, by the command that the words are.
-use Rattle.std.specs.Prelude.{◌≡◌, ℕ, ◌≤◌, List, [], ◌++◌, take, Option, Some, None, IfSome, Result, Ok, Err, ◌⊎◌}
+use Rattle.std.specs.Prelude.{◌≡◌, ℕ, ◌≤◌, List, [], ◌++◌, All, take, Option, Some, None, IfSome, Result, Ok, Err, ◌⊎◌}
 use Rattle.std.specs.Arc.{arc_value}
 use Rattle.std.specs.declared.alloc.Global.{Global}
 use Rattle.std.specs.declared.sync.Arc.{Arc}
@@ -11,6 +11,7 @@ use Rattle.hub_load.specs.declared.fault.HubFault.{HubFault}
 use Rattle.hub_load.specs.declared.fault.HubFault.TheVariants.{Refused, FileFault, NoMemory}
 use Rattle.hub_replay.specs.Outcome.{Last, ReplayOutcome}
 use Rattle.sched_types.specs.Schedules.{Schedules}
+use Rattle.serve_defs.specs.Connections.{Served, IsServed}
 use Rattle.script_defs.specs.Output.{Output}
 use Rattle.script_defs.specs.Record.{configured, start}
 use Rattle.command_defs.specs.Words.{Command}
@@ -154,9 +155,17 @@ abbrev pub IsDone : ℕ → Type 0
 IsDone status = (status ≡ 0) ⊎ (status ≡ 2) ⊎ (status ≡ 3) ⊎ (status ≡ 7) ⊎ (status ≡ 8)
 
 -- the output grew by all that is told, and the status is the told one
-abbrev pub WritesWhole : Option Output → ℕ → Option (List ℕ) → Option (List ℕ) → Type 0
-WritesWhole told status before after = IsDone status
+abbrev pub WritesTold : Option Output → ℕ → Option (List ℕ) → Option (List ℕ) → Type 0
+WritesTold told status before after = IsDone status
     → IfSome told (λ output. Appends before after output.written × (status ≡ output.status))
+
+-- the same of what is told where connections are given: of some that were served, each with the
+-- items of its input, and whatever others behind them
+abbrev pub WritesWhole : (List Served → Option Output) → ℕ → Option (List ℕ) → Option (List ℕ)
+    → Type 0
+WritesWhole told status before after =
+    (served : List Served) × All IsServed served
+    × ((later : List Served) → WritesTold (told (served ++ later)) status before after)
 
 -- the commands that look at files, and those that read the input
 abbrev pub ReadsFiles : Option Command → Type 0

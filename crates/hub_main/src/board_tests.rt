@@ -43,7 +43,7 @@ fn ends(
 }
 
 /// The same of a script on the city.
-fn plays(alloc: Global, script: &[u8], told: &str) -> Result<bool, Fail> {
+pub(crate) fn plays(alloc: Global, script: &[u8], told: &str) -> Result<bool, Fail> {
     let files = city_with(alloc, "none", b"")?;
     ends(alloc, &["replay", "city.toml"], files, script, 0, told)
 }

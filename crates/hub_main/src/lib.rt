@@ -26,6 +26,8 @@ mod board_tests;
 #[cfg(test)]
 mod check_tests;
 #[cfg(test)]
+mod connection_tests;
+#[cfg(test)]
 mod hostile_tests;
 #[cfg(test)]
 mod row_tests;

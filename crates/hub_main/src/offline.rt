@@ -57,8 +57,8 @@ pub fn run_offline<F: Files, S: Source, K: Sink, C: Clock>(
         result }
     ensures status { IsExitStatus result }
     ensures whole { WritesWhole
-        (output_where_told (command_of words.now) (F.contents files.old) (S.left input.old))
-        result (K.written out.old) (K.written out.new) }
+        (λ served. output_where_told served (command_of words.now) (F.contents files.old)
+        (S.left input.old)) result (K.written out.old) (K.written out.new) }
     ensures usage { result ≡ 2 → command_of words.now ≡ None }
     ensures input_count { S.faults input.old ≤ S.faults input.new }
     ensures output_count { K.faults out.old ≤ K.faults out.new }

@@ -1,48 +1,63 @@
 -- Doing a record, by its line.
-use Rattle.std.proofs.Common.{◌≡◌, ℕ, length, Bool, true, List, [], ◌++◌, drop, Option, Some, None, refl, ◌∙◌, append-nil}
-use Rattle.board_text_defs.specs.Answers.{feed_number, Question}
+use Rattle.std.proofs.Common.{◌≡◌, ℕ, ◌≤◌, length, Bool, true, false, List, [], ◌++◌, drop, Option, Some, None, refl, sym, ◌∙◌, append-nil}
+use Rattle.std.proofs.lemmas.List.Elements.{All-nil}
+use Rattle.board_text_defs.specs.Answers.{answer_to, feed_number, Question}
 use Rattle.script_defs.specs.Optional.{◌>>=◌}
 use Rattle.script_defs.specs.Lines.{Head, line_within, longest_line, head_of}
-use Rattle.script_defs.specs.Record.{Hub, Turn, turn, act, payload_at, payload_waits, offered_turn, waits}
-use Rattle.script_defs.specs.Lines.Head.{Message, End}
+use Rattle.serve_defs.specs.Connections.{Served, IsServed}
+use Rattle.script_defs.specs.Record.{Hub, turn, act, payload_at, payload_waits, offered_turn, waits, serving, with_feed, may_declare, answer_reply, question_word, folds_in}
+use Rattle.script_defs.specs.Lines.Head.{Feed, Message, Ask, End}
 use Rattle.script_defs.proofs.Options.{bind_at, bind_none}
 use Rattle.script_defs.proofs.Turns.{turn_line, no_line_here, no_line_turn}
 use Rattle.script_defs.proofs.Opens.{waits_by_line, short_waits}
 use Rattle.hub_replay.specs.declared.records.Step.{Step}
 use Rattle.hub_replay.specs.declared.records.Step.TheVariants.{Whole, Ends, Short, Long, Refused, NoMemory}
-use Rattle.hub_replay.specs.Records.{Does, Turns, Acts, LacksLine, numbered_turn}
+use Rattle.hub_replay.specs.Records.{Turned, Does, Turns, Acts, LacksLine, numbered_turn}
 
 -- what is done follows the records that the bytes give
-pub does_same : (f g : List ℕ → Option Turn) (u v : List ℕ → Bool) → ((more : List ℕ) → f more ≡ g more) → ((more : List ℕ) → u more ≡ v more)
+pub does_same : (f g : Turned) (u v : List Served → List ℕ → Bool) → ((later : List Served) (more : List ℕ) → f later more ≡ g later more)
+    → ((later : List Served) (more : List ℕ) → u later more ≡ v later more)
     → (step : Step) (old new : Hub) (bytes said said' : List ℕ) → Does g v step old new bytes said said' → Does f u step old new bytes said said'
-does_same f g u v same alike (Whole size) old new bytes said said' h = record { reply = h.reply; says = h.says; within = h.within; is = λ more. same more ∙ h.is more }
-does_same f g u v same alike Ends old new bytes said said' h = record { says = h.says; rest = h.rest; is = λ more. same more ∙ h.is more }
-does_same f g u v same alike Short old new bytes said said' h = (h.0, same [] ∙ h.1, alike [] ∙ h.2)
-does_same f g u v same alike (Long end count) old new bytes said said' h = (h.0, λ more. same more ∙ h.1 more, λ more few. alike more ∙ h.2 more few)
-does_same f g u v same alike Refused old new bytes said said' h = (h.0, λ more. same more ∙ h.1 more)
+does_same f g u v same alike (Whole size) old new bytes said said' h = record {
+  reply = h.reply;
+  says = h.says;
+  within = h.within;
+  served = h.served;
+  are_served = h.are_served;
+  is = λ later more. same (h.served ++ later) more ∙ h.is later more;
+}
+does_same f g u v same alike Ends old new bytes said said' h = record { says = h.says; rest = h.rest; is = λ later more. same later more ∙ h.is later more }
+does_same f g u v same alike Short old new bytes said said' h = (h.0, λ later. same later [] ∙ h.1 later, λ later. alike later [] ∙ h.2 later)
+does_same f g u v same alike (Long end count) old new bytes said said' h = (
+  h.0,
+  λ later more. same later more ∙ h.1 later more,
+  λ later more few. alike later more ∙ h.2 later more few,
+)
+does_same f g u v same alike Refused old new bytes said said' h = (h.0, λ later more. same later more ∙ h.1 later more)
 does_same f g u v same alike NoMemory old new bytes said said' h = h
 
 -- the record in front is that of its line
 pub turns_of_line : (hub new : Hub) (bytes line : List ℕ) (behind : ℕ) (head : Head) (step : Step) (said said' : List ℕ) → line_within longest_line bytes ≡ Some (line, drop behind bytes) → head_of line ≡ Some head
     → Acts head behind step hub new bytes said said' → Turns step hub new bytes said said'
 turns_of_line hub new bytes line behind head step said said' there is h =
-    let same : (more : List ℕ) → turn hub (bytes ++ more) ≡ act hub head (drop behind bytes ++ more) =
-    λ more. turn_line hub bytes more line (drop behind bytes) there ∙ bind_at (head_of line) _ head is in
-    let waiting : (more : List ℕ) → waits hub (bytes ++ more) ≡ payload_waits hub head (drop behind bytes ++ more) =
-    λ more. waits_by_line hub bytes more line (drop behind bytes) head there is in
-    does_same (λ more. turn hub (bytes ++ more)) (λ more. act hub head (drop behind bytes ++ more))
-    (λ more. waits hub (bytes ++ more)) (λ more. payload_waits hub head (drop behind bytes ++ more)) same waiting step hub new bytes said said' h
+    let same : (later : List Served) (more : List ℕ) → turn (serving later hub) (bytes ++ more) ≡ act (serving later hub) head (drop behind bytes ++ more) =
+    λ later more. turn_line (serving later hub) bytes more line (drop behind bytes) there ∙ bind_at (head_of line) _ head is in
+    let waiting : (later : List Served) (more : List ℕ) → waits (serving later hub) (bytes ++ more) ≡ payload_waits (serving later hub) head (drop behind bytes ++ more) =
+    λ later more. waits_by_line (serving later hub) bytes more line (drop behind bytes) head there is in
+    does_same (λ later more. turn (serving later hub) (bytes ++ more)) (λ later more. act (serving later hub) head (drop behind bytes ++ more))
+    (λ later more. waits (serving later hub) (bytes ++ more)) (λ later more. payload_waits (serving later hub) head (drop behind bytes ++ more)) same waiting step hub new bytes said said' h
 
 -- a record that ends the script
 pub turns_of_end : (hub : Hub) (bytes line said : List ℕ) (behind : ℕ) → line_within longest_line bytes ≡ Some (line, drop behind bytes) → head_of line ≡ Some End
     → Turns Ends hub hub bytes said said
 turns_of_end hub bytes line said behind there is =
     turns_of_line hub hub bytes line behind End Ends said said there is
-    (record { says = refl; rest = λ more. drop behind bytes ++ more; is = λ more. refl })
+    (record { says = refl; rest = λ more. drop behind bytes ++ more; is = λ later more. refl })
 
 -- a line that says nothing is no record
-pub no_head : (hub : Hub) (bytes line rest : List ℕ) → line_within longest_line bytes ≡ Some (line, rest) → head_of line ≡ None → (more : List ℕ) → turn hub (bytes ++ more) ≡ None
-no_head hub bytes line rest there is more = turn_line hub bytes more line rest there ∙ bind_none (head_of line) _ is
+pub no_head : (hub : Hub) (bytes line rest : List ℕ) → line_within longest_line bytes ≡ Some (line, rest) → head_of line ≡ None
+    → (later : List Served) (more : List ℕ) → turn (serving later hub) (bytes ++ more) ≡ None
+no_head hub bytes line rest there is later more = turn_line (serving later hub) bytes more line rest there ∙ bind_none (head_of line) _ is
 
 pub no_line_yet : (hub : Hub) (bytes : List ℕ) → line_within longest_line bytes ≡ None → turn hub (bytes ++ []) ≡ None
 no_line_yet hub bytes h = rw (append-nil bytes) (no_line_here hub bytes h)
@@ -65,11 +80,41 @@ no_feed hub name rest size h = bind_none (feed_number hub.plans name) _ h
 pub lacks_line : (hub : Hub) (bytes said : List ℕ) (step : Step) → line_within longest_line bytes ≡ None → LacksLine (length bytes) step → Turns step hub hub bytes said said
 lacks_line hub bytes said Short none few = (
   record { hub = refl; says = refl },
-  no_line_yet hub bytes none,
-  rw (append-nil bytes) (short_waits hub bytes none few),
+  λ later. no_line_yet (serving later hub) bytes none,
+  λ later. rw (append-nil bytes) (short_waits (serving later hub) bytes none few),
 )
-lacks_line hub bytes said Refused none many = (refl, no_line_turn hub bytes many none)
+lacks_line hub bytes said Refused none many = (refl, λ later. no_line_turn (serving later hub) bytes many none)
 lacks_line hub bytes said (Whole size) none h = absurd h
 lacks_line hub bytes said Ends none h = absurd h
 lacks_line hub bytes said (Long end size) none h = absurd h
 lacks_line hub bytes said NoMemory none h = absurd h
+
+-- a question was asked, and its answer said
+pub question_asked : (hub new : Hub) (question : Question) (behind : ℕ) (bytes said said' : List ℕ) → behind ≤ length bytes
+    → said' ≡ said ++ answer_reply (question_word question) (answer_to hub.plans (folds_in hub) question) → new ≡ record hub { begun = true }
+    → Acts (Ask question) behind (Whole behind) hub new bytes said said'
+question_asked hub new question behind bytes said said' within says is = record {
+  reply = answer_reply (question_word question) (answer_to hub.plans (folds_in hub) question);
+  says = says;
+  within = within;
+  served = [];
+  are_served = All-nil IsServed;
+  is = λ later more. rw is refl;
+}
+
+-- a feed was declared
+pub feed_declared : (hub new : Hub) (name : List ℕ) (behind : ℕ) (bytes said : List ℕ) → behind ≤ length bytes → may_declare hub name ≡ true
+    → new ≡ record hub { plans = with_feed hub.plans name } → Acts (Feed name) behind (Whole behind) hub new bytes said said
+feed_declared hub new name behind bytes said within may is = record {
+  reply = [];
+  says = sym (append-nil said);
+  within = within;
+  served = [];
+  are_served = All-nil IsServed;
+  is = λ later more. rw (may, is) refl;
+}
+
+-- no feed may be declared
+pub feed_refused : (hub new : Hub) (name : List ℕ) (behind : ℕ) (bytes said : List ℕ) → may_declare hub name ≡ false
+    → Acts (Feed name) behind Refused hub new bytes said said
+feed_refused hub new name behind bytes said may = (refl, λ later more. rw may refl)

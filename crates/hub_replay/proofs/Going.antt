@@ -1,14 +1,16 @@
 -- Steps of a replay.
-use Rattle.std.proofs.Common.{◌≡◌, ℕ, zero, suc, ◌+◌, ◌-◌, ◌≤◌, ◌<◌, List, [], ◌∷◌, ◌++◌, length, take, drop, Option, Some, None, true, false, refl, sym, ap, ◌∙◌, subst, arith, append-nil, append_assoc, length-drop, length-append, take-append-drop}
+use Rattle.std.proofs.Common.{◌≡◌, ℕ, zero, suc, ◌+◌, ◌-◌, ◌≤◌, ◌<◌, List, [], ◌∷◌, ◌++◌, length, take, drop, Option, Some, None, true, false, refl, sym, ap, ap₂, ◌∙◌, subst, arith, append-nil, append_assoc, length-drop, length-append, take-append-drop}
 use Rattle.std.specs.Prelude.{slice_get, Err}
 use Rattle.std.specs.Io.KnownBytes.{Appends, Consumes}
 use Rattle.std.specs.Global.{Vec}
 use Rattle.std.proofs.KnownBytes.{Consumes-nil, Consumes-trans, Appends-nil, Appends-trans}
+use Rattle.std.proofs.lemmas.List.Elements.{All-append, All-nil}
 use Rattle.std.proofs.lemmas.Option.{slice_get_past}
 use Rattle.std.proofs.lemmas.List.{drop-append-le}
 use Rattle.std.proofs.Math.Seq.{drop-append-add, take-append_seam}
 use Rattle.feed_defs.specs.History.Refusal.{TooLong}
-use Rattle.script_defs.specs.Record.{Hub, turn, waits, reply_line}
+use Rattle.serve_defs.specs.Connections.{Served, IsServed}
+use Rattle.script_defs.specs.Record.{Hub, turn, waits, reply_line, serving}
 use Rattle.answer_defs.specs.Choices.{only_if}
 use Rattle.script_defs.specs.Output.{Run, run, is_open, behind}
 use Rattle.script_defs.proofs.Turns.{turn_rest}
@@ -18,11 +20,12 @@ use Rattle.hub_replay.specs.declared.steps.Ending.{Ending as HowEnded}
 use Rattle.hub_replay.specs.declared.steps.Ending.TheVariants.{Ended, Refused, InputFault, OutputFault, NoMemory}
 use Rattle.hub_replay.specs.Records.{Did, Ended as IsEnded, long_turn, is_fed}
 use Rattle.hub_replay.specs.Window.{Windowed, remaining}
-use Rattle.hub_replay.specs.Steps.{At, place_sum, Goes, Leaves, Advances, EndsAs, Keeps, Passes, RefusesLong}
+use Rattle.hub_replay.specs.Steps.{At, at_serving, place_sum, Goes, Leaves, Advances, EndsAs, Keeps, Passes, RefusesLong}
 
 -- an ending where nothing was printed since
 pub leave_here : (ending : HowEnded) (old : At) (more sent unsent said : List ℕ) (left left' written written' : Option (List ℕ)) → Consumes left left' more → Appends written written' sent
-    → old.said ≡ sent ++ unsent → Keeps ending unsent said → length more ≤ old.allowed → EndsAs ending old more [] left' → Leaves ending old said left left' written written'
+    → old.said ≡ sent ++ unsent → Keeps ending unsent said → length more ≤ old.allowed
+    → ((later : List Served) → EndsAs ending (at_serving later old) more [] left') → Leaves ending old said left left' written written'
 leave_here ending old more sent unsent said left left' written written' read wrote says keeps allowed ends = record {
   more = more;
   sent = sent;
@@ -33,7 +36,9 @@ leave_here ending old more sent unsent said left left' written written' read wro
   says = append-nil old.said ∙ says;
   keeps = keeps;
   allowed = allowed;
-  front = λ rest. ((run old.hub (old.held ++ (more ++ rest))).out, refl);
+  served = [];
+  are_served = All-nil IsServed;
+  front = λ later rest. ((run (serving later old.hub) (old.held ++ (more ++ rest))).out, refl);
   ends = ends;
 }
 
@@ -75,11 +80,11 @@ done_some old hub reply size within is =
     omega arith
 
 -- a record was done, and some of what was said went out
-pub whole_goes : (old new : At) (hub : Hub) (said sent : List ℕ) (size : ℕ) (left written written' : Option (List ℕ)) → Did (λ more. turn old.hub (old.held ++ more)) hub old.held old.said said size
+pub whole_goes : (old new : At) (hub : Hub) (said sent : List ℕ) (size : ℕ) (left written written' : Option (List ℕ)) → Did (λ later more. turn (serving later old.hub) (old.held ++ more)) hub old.held old.said said size
     → new.hub ≡ hub → new.held ≡ drop size old.held → new.allowed ≡ old.allowed → new.place ≡ old.place + size → said ≡ sent ++ new.said → Appends written written' sent
     → Advances None old new left left written written'
 whole_goes old new hub said sent size left written written' did hub_is held allowed place says wrote =
-    let some = done_some old hub did.reply size did.within (did.is []) in
+    let some = done_some (at_serving (did.served ++ []) old) (serving [] hub) did.reply size did.within (did.is [] []) in
     let short = length-drop size old.held in
     let shorter = ap length held in
     let gone : new.place - old.place ≡ size = omega arith in
@@ -94,13 +99,15 @@ whole_goes old new hub said sent size left written written' did hub_is held allo
       allowed = omega arith;
       rises = omega arith;
       size = omega arith;
-      runs = λ rest. rw (gone, hub_is, held) (done_runs old hub did.reply size did.within did.is rest);
-      opens = λ rest. rw (hub_is, held) (open_step old.hub (old.held ++ rest) _ (did.is rest) refl);
+      served = did.served;
+      are_served = did.are_served;
+      runs = λ later rest. rw (gone, hub_is, held) (done_runs (at_serving (did.served ++ later) old) (serving later hub) did.reply size did.within (did.is later) rest);
+      opens = λ later rest. rw (hub_is, held) (open_step (serving (did.served ++ later) old.hub) (old.held ++ rest) _ (did.is later rest) refl);
     } in
     (goes, omega arith)
 
 -- a record was done, and the output failed
-pub whole_leaves : (old : At) (hub : Hub) (said said' : List ℕ) (size n : ℕ) (left written written' : Option (List ℕ)) → Did (λ more. turn old.hub (old.held ++ more)) hub old.held old.said said size
+pub whole_leaves : (old : At) (hub : Hub) (said said' : List ℕ) (size n : ℕ) (left written written' : Option (List ℕ)) → Did (λ later more. turn (serving later old.hub) (old.held ++ more)) hub old.held old.said said size
     → Appends written written' (take n said) → Leaves OutputFault old said' left left written written'
 whole_leaves old hub said said' size n left written written' did wrote = record {
   more = [];
@@ -112,8 +119,13 @@ whole_leaves old hub said said' size n left written written' did wrote = record 
   says = sym did.says ∙ sym (take-append-drop n said);
   keeps = tt;
   allowed = omega arith;
-  front = λ rest. ((run hub (drop size old.held ++ rest)).out, ap (λ (r : Run). r.out) (done_runs old hub did.reply size did.within did.is rest));
-  ends = tt;
+  served = did.served;
+  are_served = did.are_served;
+  front = λ later rest. (
+    (run (serving later hub) (drop size old.held ++ rest)).out,
+    ap (λ (r : Run). r.out) (done_runs (at_serving (did.served ++ later) old) (serving later hub) did.reply size did.within (did.is later) rest),
+  );
+  ends = λ later. tt;
 }
 
 -- nothing printed and nothing taken changes no run
@@ -137,8 +149,11 @@ fetch_goes old new more left left' written written' some held allowed read hub s
       allowed = allowed;
       rises = omega arith;
       size = omega arith;
-      runs = λ rest. ap (run old.hub) (sym (append_assoc old.held more rest)) ∙ rw (held, hub) (behind_none (new.place - old.place) (run old.hub (old.held ++ more ++ rest)) same);
-      opens = λ rest. ap (is_open old.hub) (sym (append_assoc old.held more rest)) ∙ rw (held, hub) refl;
+      served = [];
+      are_served = All-nil IsServed;
+      runs = λ later rest. ap (run (serving later old.hub)) (sym (append_assoc old.held more rest))
+          ∙ rw (held, hub) (behind_none (new.place - old.place) (run (serving later old.hub) (old.held ++ more ++ rest)) same);
+      opens = λ later rest. ap (is_open (serving later old.hub)) (sym (append_assoc old.held more rest)) ∙ rw (held, hub) refl;
     } in
     (goes, omega arith)
 
@@ -185,6 +200,10 @@ drop_first gone now rest end e some =
     let sum : end + 1 ≡ length gone + 1 = omega arith in
     rw (sum, drop-append-add gone (now ++ rest) 1) (drop-append-le 1 now rest one)
 
+-- so of whatever connections are given
+abbrev pub AlwaysLong : At → ℕ → ℕ → Type 0
+AlwaysLong old end count = (later : List Served) → IsLong (at_serving later old) end count
+
 abbrev window_at : Windowed → Hub → List ℕ → ℕ → At
 window_at w hub said place = record { held = w.held; allowed = w.allowed; hub = hub; said = said; place = place }
 
@@ -197,7 +216,7 @@ long_is w w' hub said more gone rest place end count first long all size some is
     let xs = passed_all w.held more gone w'.held rest all in
     long (more ++ rest) ∙ rw (xs, get_first gone w'.held rest end size some, drop_first gone w'.held rest end size some, is) refl
 
-long_goes : (w w' : Windowed) (hub : Hub) (said : List ℕ) (new : At) (place end count : ℕ) (left left' written written' : Option (List ℕ)) → IsLong (window_at w hub said place) end count → Passes w w' left left' end
+long_goes : (w w' : Windowed) (hub : Hub) (said : List ℕ) (new : At) (place end count : ℕ) (left left' written written' : Option (List ℕ)) → AlwaysLong (window_at w hub said place) end count → Passes w w' left left' end
     → Appends written written' said → RefusesLong None end count (window_at w' hub [] place) new → Advances None (window_at w hub said place) new left left' written written'
 long_goes w w' hub said new place end count left left' written written' long p wrote (first, says, hub_is, held, allowed, place_is) =
     let joined = length-append w.held p.more in
@@ -209,9 +228,9 @@ long_goes w w' hub said new place end count left left' written written' long p w
     let shorter = length-drop 1 w'.held in
     let short = ap length held in
     let size : new.place - place ≡ end + 1 = omega arith in
-    let is : (rest : List ℕ) → turn hub (w.held ++ (p.more ++ rest))
-    ≡ Some (record { said = reply_line (Err (TooLong count)); hub = record hub { begun = true }; rest = drop 1 w'.held ++ rest; ended = false }) =
-    λ rest. long_is w w' hub said p.more p.gone rest place end count (Some 10) long p.all p.size p.some first in
+    let is : (later : List Served) (rest : List ℕ) → turn (serving later hub) (w.held ++ (p.more ++ rest))
+    ≡ Some (record { said = reply_line (Err (TooLong count)); hub = record (serving later hub) { begun = true }; rest = drop 1 w'.held ++ rest; ended = false }) =
+    λ later rest. long_is w w' (serving later hub) said p.more p.gone rest place end count (Some 10) (long later) p.all p.size p.some first in
     let taken : (rest : List ℕ) → length (w.held ++ (p.more ++ rest)) - length (drop 1 w'.held ++ rest) ≡ end + 1 =
     λ rest. let a = length-append w.held (p.more ++ rest) in let b = length-append p.more rest in let c = length-append (drop 1 w'.held) rest in omega arith in
     let goes : Goes (window_at w hub said place) new left left' written written' = record {
@@ -224,22 +243,25 @@ long_goes w w' hub said new place end count left left' written written' long p w
       allowed = omega arith;
       rises = omega arith;
       size = omega arith;
-      runs = λ rest. run_step hub (w.held ++ (p.more ++ rest)) _ (is rest) refl ∙ rw (taken rest, size, hub_is, held) refl;
-      opens = λ rest. open_step hub (w.held ++ (p.more ++ rest)) _ (is rest) refl ∙ rw (hub_is, held) refl;
+      served = [];
+      are_served = All-nil IsServed;
+      runs = λ later rest. run_step (serving later hub) (w.held ++ (p.more ++ rest)) _ (is later rest) refl ∙ rw (taken rest, size, hub_is, held) refl;
+      opens = λ later rest. open_step (serving later hub) (w.held ++ (p.more ++ rest)) _ (is later rest) refl ∙ rw (hub_is, held) refl;
     } in
     (goes, omega arith)
 
-long_refused : (w w' : Windowed) (hub : Hub) (said said' : List ℕ) (place end count : ℕ) (left left' written written' : Option (List ℕ)) → IsLong (window_at w hub said place) end count → Passes w w' left left' end
+long_refused : (w w' : Windowed) (hub : Hub) (said said' : List ℕ) (place end count : ℕ) (left left' written written' : Option (List ℕ)) → AlwaysLong (window_at w hub said place) end count → Passes w w' left left' end
     → Appends written written' said → said' ≡ [] → is_fed (slice_get w'.held 0) ≡ false → Leaves (Refused place) (window_at w hub said place) said' left left' written written'
 long_refused w w' hub said said' place end count left left' written written' long p wrote empty other =
     let sum = p.allowed in
-    let none : turn hub (w.held ++ (p.more ++ remaining left' (w.allowed - length p.more))) ≡ None =
-    long_is w w' hub said p.more p.gone (remaining left' (w.allowed - length p.more)) place end count (slice_get w'.held 0) long p.all p.size p.some refl ∙ rw other refl in
+    let none : (later : List Served) → turn (serving later hub) (w.held ++ (p.more ++ remaining left' (w.allowed - length p.more))) ≡ None =
+    λ later. long_is w w' (serving later hub) said p.more p.gone (remaining left' (w.allowed - length p.more)) place end count (slice_get w'.held 0) (long later) p.all p.size p.some refl
+    ∙ rw other refl in
     leave_here (Refused place) (window_at w hub said place) p.more said [] said' left left' written written' p.read wrote (sym (append-nil said)) (sym empty) (omega arith)
-    (refused_here (window_at w hub said place) p.more left' none)
+    (λ later. refused_here (window_at w (serving later hub) said place) p.more left' (none later))
 
 -- a message that was passed is refused, or it is no record
-pub long_advances : (r : Option HowEnded) (w w' : Windowed) (hub : Hub) (said : List ℕ) (new : At) (place end count : ℕ) (left left' written written' : Option (List ℕ)) → IsLong (window_at w hub said place) end count
+pub long_advances : (r : Option HowEnded) (w w' : Windowed) (hub : Hub) (said : List ℕ) (new : At) (place end count : ℕ) (left left' written written' : Option (List ℕ)) → AlwaysLong (window_at w hub said place) end count
     → Passes w w' left left' end → Appends written written' said → RefusesLong r end count (window_at w' hub [] place) new → Advances r (window_at w hub said place) new left left' written written'
 long_advances None w w' hub said new place end count left left' written written' long p wrote h = long_goes w w' hub said new place end count left left' written written' long p wrote h
 long_advances (Some Ended) w w' hub said new place end count left left' written written' long p wrote h = absurd h
@@ -250,9 +272,9 @@ long_advances (Some InputFault) w w' hub said new place end count left left' wri
 long_advances (Some OutputFault) w w' hub said new place end count left left' written written' long p wrote h = absurd h
 long_advances (Some NoMemory) w w' hub said new place end count left left' written written' long p wrote (says, allowed) =
     let sum = p.allowed in
-    leave_here NoMemory (window_at w hub said place) p.more said [] new.said left left' written written' p.read wrote (sym (append-nil said)) (sym says) (omega arith) tt
+    leave_here NoMemory (window_at w hub said place) p.more said [] new.said left left' written written' p.read wrote (sym (append-nil said)) (sym says) (omega arith) (λ later. tt)
 
-pub long_advances_from : (r : Option HowEnded) (w w' : Windowed) (hub : Hub) (said emptied : List ℕ) (new : At) (place end count : ℕ) (left left' written written' : Option (List ℕ)) → IsLong (window_at w hub said place) end count
+pub long_advances_from : (r : Option HowEnded) (w w' : Windowed) (hub : Hub) (said emptied : List ℕ) (new : At) (place end count : ℕ) (left left' written written' : Option (List ℕ)) → AlwaysLong (window_at w hub said place) end count
     → Passes w w' left left' end → Appends written written' said → emptied ≡ [] → RefusesLong r end count (window_at w' hub emptied place) new → Advances r (window_at w hub said place) new left left' written written'
 long_advances_from r w w' hub said emptied new place end count left left' written written' long p wrote none h =
     long_advances r w w' hub said new place end count left left' written written' long p wrote (subst (λ (s : List ℕ). RefusesLong r end count (window_at w' hub s place) new) none h)
@@ -265,20 +287,21 @@ advances_same r w hub hub' said said' place new left left' written written' e f 
     (subst (λ (s : List ℕ). Advances r (window_at w hub' s place) new left left' written written') f h)
 
 -- no record stands in front, whatever follows
-pub refused_leaves : (old : At) (said' : List ℕ) (left written : Option (List ℕ)) → ((more : List ℕ) → turn old.hub (old.held ++ more) ≡ None) → said' ≡ old.said → Leaves (Refused old.place) old said' left left written written
+pub refused_leaves : (old : At) (said' : List ℕ) (left written : Option (List ℕ)) → ((later : List Served) (more : List ℕ) → turn (serving later old.hub) (old.held ++ more) ≡ None)
+    → said' ≡ old.said → Leaves (Refused old.place) old said' left left written written
 refused_leaves old said' left written none says =
     leave_here (Refused old.place) old [] [] old.said said' left left written written (Consumes-nil left) (Appends-nil written) refl (sym says) (omega arith)
-    (refused_here old [] left (none (remaining left (old.allowed - length {A = ℕ} []))))
+    (λ later. refused_here (at_serving later old) [] left (none later (remaining left (old.allowed - length {A = ℕ} []))))
 
 -- memory ran out in the midst of a record
 pub no_memory_leaves : (old : At) (said' : List ℕ) (left written : Option (List ℕ)) → said' ≡ old.said → Leaves NoMemory old said' left left written written
-no_memory_leaves old said' left written says = leave_here NoMemory old [] [] old.said said' left left written written (Consumes-nil left) (Appends-nil written) refl (sym says) (omega arith) tt
+no_memory_leaves old said' left written says = leave_here NoMemory old [] [] old.said said' left left written written (Consumes-nil left) (Appends-nil written) refl (sym says) (omega arith) (λ later. tt)
 
 -- the record in front ends the script
-pub ended_leaves : (old : At) (new : Hub) (said' : List ℕ) (left written : Option (List ℕ)) → IsEnded (λ more. turn old.hub (old.held ++ more)) old.hub new old.said said' → Leaves Ended old said' left left written written
+pub ended_leaves : (old : At) (new : Hub) (said' : List ℕ) (left written : Option (List ℕ)) → IsEnded (λ later more. turn (serving later old.hub) (old.held ++ more)) old.hub new old.said said' → Leaves Ended old said' left left written written
 ended_leaves old new said' left written e =
     leave_here Ended old [] [] old.said said' left left written written (Consumes-nil left) (Appends-nil written) refl (sym e.says) (omega arith)
-    (λ rest. (length (old.held ++ rest) - length (e.rest rest), run_end old.hub (old.held ++ rest) _ (e.is rest) refl))
+    (λ later rest. (length (old.held ++ rest) - length (e.rest rest), run_end (serving later old.hub) (old.held ++ rest) _ (e.is later rest) refl))
 
 -- what was said before, behind which something was said
 pub said_before : (said extra : List ℕ) (said' : List ℕ) → said' ≡ said ++ extra → take (length said) said' ≡ said
@@ -300,8 +323,10 @@ goes_none old left written =
       allowed = omega arith;
       rises = omega arith;
       size = omega arith;
-      runs = λ rest. behind_none (old.place - old.place) (run old.hub (old.held ++ rest)) same;
-      opens = λ rest. refl;
+      served = [];
+      are_served = All-nil IsServed;
+      runs = λ later rest. behind_none (old.place - old.place) (run (serving later old.hub) (old.held ++ rest)) same;
+      opens = λ later rest. refl;
     }
 
 -- what is said over two steps
@@ -330,36 +355,44 @@ goes_on a b d left left' left'' written written' written'' p q =
       allowed = omega arith;
       rises = omega arith;
       size = omega arith;
-      runs = λ rest.
-          ap (λ xs. run a.hub (a.held ++ xs)) (append_assoc p.more q.more rest) ∙ p.runs (q.more ++ rest) ∙ ap (behind p.told (b.place - a.place)) (q.runs rest)
-          ∙ behind_behind p.told q.told (b.place - a.place) (d.place - b.place) (run d.hub (d.held ++ rest)) ∙ ap (λ (n : ℕ). behind (p.told ++ q.told) n (run d.hub (d.held ++ rest))) places;
-      opens = λ rest. ap (λ xs. is_open a.hub (a.held ++ xs)) (append_assoc p.more q.more rest) ∙ p.opens (q.more ++ rest) ∙ q.opens rest;
+      served = p.served ++ q.served;
+      are_served = All-append IsServed p.served q.served p.are_served q.are_served;
+      runs = λ later rest.
+          ap₂ (λ (ss : List Served) (xs : List ℕ). run (serving ss a.hub) (a.held ++ xs)) (append_assoc p.served q.served later) (append_assoc p.more q.more rest)
+          ∙ p.runs (q.served ++ later) (q.more ++ rest) ∙ ap (behind p.told (b.place - a.place)) (q.runs later rest)
+          ∙ behind_behind p.told q.told (b.place - a.place) (d.place - b.place) (run (serving later d.hub) (d.held ++ rest))
+          ∙ ap (λ (n : ℕ). behind (p.told ++ q.told) n (run (serving later d.hub) (d.held ++ rest))) places;
+      opens = λ later rest.
+          ap₂ (λ (ss : List Served) (xs : List ℕ). is_open (serving ss a.hub) (a.held ++ xs)) (append_assoc p.served q.served later) (append_assoc p.more q.more rest)
+          ∙ p.opens (q.served ++ later) (q.more ++ rest) ∙ q.opens later rest;
     }
 
 -- how a run that ends later ends
-ends_later : (ending : HowEnded) (a b : At) (left left' written written' left'' : Option (List ℕ)) (more told : List ℕ) → (p : Goes a b left left' written written') → length more ≤ b.allowed
-    → EndsAs ending b more told left'' → EndsAs ending a (p.more ++ more) (p.told ++ told) left''
-ends_later Ended a b left left' written written' left'' more told p few h = λ rest. (
+ends_later : (ending : HowEnded) (a b : At) (left left' written written' left'' : Option (List ℕ)) (more told : List ℕ) (later : List Served) → (p : Goes a b left left' written written')
+    → length more ≤ b.allowed → EndsAs ending (at_serving later b) more told left''
+    → EndsAs ending (at_serving (p.served ++ later) a) (p.more ++ more) (p.told ++ told) left''
+ends_later Ended a b left left' written written' left'' more told later p few h = λ rest. (
   (b.place - a.place) + (h rest).0,
-  ap (λ xs. run a.hub (a.held ++ xs)) (append_assoc p.more more rest) ∙ p.runs (more ++ rest) ∙ ap (behind p.told (b.place - a.place)) (h rest).1,
+  ap (λ xs. run (serving (p.served ++ later) a.hub) (a.held ++ xs)) (append_assoc p.more more rest) ∙ p.runs later (more ++ rest) ∙ ap (behind p.told (b.place - a.place)) (h rest).1,
 )
-ends_later (Refused place) a b left left' written written' left'' more told p few h =
+ends_later (Refused place) a b left left' written written' left'' more told later p few h =
     let joined = length-append p.more more in
     let allowed = p.allowed in
     let rises = p.rises in
-    let later = h.0 in
+    let after = h.0 in
     let left_is : a.allowed - length (p.more ++ more) ≡ b.allowed - length more = omega arith in
     let places : (b.place - a.place) + (place - b.place) ≡ place - a.place = omega arith in (
       omega arith,
-      rw left_is (ap (λ xs. run a.hub (a.held ++ xs)) (append_assoc p.more more (remaining left'' (b.allowed - length more))) ∙ p.runs (more ++ remaining left'' (b.allowed - length more))
+      rw left_is (ap (λ xs. run (serving (p.served ++ later) a.hub) (a.held ++ xs)) (append_assoc p.more more (remaining left'' (b.allowed - length more)))
+          ∙ p.runs later (more ++ remaining left'' (b.allowed - length more))
           ∙ ap (behind p.told (b.place - a.place)) h.1 ∙ ap (λ (n : ℕ). let r : Run = record { out = p.told ++ told; taken = n; ended = false } in r) places),
     )
-ends_later InputFault a b left left' written written' left'' more told p few h = (
-  ap (λ (r : Run). r.out) (p.runs more) ∙ ap (λ xs. p.told ++ xs) h.0,
-  p.opens more ∙ h.1,
+ends_later InputFault a b left left' written written' left'' more told later p few h = (
+  ap (λ (r : Run). r.out) (p.runs later more) ∙ ap (λ xs. p.told ++ xs) h.0,
+  p.opens later more ∙ h.1,
 )
-ends_later OutputFault a b left left' written written' left'' more told p few h = tt
-ends_later NoMemory a b left left' written written' left'' more told p few h = tt
+ends_later OutputFault a b left left' written written' left'' more told later p few h = tt
+ends_later NoMemory a b left left' written written' left'' more told later p few h = tt
 
 -- an ending after some steps
 pub leaves_later : (ending : HowEnded) (a b : At) (said : List ℕ) (left left' left'' written written' written'' : Option (List ℕ)) → Goes a b left left' written written' → Leaves ending b said left' left'' written' written''
@@ -378,12 +411,17 @@ leaves_later ending a b said left left' left'' written written' written'' p q =
       says = said_joined a.said b.said q.unsent p.told q.told p.sent q.sent p.said q.says;
       keeps = q.keeps;
       allowed = omega arith;
-      front = λ rest. (
-        (q.front rest).0,
-        ap (λ xs. (run a.hub (a.held ++ xs)).out) (append_assoc p.more q.more rest) ∙ ap (λ (r : Run). r.out) (p.runs (q.more ++ rest)) ∙ ap (λ xs. p.told ++ xs) (q.front rest).1
-            ∙ sym (append_assoc p.told q.told (q.front rest).0),
+      served = p.served ++ q.served;
+      are_served = All-append IsServed p.served q.served p.are_served q.are_served;
+      front = λ later rest. (
+        (q.front later rest).0,
+        ap₂ (λ (ss : List Served) (xs : List ℕ). (run (serving ss a.hub) (a.held ++ xs)).out) (append_assoc p.served q.served later) (append_assoc p.more q.more rest)
+            ∙ ap (λ (r : Run). r.out) (p.runs (q.served ++ later) (q.more ++ rest)) ∙ ap (λ xs. p.told ++ xs) (q.front later rest).1
+            ∙ sym (append_assoc p.told q.told (q.front later rest).0),
       );
-      ends = ends_later ending a b left left' written written' left'' q.more q.told p q.allowed q.ends;
+      ends = λ later.
+          subst (λ (ss : List Served). EndsAs ending (at_serving ss a) (p.more ++ q.more) (p.told ++ q.told) left'') (sym (append_assoc p.served q.served later))
+          (ends_later ending a b left left' written written' left'' q.more q.told (q.served ++ later) p q.allowed (q.ends later));
     }
 
 -- the bytes of the script that are to come, in hand and done stay as many

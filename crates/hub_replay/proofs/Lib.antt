@@ -4,6 +4,7 @@ pub mod Windows
 pub mod Names
 pub mod Doing
 pub mod Offering
+pub mod Serving
 pub mod Skipping
 pub mod Going
 pub mod Outcomes

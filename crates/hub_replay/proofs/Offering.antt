@@ -3,12 +3,14 @@ use Rattle.std.proofs.Common.{◌≡◌, ◌≢◌, ℕ, zero, suc, ◌+◌, ◌
 use Rattle.std.specs.Prelude.{slice_get, ◌==◌, Err}
 use Rattle.std.proofs.lemmas.Bool.Decides.{nat_tests}
 use Rattle.std.proofs.lemmas.List.{take-append-le, drop-append-le, drop-drop, length-take-le}
+use Rattle.std.proofs.lemmas.List.Elements.{All-nil}
 use Rattle.std.proofs.lemmas.Option.{slice_get_past, slice_get_within}
 use Rattle.feed_defs.specs.declared.history.Entry.{Entry}
 use Rattle.feed_defs.specs.History.{Refusal, OfferOutcome, offer_outcome, outcome_of_judgement, judgement_of, last_stamp, longest_message}
 use Rattle.feed_defs.specs.History.Refusal.{TooLong}
 use Rattle.feed_defs.proofs.WellFormed.{too_long}
-use Rattle.script_defs.specs.Record.{Hub, payload_at, payload_waits, reply_line}
+use Rattle.serve_defs.specs.Connections.{IsServed}
+use Rattle.script_defs.specs.Record.{Hub, payload_at, payload_waits, reply_line, serving}
 use Rattle.answer_defs.specs.Choices.{only_if}
 use Rattle.script_defs.proofs.Payloads.{payload_is, get_more, no_payload, fed_within, is_fed as is_line_end}
 use Rattle.board_text_defs.specs.Answers.{feed_number}
@@ -66,7 +68,7 @@ long_message hub feed n behind bytes more within long =
     rw same (ap (numbered_turn hub feed) (payload_is n xs) ∙ long_from hub feed n xs (is_line_end (slice_get xs n)) refl long ∙ rw (fed_same (slice_get xs n), place, end) refl)
 
 -- the payload of a message whose last byte and LF are there
-there : (n behind : ℕ) (bytes more : List ℕ) (b : ℕ) → behind ≤ length bytes → slice_get bytes (behind + n) ≡ Some b
+pub there : (n behind : ℕ) (bytes more : List ℕ) (b : ℕ) → behind ≤ length bytes → slice_get bytes (behind + n) ≡ Some b
     → payload_at n (drop behind bytes ++ more) ≡ only_if (b == 10) (take n (drop behind bytes), drop (behind + n + 1) bytes ++ more)
 there n behind bytes more b within at =
     let rest = drop behind bytes in
@@ -82,14 +84,16 @@ there n behind bytes more b within at =
 -- a message that is offered
 pub offered_message : (hub new : Hub) (feed n behind : ℕ) (bytes payload said said' : List ℕ) → behind ≤ length bytes → slice_get bytes (behind + n) ≡ Some 10 → payload ≡ take n (drop behind bytes)
     → said' ≡ said ++ reply_line (offer_outcome feed payload hub.history).reply → new ≡ record hub { history = (offer_outcome feed payload hub.history).history; begun = true }
-    → Did (λ more. numbered_turn hub feed (payload_at n (drop behind bytes ++ more))) new bytes said said' (behind + n + 1)
+    → Did (λ later more. numbered_turn (serving later hub) feed (payload_at n (drop behind bytes ++ more))) new bytes said said' (behind + n + 1)
 offered_message hub new feed n behind bytes payload said said' within at is says hub_is =
     let inside = slice_get_within bytes (behind + n) 10 at in
     record {
       reply = reply_line (offer_outcome feed payload hub.history).reply;
       says = says;
       within = omega arith;
-      is = λ more. rw (there n behind bytes more 10 within at, hub_is, is) refl;
+      served = [];
+      are_served = All-nil IsServed;
+      is = λ later more. rw (there n behind bytes more 10 within at, hub_is, is) refl;
     }
 
 -- a payload with no LF behind it

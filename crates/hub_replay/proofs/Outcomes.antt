@@ -1,19 +1,20 @@
 -- From the ending of a replay to the outcome of the command.
-use Rattle.std.proofs.Common.{◌≡◌, ℕ, zero, suc, ◌+◌, ◌-◌, ◌≤◌, List, [], ◌∷◌, ◌++◌, length, take, Option, Some, None, IfSome, Bool, true, false, refl, sym, ap, ◌∙◌, subst, arith, inl, inr, append-nil, append_assoc}
+use Rattle.std.proofs.Common.{◌≡◌, ℕ, ◌+◌, ◌-◌, ◌≤◌, List, [], ◌++◌, length, take, Option, Some, None, IfSome, Bool, true, false, refl, sym, ap, ◌∙◌, subst, arith, inl, inr, append-nil, append_assoc}
 use Rattle.std.specs.Prelude.{unwrap_or, min, ◌⊎◌}
 use Rattle.std.specs.Io.KnownBytes.{Appends, Consumes}
 use Rattle.std.proofs.KnownBytes.{Appends-nil, Appends-trans, Consumes-nil}
 use Rattle.std.proofs.lemmas.List.{take-append-le, take_min}
-use Rattle.std.proofs.Math.Seq.{take-append-add, take-append_seam, take-nil}
+use Rattle.std.proofs.Math.Seq.{take-append-add, take-append_seam}
 use Rattle.hub_outside.specs.Count.{Rose}
 use Rattle.hub_outside.proofs.Rising.{rose_later, rose_before}
+use Rattle.serve_defs.specs.Connections.{Served}
 use Rattle.script_defs.specs.Record.{Hub}
 use Rattle.script_defs.specs.Output.{Run, Output, run, output_of, replayed, longest_script, refused_line, fault_line}
 use Rattle.hub_replay.specs.declared.steps.Ending.{Ending}
 use Rattle.hub_replay.specs.declared.steps.Ending.TheVariants.{Ended, Refused, InputFault, OutputFault, NoMemory}
 use Rattle.hub_replay.specs.Window.{remaining}
-use Rattle.hub_replay.specs.Steps.{Leaves, HasCause, at_first}
-use Rattle.hub_replay.specs.Outcome.{IsScript, IsUnfinished, IsCut, Outcome, InputFailed, OutputFailed, RanOut, Last, Finishes, fault_output, output_of_script, IsWhole}
+use Rattle.hub_replay.specs.Steps.{At, at_first, at_serving, EndsAs, HasCause, Keeps, Leaves}
+use Rattle.hub_replay.specs.Outcome.{IsScript, IsUnfinished, IsCut, Outcome, Finishes, fault_output, output_of_script, IsWhole}
 
 -- what is told of the script is told of all that the input had
 pub script_told : (left left' : Option (List ℕ)) (script : List ℕ) (P : List ℕ → Type 0) → IsScript left left' script → P script → IfSome left P
@@ -38,6 +39,36 @@ written_front : (r : Run) (told later : List ℕ) → r.out ≡ told ++ later �
 written_front r told later h =
     let w = written_from r r.ended refl in
     (later ++ w.0, w.1 ∙ ap (λ xs. xs ++ w.0) h ∙ append_assoc told later w.0)
+
+-- from a replay to its ending, on a hub to which all connections are given
+pub record LeavesOn (ending : Ending) (old : At) (said : List ℕ) (left left' written written' : Option (List ℕ)) : Type 0 where
+  pub more : List ℕ
+  pub sent : List ℕ
+  pub told : List ℕ
+  pub unsent : List ℕ
+  pub read : Consumes left left' more
+  pub wrote : Appends written written' sent
+  pub says : old.said ++ told ≡ sent ++ unsent
+  pub keeps : Keeps ending unsent said
+  pub allowed : length more ≤ old.allowed
+  pub front : (rest : List ℕ) → (later : List ℕ) × ((run old.hub (old.held ++ (more ++ rest))).out ≡ told ++ later)
+  pub ends : EndsAs ending old more told left'
+
+pub leaves_on : (ending : Ending) (old : At) (said : List ℕ) (left left' written written' : Option (List ℕ)) (p : Leaves ending old said left left' written written')
+    → (later : List Served) → LeavesOn ending (at_serving (p.served ++ later) old) said left left' written written'
+leaves_on ending old said left left' written written' p later = record {
+  more = p.more;
+  sent = p.sent;
+  told = p.told;
+  unsent = p.unsent;
+  read = p.read;
+  wrote = p.wrote;
+  says = p.says;
+  keeps = p.keeps;
+  allowed = p.allowed;
+  front = p.front later;
+  ends = p.ends later;
+}
 
 -- the facts of an ending that its outcome takes
 pub record Told (hub : Hub) (left left' written written' : Option (List ℕ)) (told sent : List ℕ) (script : List ℕ) : Type 0 where
@@ -131,7 +162,7 @@ module _ (hub : Hub) (result : ℕ) (left left' written written' written'' : Opt
       out_of_memory e (script, is, (length told, subst (Appends written written'') same wrote))
 
   abbrev Leaving : Ending → List ℕ → Type 0
-  Leaving ending said = Leaves ending (at_first hub) said left left' written written'
+  Leaving ending said = LeavesOn ending (at_first hub) said left left' written written'
 
   abbrev script_of : (ending : Ending) (said : List ℕ) → Leaving ending said → List ℕ
   script_of ending said p = p.more ++ unwrap_or left' []

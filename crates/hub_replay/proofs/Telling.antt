@@ -1,5 +1,5 @@
 -- What a question is answered.
-use Rattle.std.proofs.Common.{◌≡◌, ℕ, List, ◌++◌, length, Result, Ok, Err, Bool, true, false, refl}
+use Rattle.std.proofs.Common.{ℕ, List, length, Result, Ok, Err, Bool, true, false, refl}
 use Rattle.std.specs.declared.alloc.AllocError.{AllocError}
 use Rattle.board_defs.specs.Fold.{fold_of}
 use Rattle.board_text_defs.specs.Answers.{Question}

@@ -1,9 +1,11 @@
 -- The hub of a script and its parts.
-use Rattle.std.specs.Prelude.{◌≡◌, ℕ, List, [], ◌∷◌, ◌++◌, length, Option, Some, None, Result, Ok, Err, Bool, true, false, ⊤}
+use Rattle.std.specs.Prelude.{◌≡◌, ℕ, List, [], ◌++◌, Option, Some, None, Result, Ok, Err, Bool, true, false, ⊤}
 use Rattle.feed_defs.specs.History.{Refusal as Cause, offer_outcome}
 use Rattle.hub_core.specs.Answers.{cause_of}
 use Rattle.hub_core.specs.declared.refusal.Refusal.{Refusal}
 use Rattle.hub_state.specs.Replay.{Replayed}
+use Rattle.http_serve.specs.Transcript.{IsTranscript}
+use Rattle.http_serve.specs.declared.transcript.Transcript.{Transcript}
 use Rattle.sched_types.specs.declared.plans.NamedFeed.{NamedFeed}
 use Rattle.sched_types.specs.Schedules.{Schedules}
 use Rattle.board_text_defs.specs.Answers.{Question, answer_to}
@@ -13,11 +15,21 @@ use Rattle.hub_replay.specs.declared.feeds.ScriptState.TheVariants.{Declaring, R
 
 -- what a hub that runs shows
 abbrev pub shown_hub : Replayed → Hub
-shown_hub kept = record { plans = kept.shown.plans; history = kept.history; begun = true }
+shown_hub kept = record {
+  plans = kept.shown.plans;
+  history = kept.history;
+  begun = true;
+  given = [];
+}
 
 -- what a hub shows that has only declared feeds
 abbrev pub declaring : List NamedFeed → Hub
-declaring feeds = record { plans = plain_schedules feeds; history = []; begun = false }
+declaring feeds = record {
+  plans = plain_schedules feeds;
+  history = [];
+  begun = false;
+  given = [];
+}
 
 -- what a script's state shows of its hub: nothing was accepted before it runs
 abbrev pub hub_of : ScriptState → Hub
@@ -63,3 +75,10 @@ Tells (Ok true) old new question out out' =
 Tells (Ok false) old new question out out' =
     (answer_to old.plans (folds_in old) question ≡ None) × (new ≡ running old)
 Tells (Err e) old new question out out' = ⊤
+
+-- a connection was served whose input is these bytes, each moment being this one; only the
+-- declarations end
+abbrev pub Serves : {E : Type 0} → Result Transcript E → Hub → Hub → ℕ → List ℕ → Type 0
+Serves (Ok transcript) old new moment input =
+    IsTranscript old.plans old.history moment input transcript × (new ≡ running old)
+Serves (Err e) old new moment input = ⊤

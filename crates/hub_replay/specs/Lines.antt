@@ -1,12 +1,13 @@
 -- What the parts of a record's line are.
-use Rattle.std.specs.Prelude.{◌≡◌, ℕ, List, Option, Some, None, Result, Ok, Err, ⊤}
+use Rattle.std.specs.Prelude.{◌≡◌, ℕ, ◌≤◌, List, Option, Some, None, Result, Ok, Err, ⊤}
 use Rattle.std.specs.Global.{Vec}
 use Rattle.script_defs.specs.Lines.{Head as ScriptHead}
-use Rattle.script_defs.specs.Lines.Head.{Feed as FeedLine, Message as MessageLine, Ask as AskLine, End as EndLine}
+use Rattle.script_defs.specs.Lines.Head.{Feed as FeedLine, Message as MessageLine, Ask as AskLine, Connection as ConnectionLine, End as EndLine}
 use Rattle.board_text_defs.specs.Answers.Question.{FeedOf, BoardOf}
+use Rattle.text_defs.specs.Moments.{last_moment}
 use Rattle.view_answers.specs.Questions.{IsAsked}
 use Rattle.hub_replay.specs.declared.lines.Line.{Line}
-use Rattle.hub_replay.specs.declared.lines.Line.TheVariants.{Feed, Message, Combined, Board, End}
+use Rattle.hub_replay.specs.declared.lines.Line.TheVariants.{Feed, Message, Combined, Board, Connection, End}
 use Rattle.hub_replay.specs.declared.lines.LineFault.{LineFault}
 use Rattle.hub_replay.specs.declared.lines.LineFault.TheVariants.{NotALine, NoMemory}
 
@@ -23,6 +24,7 @@ head_seen (Board schedule stop moment span limit json) = AskLine (BoardOf (recor
   limit = limit;
   json = json;
 }))
+head_seen (Connection moment n) = ConnectionLine moment n
 head_seen End = EndLine
 
 -- why there is nothing: it isn't one, or memory ran out, of which nothing is said
@@ -31,11 +33,12 @@ Lacks defined NotALine = defined ≡ None
 Lacks defined NoMemory = ⊤
 
 -- what a line asks may be asked: of a board the moment, the span and the number of rows are in
--- range
+-- range, and of a connection the moment
 abbrev pub MayAsk : ScriptHead → Type 0
 MayAsk (AskLine question) = IsAsked question
 MayAsk (FeedLine name) = ⊤
 MayAsk (MessageLine feed n) = ⊤
+MayAsk (ConnectionLine moment n) = moment ≤ last_moment
 MayAsk EndLine = ⊤
 
 -- the line says just what is defined, with numbers in range, or is none of the records

@@ -1,9 +1,10 @@
 -- What a replay comes to, by its exit status.
-use Rattle.std.specs.Prelude.{◌≡◌, ℕ, ◌≤◌, List, [], ◌++◌, length, take, Option, IfSome, true, unwrap_or, ◌⊎◌}
+use Rattle.std.specs.Prelude.{◌≡◌, ℕ, ◌≤◌, List, [], ◌++◌, All, length, take, Option, IfSome, true, unwrap_or, ◌⊎◌}
 use Rattle.std.specs.Io.KnownBytes.{Appends, Consumes}
 use Rattle.hub_outside.specs.Count.{Rose}
 use Rattle.hub_outside.specs.Outside.{Stream}
-use Rattle.script_defs.specs.Record.{Hub}
+use Rattle.serve_defs.specs.Connections.{Served, IsServed}
+use Rattle.script_defs.specs.Record.{Hub, serving}
 use Rattle.script_defs.specs.Output.{Output, run, is_open, output_of, replayed, longest_script, refused_line, fault_line}
 use Rattle.hub_replay.specs.declared.steps.Ending.{Ending}
 use Rattle.hub_replay.specs.declared.steps.Ending.TheVariants.{Ended, Refused, InputFault, OutputFault, NoMemory}
@@ -86,11 +87,20 @@ pub record Outcome (hub : Hub) (defined : List ℕ → Output) (status : ℕ)
   pub input_count : input ≤ input'
   pub output_count : out ≤ out'
 
--- what a replay on a hub comes to, from its input and output before and after
-abbrev pub ReplayOutcome : Hub → Stream → Stream → Stream → Stream → ℕ → Type 0
-ReplayOutcome hub input input' output output' status =
+-- the outcome of a replay on a hub, from its input and output before and after
+abbrev pub OutcomeOn : Hub → Stream → Stream → Stream → Stream → ℕ → Type 0
+OutcomeOn hub input input' output output' status =
     Outcome hub (replayed hub) status input.told input'.told output.told output'.told input.faults
     input'.faults output.faults output'.faults
+
+-- What a replay on a hub comes to: connections were served, each with the items of its input, and
+-- the outcome is that of the hub to which these are given, whatever others are given behind them.
+-- So nothing is said of a connection but what follows from the items of its input.
+abbrev pub ReplayOutcome : Hub → Stream → Stream → Stream → Stream → ℕ → Type 0
+ReplayOutcome hub input input' output output' status =
+    (served : List Served) × All IsServed served
+    × ((later : List Served)
+    → OutcomeOn (serving (served ++ later) hub) input input' output output' status)
 
 -- the last bytes were written, or the output failed in the midst of them
 abbrev pub Last : ℕ → List ℕ → ℕ → Option (List ℕ) → Option (List ℕ) → ℕ → ℕ → Type 0

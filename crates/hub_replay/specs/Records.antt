@@ -1,12 +1,13 @@
 -- What doing a record comes to.
-use Rattle.std.specs.Prelude.{◌≡◌, ℕ, ◌+◌, ◌<◌, ◌≤◌, ◌==◌, List, [], ◌++◌, length, drop, Option, Some, None, Result, Ok, Err, Bool, true, false, slice_get}
+use Rattle.std.specs.Prelude.{◌≡◌, ℕ, ◌+◌, ◌<◌, ◌≤◌, ◌==◌, List, [], ◌++◌, All, length, drop, Option, Some, None, Result, Ok, Err, Bool, true, false, slice_get}
 use Rattle.feed_defs.specs.History.{Refusal as Cause, offer_outcome}
 use Rattle.feed_defs.specs.History.Refusal.{TooLong as LongCause}
 use Rattle.hub_core.specs.Answers.{cause_of}
 use Rattle.hub_core.specs.declared.refusal.Refusal.{Refusal}
 use Rattle.board_text_defs.specs.Answers.{Question, answer_to}
+use Rattle.serve_defs.specs.Connections.{Served, IsServed, connection_bytes}
 use Rattle.script_defs.specs.Lines.{Head, longest_line}
-use Rattle.script_defs.specs.Record.{Hub, Turn, turn, act, reply_line, payload_at, payload_waits, offered_turn, waits, answer_reply, question_word, folds_in}
+use Rattle.script_defs.specs.Record.{Hub, Turn, turn, act, reply_line, payload_waits, offered_turn, waits, answer_reply, question_word, folds_in, serving, connection_reply}
 use Rattle.answer_defs.specs.Choices.{only_if}
 use Rattle.hub_replay.specs.declared.records.Step.{Step}
 use Rattle.hub_replay.specs.declared.records.Step.TheVariants.{Whole, Ends, Short, Long, Refused, NoMemory}
@@ -32,55 +33,67 @@ abbrev pub numbered_turn : Hub → ℕ → Option (List ℕ × List ℕ) → Opt
 numbered_turn hub feed None = None
 numbered_turn hub feed (Some found) = Some (offered_turn hub feed found)
 
--- a whole record, of so many bytes and whatever follows, printed something more
-pub record Did (turned : List ℕ → Option Turn) (new : Hub) (bytes said said' : List ℕ) (size : ℕ) :
-    Type 0 where
+-- the record that bytes begin with, on a hub to which connections are given
+abbrev pub Turned : Type 0
+Turned = List Served → List ℕ → Option Turn
+
+-- A whole record, of so many bytes and whatever follows, printed something more. It served these
+-- connections, each with the items of its input; whatever is given behind them is left.
+pub record Did (turned : Turned) (new : Hub) (bytes said said' : List ℕ) (size : ℕ) : Type 0 where
   pub reply : List ℕ
   pub says : said' ≡ said ++ reply
   pub within : size ≤ length bytes
-  pub is : (more : List ℕ) → turned more ≡ Some
-      (record { said = reply; hub = new; rest = drop size bytes ++ more; ended = false })
+  pub served : List Served
+  pub are_served : All IsServed served
+  pub is : (later : List Served) (more : List ℕ) → turned (served ++ later) more
+      ≡ Some (record {
+        said = reply;
+        hub = serving later new;
+        rest = drop size bytes ++ more;
+        ended = false;
+      })
 
 -- a record ends the script, whatever follows
-pub record Ended (turned : List ℕ → Option Turn) (old new : Hub) (said said' : List ℕ) : Type 0
-  where
-    pub says : said' ≡ said
-    pub rest : List ℕ → List ℕ
-    pub is : (more : List ℕ) → turned more ≡ Some
-        (record { said = []; hub = old; rest = rest more; ended = true })
+pub record Ended (turned : Turned) (old new : Hub) (said said' : List ℕ) : Type 0 where
+  pub says : said' ≡ said
+  pub rest : List ℕ → List ℕ
+  pub is : (later : List Served) (more : List ℕ) → turned later more
+      ≡ Some (record { said = []; hub = serving later old; rest = rest more; ended = true })
 
 -- nothing was done
 pub record Waits (old new : Hub) (said said' : List ℕ) : Type 0 where
   pub hub : new ≡ old
   pub says : said' ≡ said
 
--- What doing the record in front comes to. For any bytes that follow, `turned` gives that record
--- and `waiting` says whether it waits for more.
-abbrev pub Does : (List ℕ → Option Turn) → (List ℕ → Bool) → Step → Hub → Hub → List ℕ → List ℕ
+-- What doing the record in front comes to. For any connections that are given and any bytes that
+-- follow, `turned` gives that record and `waiting` says whether it waits for more.
+abbrev pub Does : Turned → (List Served → List ℕ → Bool) → Step → Hub → Hub → List ℕ → List ℕ
     → List ℕ → Type 0
 Does turned waiting (Whole size) old new bytes said said' = Did turned new bytes said said' size
 Does turned waiting Ends old new bytes said said' = Ended turned old new said said'
 Does turned waiting Short old new bytes said said' =
-    Waits old new said said' × (turned [] ≡ None) × (waiting [] ≡ true)
+    Waits old new said said' × ((later : List Served) → turned later [] ≡ None)
+    × ((later : List Served) → waiting later [] ≡ true)
 Does turned waiting (Long end count) old new bytes said said' =
-    Waits old new said said' × ((more : List ℕ)
-    → turned more ≡ long_turn end count old (bytes ++ more))
-    × ((more : List ℕ) → length (bytes ++ more) ≤ end → waiting more ≡ true)
+    Waits old new said said' × ((later : List Served) (more : List ℕ)
+    → turned later more ≡ long_turn end count (serving later old) (bytes ++ more))
+    × ((later : List Served) (more : List ℕ) → length (bytes ++ more) ≤ end
+    → waiting later more ≡ true)
 Does turned waiting Refused old new bytes said said' =
-    (said' ≡ said) × ((more : List ℕ) → turned more ≡ None)
+    (said' ≡ said) × ((later : List Served) (more : List ℕ) → turned later more ≡ None)
 Does turned waiting NoMemory old new bytes said said' = (extra : List ℕ) × (said' ≡ said ++ extra)
 
 -- of the record in front of the bytes
 abbrev pub Turns : Step → Hub → Hub → List ℕ → List ℕ → List ℕ → Type 0
 Turns step old new bytes said said' =
-    Does (λ more. turn old (bytes ++ more)) (λ more. waits old (bytes ++ more)) step old new bytes
-    said said'
+    Does (λ later more. turn (serving later old) (bytes ++ more))
+    (λ later more. waits (serving later old) (bytes ++ more)) step old new bytes said said'
 
 -- of the record of a line, behind which the bytes from a place on stand
 abbrev pub Acts : Head → ℕ → Step → Hub → Hub → List ℕ → List ℕ → List ℕ → Type 0
 Acts head behind step old new bytes said said' =
-    Does (λ more. act old head (drop behind bytes ++ more))
-    (λ more. payload_waits old head (drop behind bytes ++ more))
+    Does (λ later more. act (serving later old) head (drop behind bytes ++ more))
+    (λ later more. payload_waits (serving later old) head (drop behind bytes ++ more))
     step old new bytes said said'
 
 -- so many bytes without a line among them wait, or are no record whatever follows
@@ -125,3 +138,19 @@ Asks (Ok x) question old new said said' =
     (answer_to old.plans (folds_in old) question))
     × (new ≡ record old { begun = true })
 Asks (Err e) question old new said said' = (extra : List ℕ) × (said' ≡ said ++ extra)
+
+-- A connection was served, and what is printed of it is said: its items are those of its input, and
+-- only the declarations end.
+pub record Said (old new : Hub) (moment : ℕ) (input said said' : List ℕ) : Type 0 where
+  pub served : Served
+  pub is_served : IsServed served
+  pub of_input : served.input ≡ input
+  pub says : said' ≡ said ++ connection_reply
+      (connection_bytes old.plans moment (length old.history) (folds_in old) served) served.finish
+  pub hub : new ≡ record old { begun = true }
+
+-- the same, or memory ran out in the midst of it
+abbrev pub SaysServed : {A E : Type 0} → Result A E → Hub → Hub → ℕ → List ℕ → List ℕ → List ℕ
+    → Type 0
+SaysServed (Ok x) old new moment input said said' = Said old new moment input said said'
+SaysServed (Err e) old new moment input said said' = (extra : List ℕ) × (said' ≡ said ++ extra)

@@ -1,9 +1,10 @@
 -- The steps of a replay, and how one ends.
-use Rattle.std.specs.Prelude.{◌≡◌, ℕ, ◌+◌, ◌-◌, ◌*◌, ◌≤◌, ◌<◌, List, [], ◌++◌, length, take, Option, Some, None, Result, Ok, Err, true, false, slice_get, drop}
+use Rattle.std.specs.Prelude.{◌≡◌, ℕ, ◌+◌, ◌-◌, ◌*◌, ◌≤◌, ◌<◌, List, [], ◌++◌, All, length, take, Option, Some, None, Result, Ok, Err, true, false, slice_get, drop}
 use Rattle.feed_defs.specs.History.Refusal.{TooLong}
 use Rattle.std.specs.Io.KnownBytes.{Appends, Consumes}
 use Rattle.hub_outside.specs.Count.{Rose}
-use Rattle.script_defs.specs.Record.{Hub, reply_line}
+use Rattle.serve_defs.specs.Connections.{Served, IsServed}
+use Rattle.script_defs.specs.Record.{Hub, reply_line, serving}
 use Rattle.hub_replay.specs.Records.{is_fed}
 use Rattle.script_defs.specs.Output.{run, is_open, behind, longest_script}
 use Rattle.hub_replay.specs.declared.steps.Replay.{Replay}
@@ -35,12 +36,17 @@ at r = record {
 abbrev pub at_first : Hub → At
 at_first hub = record { held = []; allowed = longest_script; hub = hub; said = []; place = 0 }
 
+-- the replay with connections given to its hub
+abbrev pub at_serving : List Served → At → At
+at_serving served r = record r { hub = serving served r.hub }
+
 -- the bytes of the script that were done, those in hand and those that may follow
 abbrev pub place_sum : At → ℕ
 place_sum r = r.place + length r.held + r.allowed
 
--- From one replay to a later one: what was read, written and printed. Whatever bytes follow, the
--- run goes on as from the later one.
+-- From one replay to a later one: what was read, written and printed, and which connections were
+-- served, each with the items of its input. Whatever is given behind these and whatever bytes
+-- follow, the run goes on as from the later one.
 pub record Goes (old new : At) (left left' written written' : Option (List ℕ)) : Type 0 where
   pub more : List ℕ
   pub sent : List ℕ
@@ -51,10 +57,14 @@ pub record Goes (old new : At) (left left' written written' : Option (List ℕ))
   pub allowed : new.allowed + length more ≡ old.allowed
   pub rises : old.place ≤ new.place
   pub size : new.place + length new.held ≡ old.place + length old.held + length more
-  pub runs : (rest : List ℕ) → run old.hub (old.held ++ (more ++ rest)) ≡ behind told
-      (new.place - old.place) (run new.hub (new.held ++ rest))
-  pub opens : (rest : List ℕ) → is_open old.hub (old.held ++ (more ++ rest)) ≡ is_open new.hub
-      (new.held ++ rest)
+  pub served : List Served
+  pub are_served : All IsServed served
+  pub runs : (later : List Served) (rest : List ℕ)
+      → run (serving (served ++ later) old.hub) (old.held ++ (more ++ rest))
+      ≡ behind told (new.place - old.place) (run (serving later new.hub) (new.held ++ rest))
+  pub opens : (later : List Served) (rest : List ℕ)
+      → is_open (serving (served ++ later) old.hub) (old.held ++ (more ++ rest))
+      ≡ is_open (serving later new.hub) (new.held ++ rest)
 
 -- what is to be said of an ending, where `told` was printed since and `more` read
 abbrev pub EndsAs : HowEnded → At → List ℕ → List ℕ → Option (List ℕ) → Type 0
@@ -85,7 +95,7 @@ Keeps OutputFault unsent said = Unit {0}
 Keeps NoMemory unsent said = unsent ≡ said
 
 -- From a replay to its ending: what was printed since is the front of what the records print,
--- whatever follows.
+-- whatever follows, and whatever is given behind the connections that were served.
 pub record Leaves (ending : HowEnded) (old : At) (said : List ℕ)
     (left left' written written' : Option (List ℕ)) : Type 0 where
   pub more : List ℕ
@@ -97,9 +107,13 @@ pub record Leaves (ending : HowEnded) (old : At) (said : List ℕ)
   pub says : old.said ++ told ≡ sent ++ unsent
   pub keeps : Keeps ending unsent said
   pub allowed : length more ≤ old.allowed
-  pub front : (rest : List ℕ) → (later : List ℕ)
-      × ((run old.hub (old.held ++ (more ++ rest))).out ≡ told ++ later)
-  pub ends : EndsAs ending old more told left'
+  pub served : List Served
+  pub are_served : All IsServed served
+  pub front : (later : List Served) (rest : List ℕ) → (others : List ℕ)
+      × ((run (serving (served ++ later) old.hub) (old.held ++ (more ++ rest))).out
+      ≡ told ++ others)
+  pub ends : (later : List Served)
+      → EndsAs ending (at_serving (served ++ later) old) more told left'
 
 -- one step: it goes on, with less to do, or ends
 abbrev pub Advances : Option HowEnded → At → At → Option (List ℕ) → Option (List ℕ)

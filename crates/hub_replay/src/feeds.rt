@@ -4,6 +4,7 @@ ghost use Rattle.std.specs.Arc.{arc_value};
 ghost use Rattle.std.specs.List.{list_any};
 ghost use Rattle.std.specs.Option.{option_map};
 ghost use Rattle.std.specs.Str.{bytes_eq};
+ghost use Rattle.text_defs.specs.Moments.{last_moment};
 ghost use Rattle.text_defs.specs.Names.{is_name};
 ghost use Rattle.sched_types.specs.Schedules.{AreSchedules};
 ghost use Rattle.board_defs.specs.Fold.{fold_of};
@@ -11,10 +12,11 @@ ghost use Rattle.board_defs.specs.Views.{hub_first};
 ghost use Rattle.board_text_defs.specs.Answers.{feed_number};
 ghost use Rattle.view_answers.specs.Questions.{question_seen, IsAsked};
 ghost use Rattle.script_defs.specs.Record.{start, configured, most_feeds, plain_schedules};
-ghost use Rattle.hub_replay.specs.Feeds.{declaring, running, hub_given, shown_hub, Answers, Declares, Tells};
+ghost use Rattle.hub_replay.specs.Feeds.{declaring, running, hub_given, shown_hub, Answers, Declares, Serves, Tells};
 
 use crate::NoMemory;
 use board_core::Oracle;
+use http_serve::{Transcript, serve_bytes};
 use hub_core::Refusal;
 use hub_state::ReplayHub;
 use rt_types::Text;
@@ -163,6 +165,28 @@ impl ScriptHub {
         }
     }
 
+    /// Serves the connection of this input, where each moment is this one, in seconds since 1970 up
+    /// to the end of the year 9999. From here on no feed can be declared.
+    pub(crate) fn serve(
+        &mut self,
+        alloc: Global,
+        moment: u64,
+        input: &[u8],
+    ) -> Result<Transcript, NoMemory>
+        requires { moment ≤ last_moment }
+        ensures { Serves result self.old self.new moment input.now }
+    {
+        match &mut self.state {
+            ScriptState::Running(hub) => serve_on(alloc, hub, moment, input),
+            ScriptState::Declaring(feeds) => {
+                let mut hub = hub_with(alloc, feeds)?;
+                let served = serve_on(alloc, &mut hub, moment, input);
+                self.state = ScriptState::Running(hub);
+                served
+            }
+        }
+    }
+
     /// Makes the hub, unless it is there: from here on no feed can be declared.
     pub(crate) fn begin(&mut self, alloc: Global) -> Result<(), NoMemory>
         ensures { OnOk result (self.new ≡ running self.old) }
@@ -235,6 +259,20 @@ fn tell_of(
 {
     hub.sound();
     view_answers::answer(alloc, hub.view(), question, out)
+}
+
+/// Serves the connection of this input on a hub, where each moment is this one.
+fn serve_on(
+    alloc: Global,
+    hub: &mut ReplayHub,
+    moment: u64,
+    input: &[u8],
+) -> Result<Transcript, NoMemory>
+    requires { moment ≤ last_moment }
+    ensures serves { Serves result (shown_hub hub.old) (shown_hub hub.new) moment input.now }
+    ensures plans { hub.new.shown.plans ≡ hub.old.shown.plans }
+{
+    serve_bytes(alloc, hub, moment, input)
 }
 
 /// Whether a feed of that name may follow those.

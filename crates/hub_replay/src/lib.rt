@@ -7,14 +7,16 @@
 //! record a line is.
 //!
 //! The parts by job: `lines` (what a record's line says), `feeds` (the hub that a script works on),
-//! `records` (one whole record), `replies` (the lines that answer an offered message), `window`
-//! (the bytes that were read and not yet used), `steps` (one step of a replay), `running` (all of
-//! them) and `ending` (the last bytes, and the status).
+//! `records` (one whole record), `connections` (the one that serves a connection), `replies` (the
+//! lines that answer an offered message), `window` (the bytes that were read and not yet used),
+//! `steps` (one step of a replay), `running` (all of them) and `ending` (the last bytes, and the
+//! status).
 //!
-//! The crate stands on `hub_state` for the hub, on `view_answers` for the answers to questions, and
-//! on `hub_outside` for input and output.
+//! The crate stands on `hub_state` for the hub, on `view_answers` for the answers to questions, on
+//! `http_serve` for connections, and on `hub_outside` for input and output.
 #![tactic(auto)]
 
+mod connections;
 mod ending;
 mod feeds;
 mod lines;

@@ -1,7 +1,7 @@
 //! A record's line, and what it says.
 ghost use Rattle.std.specs.Prelude.{◌≡◌, ◌==◌, position, ◌+◌, ◌<◌, ◌≤◌, map, length, take, drop, MatchOption, IfOk, IfSome, Some, None};
 ghost use Rattle.text_defs.specs.Numbers.{number};
-ghost use Rattle.script_defs.specs.Lines.{longest_line, line_within, words_of, text_of_word, texts_of, script_digits, length_in, is_json_in, feed_head, message_head, combined_head, board_head, end_head, head_by_letter, head_of_words, head_of};
+ghost use Rattle.script_defs.specs.Lines.{longest_line, line_within, words_of, text_of_word, texts_of, script_digits, length_in, input_length_in, is_json_in, feed_head, message_head, combined_head, board_head, connection_head, end_head, head_by_letter, head_of_words, head_of};
 ghost use Rattle.hub_replay.specs.Lines.{TextIs, TextsAre, SaysHead};
 
 use crate::NoMemory;
@@ -16,6 +16,9 @@ pub(crate) const LONGEST_LINE: usize = 4096;
 
 /// The greatest length of a message in a script.
 const LONGEST_PAYLOAD: u64 = 999_999_999;
+
+/// The most bytes of a connection's input.
+const LONGEST_INPUT: u64 = 16_777_216;
 
 /// The most digits of a number.
 const MOST_DIGITS: usize = 12;
@@ -60,6 +63,13 @@ pub enum Line {
         limit: u32,
         /// Whether as JSON; else as text.
         json: bool,
+    },
+    /// `Q moment n`: a connection whose input is so many bytes, served at that moment.
+    Connection {
+        /// When, in seconds since 1970, up to 253402300799.
+        moment: u64,
+        /// How many bytes, up to 16777216.
+        n: u32,
     },
     /// `E`: the end of the script.
     End,
@@ -174,6 +184,8 @@ fn line_of(letter: &str, words: &[Text]) -> Result<Line, LineFault>
         combined_line(words)
     } else if letter == "B" {
         board_line(words)
+    } else if letter == "Q" {
+        connection_line(words)
     } else if letter == "E" {
         end_line(words)
     } else {
@@ -246,6 +258,23 @@ fn board_line(words: &[Text]) -> Result<Line, LineFault>
     }
 }
 
+fn connection_line(words: &[Text]) -> Result<Line, LineFault>
+    ensures { SaysHead (connection_head words.now) result }
+{
+    match words {
+        [moment, size] => {
+            let Some(moment) = number_in(moment, 0, LAST_MOMENT) else {
+                return Err(LineFault::NotALine);
+            };
+            match input_length(size.as_str().as_bytes()) {
+                Some(n) => Ok(Line::Connection { moment, n }),
+                None => Err(LineFault::NotALine),
+            }
+        }
+        _ => Err(LineFault::NotALine),
+    }
+}
+
 fn end_line(words: &[Text]) -> Result<Line, LineFault>
     ensures { SaysHead (end_head words.now) result }
 {
@@ -260,6 +289,16 @@ fn payload_length(word: &[u8]) -> Option<u32>
     ensures { result ≡ length_in word.now }
 {
     match read_number(word, MOST_DIGITS, 0, LONGEST_PAYLOAD) {
+        Some(length) => Some(length as u32),
+        None => None,
+    }
+}
+
+/// The length of a connection's input that a word of digits says.
+fn input_length(word: &[u8]) -> Option<u32>
+    ensures { result ≡ input_length_in word.now }
+{
+    match read_number(word, MOST_DIGITS, 0, LONGEST_INPUT) {
         Some(length) => Some(length as u32),
         None => None,
     }

@@ -7,6 +7,7 @@ ghost use Rattle.hub_replay.specs.Lines.{head_seen, MayAsk};
 ghost use Rattle.hub_replay.specs.Records.{Turns, Acts, LacksLine, Says, OffersTo, Asks};
 
 use crate::NoMemory;
+use crate::connections::do_connection;
 use crate::feeds::ScriptHub;
 use crate::lines::{LONGEST_LINE, Line, LineFault, line_end, parse_line};
 use crate::replies::reply_line;
@@ -95,6 +96,9 @@ fn do_line(
                 json: *json,
             };
             do_question(alloc, hub, &question, bytes, behind, said)
+        }
+        Line::Connection { moment, n } => {
+            do_connection(alloc, hub, *moment, *n, bytes, behind, said)
         }
         Line::End => Step::Ends,
     }

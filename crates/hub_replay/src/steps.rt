@@ -1,7 +1,8 @@
 //! One step of a replay: a record, or more of the input.
 ghost use Rattle.std.specs.Prelude.{◌≡◌, ◌≤◌, ◌<◌, ◌+◌, length, ℕ, List, [], ◌++◌, OnOk, OnErr, None, Err, true};
 ghost use Rattle.feed_defs.specs.History.Refusal.{TooLong};
-ghost use Rattle.script_defs.specs.Record.{turn, waits, reply_line};
+ghost use Rattle.serve_defs.specs.Connections.{Served};
+ghost use Rattle.script_defs.specs.Record.{turn, waits, reply_line, serving};
 ghost use Rattle.script_defs.specs.Output.{longest_script};
 ghost use Rattle.hub_outside.specs.Writing.{WritesAll, HasWritingCause};
 ghost use Rattle.hub_replay.specs.Window.{HasRefillCause};
@@ -120,8 +121,10 @@ fn flush<K: Sink>(said: &mut Vec<u8>, out: &mut K) -> Result<(), OutputFault>
 
 /// Writes what was said and reads on, where no whole record is in hand.
 fn fetch<S: Source, K: Sink>(run: &mut Replay, input: &mut S, out: &mut K) -> Option<Ending>
-    requires record { turn run.old.hub run.old.window.held ≡ None }
-    requires waits { waits run.old.hub run.old.window.held ≡ true }
+    requires record { (later : List Served)
+        → turn (serving later run.old.hub) run.old.window.held ≡ None }
+    requires waits { (later : List Served)
+        → waits (serving later run.old.hub) run.old.window.held ≡ true }
     ensures step { Advances result (at run.old) (at run.new) (S.left input.old) (S.left input.new)
         (K.written out.old) (K.written out.new) }
     ensures cause { HasCause result (S.faults input.old) (S.faults input.new) (K.faults out.old)
@@ -147,10 +150,12 @@ fn pass_message<S: Source, K: Sink>(
     input: &mut S,
     out: &mut K,
 ) -> Option<Ending>
-    requires record { (more : List ℕ) → turn run.old.hub (run.old.window.held ++ more) ≡ long_turn
-        end size run.old.hub (run.old.window.held ++ more) }
-    requires waits { (more : List ℕ) → length (run.old.window.held ++ more) ≤ end
-        → waits run.old.hub (run.old.window.held ++ more) ≡ true }
+    requires record { (later : List Served) (more : List ℕ)
+        → turn (serving later run.old.hub) (run.old.window.held ++ more)
+        ≡ long_turn end size (serving later run.old.hub) (run.old.window.held ++ more) }
+    requires waits { (later : List Served) (more : List ℕ)
+        → length (run.old.window.held ++ more) ≤ end
+        → waits (serving later run.old.hub) (run.old.window.held ++ more) ≡ true }
     requires place { place_sum (at run.old) ≤ longest_script }
     ensures step { Advances result (at run.old) (at run.new) (S.left input.old) (S.left input.new)
         (K.written out.old) (K.written out.new) }

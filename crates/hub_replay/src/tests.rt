@@ -57,6 +57,14 @@ fn is_board(
     }
 }
 
+/// Whether the line has a connection of so many bytes served at that moment.
+fn serves(alloc: Global, line: &[u8], at: u64, size: u32) -> bool {
+    match parse_line(alloc, line) {
+        Ok(Line::Connection { moment, n }) => moment == at && n == size,
+        _other => false,
+    }
+}
+
 /// Whether the line is none of the records.
 fn is_no_line(alloc: Global, line: &[u8]) -> bool {
     matches!(parse_line(alloc, line), Err(LineFault::NotALine))
@@ -105,6 +113,22 @@ fn boards_out_of_range_are_no_records(rt: HostRuntime) {
     assert!(rt; is_no_line(rt.alloc(), b"B city ST 0 1 0 text"));
     assert!(rt; is_no_line(rt.alloc(), b"B city ST 0 1 1001 text"));
     assert!(rt; is_no_line(rt.alloc(), b"B city ST 0 1 1 html"));
+}
+
+#[test]
+fn connections_are_served(rt: HostRuntime) {
+    assert!(rt; serves(rt.alloc(), b"Q 1743314000 46", 1_743_314_000, 46));
+    assert!(rt;
+        serves(
+            rt.alloc(),
+            b"Q 253402300799 16777216",
+            253_402_300_799,
+            16_777_216
+        )
+    );
+    assert!(rt; is_no_line(rt.alloc(), b"Q 253402300800 0"));
+    assert!(rt; is_no_line(rt.alloc(), b"Q 0 16777217"));
+    assert!(rt; is_no_line(rt.alloc(), b"Q 0"));
 }
 
 #[test]

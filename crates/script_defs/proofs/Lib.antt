@@ -5,3 +5,4 @@ pub mod Turns
 pub mod Runs
 pub mod Opens
 pub mod CityScripts
+pub mod Connections

@@ -6,7 +6,7 @@ use Rattle.std.proofs.lemmas.Bool.Decides.{nat_tests}
 use Rattle.board_text_defs.specs.Answers.{feed_number}
 use Rattle.script_defs.specs.Lines.{Head, head_of, line_within, longest_line}
 use Rattle.script_defs.specs.Record.{Hub, Turn, line_waits, payload_waits, turn, waits}
-use Rattle.script_defs.specs.Lines.Head.{Message}
+use Rattle.script_defs.specs.Lines.Head.{Message, Connection}
 use Rattle.script_defs.specs.Output.{is_open_within, is_open}
 use Rattle.script_defs.proofs.Lines.{line_more}
 use Rattle.script_defs.proofs.Turns.{turn_rest}
@@ -79,3 +79,7 @@ pub payload_short : (hub : Hub) (name rest : List ℕ) (feed n : ℕ)
     → payload_waits hub (Message name n) rest ≡ true
 payload_short hub name rest feed n found few =
     let e : nat_le (length rest) n ≡ true = grind (arith, nat_tests, few) in rw (found, e) refl
+
+-- a connection waits until its input and the byte behind it are there
+pub input_short : (hub : Hub) (moment n : ℕ) (rest : List ℕ) → length rest ≤ n → payload_waits hub (Connection moment n) rest ≡ true
+input_short hub moment n rest few = grind (arith, nat_tests, few)

@@ -3,9 +3,9 @@ use Rattle.std.proofs.Common.{◌≡◌, ℕ, ◌≤◌, ◌<◌, List, ◌++◌
 use Rattle.board_text_defs.specs.Answers.{feed_number}
 use Rattle.script_defs.specs.Lines.{Head, head_of, line_within, longest_line}
 use Rattle.script_defs.specs.Optional.{◌>>=◌}
-use Rattle.script_defs.specs.Record.{payload_at, Hub, Turn, turn, act, may_declare, offered_turn}
+use Rattle.script_defs.specs.Record.{payload_at, Hub, Turn, turn, act, may_declare, offered_turn, connection_of, served_turn}
 use Rattle.answer_defs.specs.Choices.{only_if}
-use Rattle.script_defs.specs.Lines.Head.{Feed, Message, Ask, End}
+use Rattle.script_defs.specs.Lines.Head.{Feed, Message, Ask, Connection, End}
 use Rattle.script_defs.proofs.Options.{bind_some, bind_at, bind_none}
 use Rattle.script_defs.proofs.Lines.{line_more, line_rest, no_line_more}
 use Rattle.script_defs.proofs.Payloads.{payload_more, payload_rest}
@@ -26,6 +26,10 @@ act_more hub (Message feed n) rest more t h =
     let same : offered_turn hub k found ≡ t = cc in
     rw (named, payload_more n rest more found there) (ap (λ v. Some (followed v more)) same)
 act_more hub (Ask question) rest more t h = only_more true _ _ t more refl h
+act_more hub (Connection moment n) rest more t h =
+    let (found, there, h2) = bind_some (payload_at n rest) _ t h in
+    let same : served_turn hub moment (connection_of found.0 hub.given) found.1 ≡ t = cc in
+    rw (payload_more n rest more found there) (ap (λ v. Some (followed v more)) same)
 act_more hub End rest more t h = only_more true _ _ t more refl h
 
 -- what follows from the line in front: its record acts on what stands behind it
@@ -54,6 +58,10 @@ act_rest hub (Message feed n) rest t h =
     let same : offered_turn hub k found ≡ t = cc in
     subst (λ v. length v.rest ≤ length rest) same (payload_rest n rest found there)
 act_rest hub (Ask question) rest t h = only_rest true _ t rest refl h
+act_rest hub (Connection moment n) rest t h =
+    let (found, there, h2) = bind_some (payload_at n rest) _ t h in
+    let same : served_turn hub moment (connection_of found.0 hub.given) found.1 ≡ t = cc in
+    subst (λ v. length v.rest ≤ length rest) same (payload_rest n rest found there)
 act_rest hub End rest t h = only_rest true _ t rest refl h
 
 -- a record takes a byte at least

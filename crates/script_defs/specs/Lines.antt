@@ -18,6 +18,10 @@ longest_line = 4096
 abbrev pub longest_payload : ℕ
 longest_payload = 999999999
 
+-- the most bytes of a connection's input in a script
+abbrev pub longest_input : ℕ
+longest_input = 16777216
+
 -- the most digits of a number in a script
 abbrev pub script_digits : ℕ
 script_digits = 12
@@ -50,6 +54,10 @@ texts_of (raw ∷ more) = text_of_word raw >>= λ word. texts_of more >>= λ wor
 abbrev pub length_in : List ℕ → Option ℕ
 length_in word = number script_digits 0 longest_payload word
 
+-- the length of a connection's input: 1 to 12 decimal digits, up to the greatest one
+abbrev pub input_length_in : List ℕ → Option ℕ
+input_length_in word = number script_digits 0 longest_input word
+
 -- whether a board is wanted as JSON, by the word of its form
 abbrev pub is_json_in : List ℕ → Option Bool
 is_json_in word =
@@ -74,11 +82,12 @@ board_in_words digits (schedule ∷ stop ∷ moment ∷ span ∷ limit ∷ form 
 board_in_words digits _ = None
 
 -- what a record's line says: a feed is declared, a message of so many bytes comes for a feed, a question
--- is asked, or the script ends
+-- is asked, a connection is served at a moment, of which so many bytes come, or the script ends
 pub data Head : Type 0 where
   Feed : List ℕ → Head
   Message : List ℕ → ℕ → Head
   Ask : Question → Head
+  Connection : ℕ → ℕ → Head
   End : Head
 
 abbrev pub feed_head : List (List ℕ) → Option Head
@@ -96,6 +105,12 @@ combined_head _ = None
 abbrev pub board_head : List (List ℕ) → Option Head
 board_head words = board_in_words script_digits words >>= λ asked. Some (Ask (BoardOf asked))
 
+abbrev pub connection_head : List (List ℕ) → Option Head
+connection_head (moment ∷ size ∷ []) =
+    number script_digits 0 last_moment moment >>= λ at.
+    input_length_in size >>= λ n. Some (Connection at n)
+connection_head _ = None
+
 abbrev pub end_head : List (List ℕ) → Option Head
 end_head [] = Some End
 end_head _ = None
@@ -107,7 +122,8 @@ head_by_letter letter words =
     else (if bytes_eq letter (codes "M") then message_head words
     else (if bytes_eq letter (codes "O") then combined_head words
     else (if bytes_eq letter (codes "B") then board_head words
-    else (if bytes_eq letter (codes "E") then end_head words else None))))
+    else (if bytes_eq letter (codes "Q") then connection_head words
+    else (if bytes_eq letter (codes "E") then end_head words else None)))))
 
 abbrev pub head_of_words : List (List ℕ) → Option Head
 head_of_words [] = None

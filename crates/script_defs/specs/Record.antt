@@ -15,21 +15,25 @@ use Rattle.sched_types.specs.Timetable.{no_timetable}
 use Rattle.board_defs.specs.Fold.{FeedFold, fold_of}
 use Rattle.board_text_defs.specs.Answers.{Question, answer_to, feed_number}
 use Rattle.board_text_defs.specs.Answers.Question.{FeedOf, BoardOf}
+use Rattle.http_defs.specs.Requests.{Finish, ended, closed, bad}
+use Rattle.serve_defs.specs.Connections.{Served, connection_bytes}
 use Rattle.script_defs.specs.Texts.{refusal_words}
 use Rattle.script_defs.specs.Lines.{Head, head_of, line_within, longest_line}
-use Rattle.script_defs.specs.Lines.Head.{Feed, Message, Ask, End}
+use Rattle.script_defs.specs.Lines.Head.{Feed, Message, Ask, Connection, End}
 use Rattle.script_defs.specs.Optional.{◌>>=◌}
 
 -- the most feeds
 abbrev pub most_feeds : ℕ
 most_feeds = 64
 
--- the hub of a script: its timetables and feeds, what it accepted, and whether no feed can be declared
--- any more
+-- The hub of a script: its timetables and feeds, what it accepted, and whether no feed can be declared
+-- any more; and the connections that its records may serve. Which items an input has is a relation, so
+-- these are given; what is served is the first one given that has the record's input.
 pub record Hub : Type 0 where
   pub plans : Schedules
   pub history : List Entry
   pub begun : Bool
+  pub given : List Served
 
 -- without a configuration there is one schedule, `plain`, without rows
 abbrev pub plain_schedules : List NamedFeed → Schedules
@@ -40,11 +44,15 @@ plain_schedules feeds = record {
 
 -- without a configuration a script begins with no feeds, and declares them
 abbrev pub start : Hub
-start = record { plans = plain_schedules []; history = []; begun = false }
+start = record { plans = plain_schedules []; history = []; begun = false; given = [] }
 
 -- with one it has that one's timetables and feeds, and declares none
 abbrev pub configured : Schedules → Hub
-configured plans = record { plans = plans; history = []; begun = true }
+configured plans = record { plans = plans; history = []; begun = true; given = [] }
+
+-- the hub with connections given to it
+abbrev pub serving : List Served → Hub → Hub
+serving served hub = record hub { given = served }
 
 -- what each feed of the hub says
 abbrev pub folds_in : Hub → List FeedFold
@@ -121,12 +129,44 @@ offered_turn hub feed (bytes, rest) = let after =
       ended = false;
     }
 
+-- the word for why a connection has no further request
+abbrev pub finish_word : Finish → List ℕ
+finish_word ended = codes "ended"
+finish_word closed = codes "closed"
+finish_word bad = codes "bad"
+
+-- what a connection prints that was served: how many bytes were written on it and why it ended, and
+-- these bytes with an LF behind them
+abbrev pub connection_reply : List ℕ → Finish → List ℕ
+connection_reply bytes finish =
+    codes "connection " ++ decimal (length bytes) ++ codes " " ++ finish_word finish ++ line_feed
+    ++ bytes ++ line_feed
+
+-- The first connection given of this input, and those behind it. Where none is given, it is one
+-- without items, and none is behind it.
+unfoldable pub connection_of : List ℕ → List Served → Served × List Served
+connection_of input [] = (record { input = input; items = []; finish = ended }, [])
+connection_of input (s ∷ served) =
+    if bytes_eq s.input input then (s, served) else connection_of input served
+
+-- a connection is served at a moment, of what all feeds say, and no message comes meanwhile
+abbrev pub served_turn : Hub → ℕ → Served × List Served → List ℕ → Turn
+served_turn hub moment (s, later) rest = record {
+  said = connection_reply
+      (connection_bytes hub.plans moment (length hub.history) (folds_in hub) s) s.finish;
+  hub = record hub { begun = true; given = later };
+  rest = rest;
+  ended = false;
+}
+
 -- the record of a line, with the bytes behind the line
 abbrev pub act : Hub → Head → List ℕ → Option Turn
 act hub (Feed name) rest = declaration_turn hub name rest
 act hub (Message feed n) rest = feed_number hub.plans feed >>= λ k.
     payload_at n rest >>= λ found. Some (offered_turn hub k found)
 act hub (Ask question) rest = Some (asked_turn hub question rest)
+act hub (Connection moment n) rest = payload_at n rest >>= λ found.
+    Some (served_turn hub moment (connection_of found.0 hub.given) found.1)
 act hub End rest = Some (record { said = []; hub = hub; rest = rest; ended = true })
 
 -- the whole record in front, if there is one
@@ -135,12 +175,13 @@ turn hub bytes = line_within longest_line bytes >>= λ line. head_of line.0 >>= 
     act hub head line.1
 
 -- the record of a line, whose payload isn't there yet, waits for it: it is a message for a feed
--- that is declared
+-- that is declared, or a connection
 abbrev pub payload_waits : Hub → Head → List ℕ → Bool
 payload_waits hub (Message feed n) rest =
     is_some (feed_number hub.plans feed) && nat_le (length rest) n
 payload_waits hub (Feed name) rest = false
 payload_waits hub (Ask question) rest = false
+payload_waits hub (Connection moment n) rest = nat_le (length rest) n
 payload_waits hub End rest = false
 
 -- what the line in front of bytes says is still to be whole

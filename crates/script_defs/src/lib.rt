@@ -5,7 +5,11 @@
 //! They compute, and `Examples` computes them on whole scripts. The `proofs/` have the laws by
 //! which a program that reads its input in pieces meets them.
 //!
-//! The crate has no code, and stands on `feed_defs`, whose history a script extends.
+//! Which items the input of a connection has is a relation. So a script's hub is given connections,
+//! each with its input and its items, and a record serves the first one of its own input.
+//!
+//! The crate has no code, and stands on `feed_defs`, whose history a script extends, and on
+//! `serve_defs` for what is written on a connection.
 #![tactic(auto)]
 
 ghost use Rattle.std.specs.Prelude.{ℕ};

@@ -1,2 +1,3 @@
 pub mod Questions
 pub mod Answers
+pub mod Connections

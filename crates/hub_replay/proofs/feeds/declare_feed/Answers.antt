@@ -1,4 +1,3 @@
-use Rattle.std.proofs.Common.{sym, ◌∙◌}
 use Rattle.hub_replay.proofs.Schedules.{declared_sound}
 use Rattle.hub_replay.proofs.feeds.declare_feed.Goals as goal
 

@@ -1,6 +1,4 @@
-use Rattle.std.proofs.Common.{sym, ◌∙◌, ap, subst, List, ℕ, Option}
-use Rattle.script_defs.specs.Lines.{Head, head_of_words}
-use Rattle.hub_replay.specs.Lines.{SaysHead}
+use Rattle.std.proofs.Common.{◌∙◌, ap}
 use Rattle.hub_replay.proofs.Texts.{bytes_of, head_passed, head_lacks, head_is}
 use Rattle.hub_replay.proofs.lines.parse_line.Goals as goal
 

@@ -1,4 +1,4 @@
-use Rattle.std.proofs.Common.{◌∙◌, sym}
+use Rattle.std.proofs.Common.{◌∙◌}
 use Rattle.hub_replay.proofs.Texts.{is_text, not_text}
 use Rattle.hub_replay.proofs.lines.word_text.Goals as goal
 

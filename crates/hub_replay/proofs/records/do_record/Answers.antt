@@ -1,4 +1,4 @@
-use Rattle.std.proofs.Common.{refl, sym}
+use Rattle.std.proofs.Common.{refl}
 use Rattle.hub_replay.proofs.Doing.{turns_of_line, lacks_line, no_head}
 use Rattle.hub_replay.proofs.records.do_record.Goals as goal
 

@@ -1,0 +1,54 @@
+#!/usr/bin/env bash
+# Times how fast requests are answered: scripts with 20 connections of 1,000 requests each, for a board of one row, for
+# one as JSON, and for what isn't there. Prints responses and MB a second of `hub replay`, less the time of a script that
+# ends at once, and beside it how long `cat` takes to copy what was written.
+# Needs the program built (./hub) and python3.
+set -eu
+top=$(cd "$(dirname "$0")/.." && pwd)
+work=$(mktemp -d)
+trap 'rm -rf "$work"' EXIT
+cd "$top"
+"$top/hub" > /dev/null 2>&1 < /dev/null || true   # builds it where it is missing
+
+# one measurement: what it is, and the target of its requests
+measure() {
+  python3 - "$top/hub" "$work" "$1" "$2" <<'PY'
+import subprocess, sys, time
+program, work, what, target = sys.argv[1:]
+connections, requests = 20, 1000
+request = f"GET {target} HTTP/1.1\r\nHost: hub\r\n\r\n".encode()
+served = b"Q 1743314000 %d\n" % (len(request) * requests) + request * requests + b"\n"
+
+
+def seconds(words, given, keep):
+    path = f"{work}/given"
+    with open(path, "wb") as file:
+        file.write(given)
+    best = None
+    for _ in range(5):
+        with open(path, "rb") as file, open(keep, "wb") as out:
+            began = time.monotonic()
+            status = subprocess.run(words, stdin=file, stdout=out, stderr=subprocess.DEVNULL).returncode
+            took = time.monotonic() - began
+        if status != 0:
+            sys.exit(f"serve.sh: status {status}")
+        best = took if best is None else min(best, took)
+    return best
+
+
+replay = [program, "replay", "samples/city.toml"]
+start = seconds(replay, b"E\n", f"{work}/none")
+took = seconds(replay, served * connections + b"E\n", f"{work}/answers") - start
+answers = open(f"{work}/answers", "rb").read()
+count = answers.count(b"\nX-Hub-Sequence: ")
+if count != connections * requests:
+    sys.exit(f"serve.sh: {count} responses")
+copied = seconds(["cat"], answers, f"{work}/copy")
+print(f"{what}: {count} responses, {len(answers) / 1e6:.1f} MB, in {took:.3f} s: {count / took:.0f} a second, "
+      f"{len(answers) / took / 1e6:.0f} MB a second; cat copies them in {copied:.4f} s, {took / copied:.0f} times less")
+PY
+}
+
+measure "a board of one row" "/board/city/S3?limit=1"
+measure "a board as JSON" "/board/city/ST?format=json"
+measure "a stop that isn't there" "/board/city/NO"
