@@ -51,7 +51,7 @@ output_by served (Some (ReplayWith path)) files input =
 output_by served (Some (Check path)) files input = check_output files path
 output_by served (Some (Board path asked)) files input =
     with_schedules (board_output asked) (schedules_at files path)
-output_by (Some (Gen seed trips messages)) files input = gen_output seed trips messages
+output_by served (Some (Gen seed trips messages)) files input = gen_output seed trips messages
 
 unfoldable pub offline : List Served → List (List ℕ) → List (List ℕ × List ℕ) → List ℕ → Output
 offline served words files input = output_by served (command_of words) files input
@@ -72,7 +72,8 @@ output_where_told served (Some (Check path)) files input =
     option_map (λ fs. check_output fs path) files
 output_where_told served (Some (Board path asked)) files input =
     option_map (λ fs. with_schedules (board_output asked) (schedules_at fs path)) files
-output_where_told (Some (Gen seed trips messages)) files input = Some (gen_output seed trips messages)
+output_where_told served (Some (Gen seed trips messages)) files input =
+    Some (gen_output seed trips messages)
 
 -- the line of a file that can't be read
 abbrev pub file_fault_line : List ℕ
