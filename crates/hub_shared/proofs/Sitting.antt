@@ -1,12 +1,12 @@
 -- What is true of seats.
 use Rattle.std.proofs.Common.{◌≡◌, ℕ, ◌+◌, ◌<◌, ◌≤◌, List, [], ◌∷◌, ◌++◌, length, map, Option, Some, None, refl, sym, ap, ◌∙◌, subst, arith}
-use Rattle.std.specs.Prelude.{unwrap_or}
+use Rattle.std.specs.Prelude.{unwrap_or, slice_index}
 use Rattle.std.specs.List.{last_or}
 use mathlib.Core.List.{IsPrefix}
 use Rattle.rt_types.specs.declared.message.FeedMessage.{FeedMessage}
 use Rattle.feed_defs.specs.declared.history.Entry.{Entry}
 use Rattle.feed_defs.specs.History.{IsLegal, messages_of, last_stamp, stamp_of}
-use Rattle.feed_permits.specs.Seen.{KeySeen, fresh_key}
+use Rattle.feed_permits.specs.Seen.{DeskSeen, KeySeen, fresh_key}
 use Rattle.hub_history.specs.Told.{Told, history_of, AreOne}
 use Rattle.hub_history.specs.Log.{entries_of}
 use Rattle.hub_history.specs.declared.item.LogItem.{LogItem}
@@ -38,6 +38,34 @@ module _ (key : KeySeen) (pass : PassSeen) (feed accepted last : ℕ) (receipt :
   -- what was published has no message of the feed that the seat's pass doesn't know
   pub known : (new : Told) → IsPrefix pass.line.log new.log → count_of feed (history_of new) ≤ accepted → messages_of feed (history_of new) ≡ messages_of feed (history_of pass.line)
   known new pre few = level feed (history_of pass.line) (history_of new) (prefix_begins pass.line.log new.log pre) (omega (arith, seat.counted, few))
+
+  -- what is said of the seat, once it was shown what was published
+  pub levelled : (new : Told) → IsPrefix pass.line.log new.log → count_of feed (history_of new) ≤ accepted
+      → Begins (history_at receipt) (history_of new) × (messages_of feed (history_of new) ≡ messages_of feed (history_at receipt))
+      × (count_of feed (history_of new) ≡ accepted) × (last_stamp feed (history_of new) ≡ last)
+  levelled new pre few =
+      let own = known new pre few in (
+        begins_trans (history_at receipt) (history_of pass.line) (history_of new) (newest_begins pass.line feed accepted receipt seat.newest) (prefix_begins pass.line.log new.log pre),
+        own ∙ newest_own pass.line feed accepted receipt seat.newest seat.counted,
+        ap (λ (ms : List FeedMessage). length ms) own ∙ seat.counted,
+        stamp_same feed (history_of new) (history_of pass.line) own ∙ seat.last_is,
+      )
+
+  -- what the desk agrees with the key
+  pub agreed : (desk desk' : DeskSeen) (key' : KeySeen) (count : ℕ) → slice_index desk'.counts key'.number ≤ key'.granted → desk' ≡ desk → key' ≡ key → slice_index desk.counts feed ≡ count → count ≤ accepted
+  agreed desk desk' key' count low same_desk same_key counts =
+      let at : slice_index desk'.counts key'.number ≡ count =
+          ap (λ (d : DeskSeen). slice_index d.counts key'.number) same_desk ∙ ap (λ (k : KeySeen). slice_index desk.counts k.number) same_key
+          ∙ ap (λ (n : ℕ). slice_index desk.counts n) seat.number ∙ counts in
+      let granted : key'.granted ≡ accepted = ap (λ (k : KeySeen). k.granted) same_key ∙ seat.granted in
+      omega (arith, low, at, granted)
+
+  -- the seat is of the hub that published it
+  pub one_hub : (hub : Ties) (new : Told) → hub.book ≡ pass.line.book → hub.plans ≡ pass.shown.plans → IsOf new hub → AreOne pass.line new
+  one_hub hub new book plans of = record {
+    book = sym book ∙ sym of.book;
+    feeds = seat.feeds ∙ sym (λ i. length (plans i).feeds) ∙ sym of.feeds;
+  }
 
   -- a seat that was shown what was published
   pub shown : (key' : KeySeen) (pass' : PassSeen) (new : Told) → key' ≡ key → pass'.line ≡ new → pass'.shown ≡ pass.shown → AreOne pass.line new

@@ -13,6 +13,7 @@ use crate::hub::Hub;
 use crate::locked::Locked;
 use crate::opened::Opened;
 use crate::seat::FeedSeat;
+use crate::tag::Tag;
 use board_core::HubView;
 use feed_permits::{Key, Permits, permits};
 use hub_state::HubCore;
@@ -70,7 +71,7 @@ fn feeds_of(view: &HubView) -> u32
 fn open<R: Wait>(
     rt: &R,
     alloc: Global,
-    locked: Locked,
+    mut locked: Locked,
     seats: Vec<FeedSeat>,
     passes: Vec<Pass>,
 ) -> Result<Opened, NoMemory>
@@ -78,7 +79,11 @@ fn open<R: Wait>(
     ensures seats { IfOk result (λ all. all.seats.items ≡ seats.items) }
     ensures passes { IfOk result (λ all. all.passes.items ≡ passes.items) }
 {
-    let tag = Snapshot::of(&locked);
+    let tag = Tag {
+        receipt: locked.publisher.tell(),
+        desk: Snapshot::of(&locked.desk),
+        core: Snapshot::of(&locked.core),
+    };
     match KeyedLock::new(alloc, locked, &tag) {
         Ok(lock) => Ok(Opened {
             hub: Hub { lock },
