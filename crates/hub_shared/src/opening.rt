@@ -49,7 +49,7 @@ pub fn open_hub<R: Wait>(
         publisher,
         desk,
     };
-    match seats_of(alloc, &locked, keys, passes, feeds) {
+    match seats_of(alloc, &locked, keys, passes) {
         Ok((seats, passes)) => open(rt, alloc, locked, seats, passes),
         Err(error) => {
             give_up(rt, locked);
@@ -100,20 +100,18 @@ fn open<R: Wait>(
 /// A seat for each feed, with a key and a pass, and the passes that are left.
 fn seats_of(
     alloc: Global,
-    _hub: &Locked,
+    hub: &Locked,
     keys: Vec<Key>,
     passes: Vec<Pass>,
-    feeds: u32,
 ) -> Result<(Vec<FeedSeat>, Vec<Pass>), NoMemory>
-    requires keys { keys.items ≡ fresh_keys _hub.now.table 64 }
-    requires passes { All (λ pass. IsFresh _hub.now pass) passes.items }
-    requires feeds { feeds ≡ length _hub.now.plans.feeds }
-    requires few { feeds ≤ 64 }
-    requires enough { feeds ≤ vec_len passes }
-    ensures seats { IfOk result (λ all. all.0.items ≡ fresh_seats _hub.now) }
-    ensures count { IfOk result (λ all. vec_len all.1 + feeds ≡ vec_len passes) }
-    ensures passes { IfOk result (λ all. All (λ pass. IsFresh _hub.now pass) all.1.items) }
+    requires keys { keys.items ≡ fresh_keys hub.now.table 64 }
+    requires passes { All (λ pass. IsFresh hub.now pass) passes.items }
+    requires enough { length hub.now.plans.feeds ≤ vec_len passes }
+    ensures seats { IfOk result (λ all. all.0.items ≡ fresh_seats hub.now) }
+    ensures count { IfOk result (λ all. vec_len all.1 + length hub.now.plans.feeds ≡ vec_len passes) }
+    ensures passes { IfOk result (λ all. All (λ pass. IsFresh hub.now pass) all.1.items) }
 {
+    let feeds = feeds_of(hub.core.view());
     let mut seats = Vec::with_capacity(alloc, feeds as usize)?;
     let mut left = passes;
     let mut feed = 0;
