@@ -17,7 +17,7 @@ use Rattle.hub_shared.specs.Calls.{IsSound, HasReceipt, Receives}
 use Rattle.hub_shared.proofs.Fronts.{begins_append, begins_trans, prefix_begins, level, none_left}
 
 -- no message of any feed
-nothing_of : (feed : ℕ) → messages_of feed [] ≡ []
+pub nothing_of : (feed : ℕ) → messages_of feed [] ≡ []
 unfolding messages_of
 nothing_of feed = refl
 
@@ -92,30 +92,6 @@ module _ (key : KeySeen) (pass : PassSeen) (feed accepted last : ℕ) (receipt :
         counted = newest.counted;
         legal = newest.legal;
       }
-
-  -- a seat that knows of one message more
-  pub counts : (key' : KeySeen) (pass' : PassSeen) (new : Told) (stamp : ℕ) → key'.number ≡ key.number → key'.granted ≡ key.granted + 1 → pass'.line ≡ new → pass'.shown ≡ pass.shown → AreOne pass.line new
-      → count_of feed (history_of new) ≡ accepted + 1 → last_stamp feed (history_of new) ≡ stamp → IsLegal new.feeds (history_of new) → IsSeat key' pass' feed (accepted + 1) stamp (Some new)
-  counts key' pass' new stamp number granted line view hub more stamped legal = record {
-    number = number ∙ seat.number;
-    granted = granted ∙ ap (λ (n : ℕ). n + 1) seat.granted;
-    feeds = ap (λ (t : Told). t.feeds) line ∙ sym hub.feeds ∙ seat.feeds ∙ sym (λ i. length (view i).plans.feeds);
-    one = subst (λ (n : ℕ). feed < n) (hub.feeds ∙ sym (ap (λ (t : Told). t.feeds) line)) seat.one;
-    few = subst (λ (n : ℕ). n ≤ 64) (hub.feeds ∙ sym (ap (λ (t : Told). t.feeds) line)) seat.few;
-    counted = ap (λ (t : Told). count_of feed (history_of t)) line ∙ more;
-    last_is = ap (λ (t : Told). last_stamp feed (history_of t)) line ∙ stamped;
-    newest = subst (λ (t : Told). Newest t feed (accepted + 1) (Some new)) (sym line) (record {
-      hub = record { book = refl; feeds = refl };
-      some = omega arith;
-      begins = whole (history_of new);
-      counted = more;
-      legal = legal;
-    });
-  }
-    where
-      whole : (h : List Entry) → Begins h h
-      whole [] = refl
-      whole (x ∷ h) = ap (λ (zs : List Entry). x ∷ zs) (whole h)
 
   -- what every seat tells
   pub sounds : (hub : Ties) → hub.book ≡ pass.line.book → hub.plans ≡ pass.shown.plans → IsSound (record { ties = hub; feed = feed; accepted = accepted; last = last; receipt = receipt })
