@@ -10,9 +10,9 @@ use Rattle.hub_history.specs.declared.item.LogItem.TheVariants.{Accepted}
 use Rattle.hub_history.specs.declared.item.LogItem.TheVariants.{Ended}
 use Rattle.hub_history.proofs.Logs.{entries_append, entries_closed}
 use Rattle.feed_defs.specs.History.{messages_of}
-use Rattle.snapshot_cell.specs.Seen.{Publishing}
-use Rattle.hub_shared.specs.Seats.{SeatSeen, history_at, count_of, Begins}
-use Rattle.hub_shared.specs.Calls.{Ends}
+use Rattle.snapshot_cell.specs.Seen.{PassSeen, Publishing}
+use Rattle.hub_shared.specs.Seats.{Ties, SeatSeen, history_at, count_of, Begins}
+use Rattle.hub_shared.specs.Calls.{Ends, IsFresh}
 
 -- the first of the keys that are left, and the others
 pub first_key : (table : TableId) (a : ℕ) (key : KeySeen) (keys : List KeySeen) → key ∷ keys ≡ map (fresh_key table) (range_with_len a (length (key ∷ keys)))
@@ -43,3 +43,8 @@ pub closes : {E : Type 0} (r : Result Told E) (p p' : Publishing) (seats : List 
 closes (Ok t) p p' seats is same ends =
     λ i none within. ended (slice_index_or seats i none) p.line t (ends i none within) (is ∙ ap (λ (q : Publishing). record q.line { log = q.line.log ++ Ended ∷ [] }) same)
 closes (Err x) p p' seats is same ends = tt
+
+-- a seat with a fresh pass and a key of the hub is of the hub
+pub ties_are : (hub : Ties) (pass : PassSeen) (key : KeySeen) → IsFresh hub pass → key.table ≡ hub.table
+    → ◌≡◌ {A = Ties} (record { book = pass.line.book; table = key.table; plans = pass.shown.plans }) hub
+ties_are hub pass key fresh table = λ i. record { book = fresh.of.book i; table = table i; plans = (fresh.shown i).plans }
