@@ -40,7 +40,7 @@ pub messages_append : (feed : ℕ) (xs ys : List Entry) → messages_of feed (xs
 unfolding messages_of
 messages_append feed xs ys = filter_map-append (message_of feed) xs ys
 
-none_left : (xs : List FeedMessage) → length xs ≡ 0 → xs ≡ []
+pub none_left : (xs : List FeedMessage) → length xs ≡ 0 → xs ≡ []
 none_left [] e = refl
 none_left (x ∷ xs) e = absurd (omega arith)
 

@@ -1,3 +1,4 @@
 mod Fronts
 mod Sitting
 mod Taking
+mod Dealt

@@ -1,12 +1,12 @@
 -- What is true of seats.
 use Rattle.std.proofs.Common.{◌≡◌, ℕ, ◌+◌, ◌<◌, ◌≤◌, List, [], ◌∷◌, ◌++◌, length, map, Option, Some, None, refl, sym, ap, ◌∙◌, subst, arith}
-use Rattle.std.specs.Prelude.{unwrap_or}
+use Rattle.std.specs.Prelude.{unwrap_or, slice_index}
 use Rattle.std.specs.List.{last_or}
 use mathlib.Core.List.{IsPrefix}
 use Rattle.rt_types.specs.declared.message.FeedMessage.{FeedMessage}
 use Rattle.feed_defs.specs.declared.history.Entry.{Entry}
 use Rattle.feed_defs.specs.History.{IsLegal, messages_of, last_stamp, stamp_of}
-use Rattle.feed_permits.specs.Seen.{KeySeen, fresh_key}
+use Rattle.feed_permits.specs.Seen.{DeskSeen, KeySeen, fresh_key}
 use Rattle.hub_history.specs.Told.{Told, history_of, AreOne}
 use Rattle.hub_history.specs.Log.{entries_of}
 use Rattle.hub_history.specs.declared.item.LogItem.{LogItem}
@@ -17,7 +17,7 @@ use Rattle.hub_shared.specs.Calls.{IsSound, HasReceipt, Receives}
 use Rattle.hub_shared.proofs.Fronts.{begins_append, begins_trans, prefix_begins, level, none_left}
 
 -- no message of any feed
-nothing_of : (feed : ℕ) → messages_of feed [] ≡ []
+pub nothing_of : (feed : ℕ) → messages_of feed [] ≡ []
 unfolding messages_of
 nothing_of feed = refl
 
@@ -38,6 +38,34 @@ module _ (key : KeySeen) (pass : PassSeen) (feed accepted last : ℕ) (receipt :
   -- what was published has no message of the feed that the seat's pass doesn't know
   pub known : (new : Told) → IsPrefix pass.line.log new.log → count_of feed (history_of new) ≤ accepted → messages_of feed (history_of new) ≡ messages_of feed (history_of pass.line)
   known new pre few = level feed (history_of pass.line) (history_of new) (prefix_begins pass.line.log new.log pre) (omega (arith, seat.counted, few))
+
+  -- what is said of the seat, once it was shown what was published
+  pub levelled : (new : Told) → IsPrefix pass.line.log new.log → count_of feed (history_of new) ≤ accepted
+      → Begins (history_at receipt) (history_of new) × (messages_of feed (history_of new) ≡ messages_of feed (history_at receipt))
+      × (count_of feed (history_of new) ≡ accepted) × (last_stamp feed (history_of new) ≡ last)
+  levelled new pre few =
+      let own = known new pre few in (
+        begins_trans (history_at receipt) (history_of pass.line) (history_of new) (newest_begins pass.line feed accepted receipt seat.newest) (prefix_begins pass.line.log new.log pre),
+        own ∙ newest_own pass.line feed accepted receipt seat.newest seat.counted,
+        ap (λ (ms : List FeedMessage). length ms) own ∙ seat.counted,
+        stamp_same feed (history_of new) (history_of pass.line) own ∙ seat.last_is,
+      )
+
+  -- what the desk agrees with the key
+  pub agreed : (desk desk' : DeskSeen) (key' : KeySeen) (count : ℕ) → slice_index desk'.counts key'.number ≤ key'.granted → desk' ≡ desk → key' ≡ key → slice_index desk.counts feed ≡ count → count ≤ accepted
+  agreed desk desk' key' count low same_desk same_key counts =
+      let at : slice_index desk'.counts key'.number ≡ count =
+          ap (λ (d : DeskSeen). slice_index d.counts key'.number) same_desk ∙ ap (λ (k : KeySeen). slice_index desk.counts k.number) same_key
+          ∙ ap (λ (n : ℕ). slice_index desk.counts n) seat.number ∙ counts in
+      let granted : key'.granted ≡ accepted = ap (λ (k : KeySeen). k.granted) same_key ∙ seat.granted in
+      omega (arith, low, at, granted)
+
+  -- the seat is of the hub that published it
+  pub one_hub : (hub : Ties) (new : Told) → hub.book ≡ pass.line.book → hub.plans ≡ pass.shown.plans → IsOf new hub → AreOne pass.line new
+  one_hub hub new book plans of = record {
+    book = sym book ∙ sym of.book;
+    feeds = seat.feeds ∙ sym (λ i. length (plans i).feeds) ∙ sym of.feeds;
+  }
 
   -- a seat that was shown what was published
   pub shown : (key' : KeySeen) (pass' : PassSeen) (new : Told) → key' ≡ key → pass'.line ≡ new → pass'.shown ≡ pass.shown → AreOne pass.line new
@@ -64,30 +92,6 @@ module _ (key : KeySeen) (pass : PassSeen) (feed accepted last : ℕ) (receipt :
         counted = newest.counted;
         legal = newest.legal;
       }
-
-  -- a seat that knows of one message more
-  pub counts : (key' : KeySeen) (pass' : PassSeen) (new : Told) (stamp : ℕ) → key'.number ≡ key.number → key'.granted ≡ key.granted + 1 → pass'.line ≡ new → pass'.shown ≡ pass.shown → AreOne pass.line new
-      → count_of feed (history_of new) ≡ accepted + 1 → last_stamp feed (history_of new) ≡ stamp → IsLegal new.feeds (history_of new) → IsSeat key' pass' feed (accepted + 1) stamp (Some new)
-  counts key' pass' new stamp number granted line view hub more stamped legal = record {
-    number = number ∙ seat.number;
-    granted = granted ∙ ap (λ (n : ℕ). n + 1) seat.granted;
-    feeds = ap (λ (t : Told). t.feeds) line ∙ sym hub.feeds ∙ seat.feeds ∙ sym (λ i. length (view i).plans.feeds);
-    one = subst (λ (n : ℕ). feed < n) (hub.feeds ∙ sym (ap (λ (t : Told). t.feeds) line)) seat.one;
-    few = subst (λ (n : ℕ). n ≤ 64) (hub.feeds ∙ sym (ap (λ (t : Told). t.feeds) line)) seat.few;
-    counted = ap (λ (t : Told). count_of feed (history_of t)) line ∙ more;
-    last_is = ap (λ (t : Told). last_stamp feed (history_of t)) line ∙ stamped;
-    newest = subst (λ (t : Told). Newest t feed (accepted + 1) (Some new)) (sym line) (record {
-      hub = record { book = refl; feeds = refl };
-      some = omega arith;
-      begins = whole (history_of new);
-      counted = more;
-      legal = legal;
-    });
-  }
-    where
-      whole : (h : List Entry) → Begins h h
-      whole [] = refl
-      whole (x ∷ h) = ap (λ (zs : List Entry). x ∷ zs) (whole h)
 
   -- what every seat tells
   pub sounds : (hub : Ties) → hub.book ≡ pass.line.book → hub.plans ≡ pass.shown.plans → IsSound (record { ties = hub; feed = feed; accepted = accepted; last = last; receipt = receipt })

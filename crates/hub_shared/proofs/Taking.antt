@@ -1,21 +1,23 @@
 -- A message that is taken in keeps what is true under the lock.
-use Rattle.std.proofs.Common.{◌≡◌, ◌≢◌, ◌⊎◌, ⊎_elim, ℕ, ◌+◌, ◌<◌, ◌≤◌, List, [], ◌∷◌, ◌++◌, length, get_or, set, Bool, true, false, Option, Some, None, IsTrue, refl, sym, ap, ◌∙◌, subst, arith, length-set, length-append, get_or-set_same, get_or-set_other}
+use Rattle.std.proofs.Common.{◌≡◌, ◌≢◌, zero, suc, replicate, ◌⊎◌, ⊎_elim, ℕ, ◌+◌, ◌<◌, ◌≤◌, List, [], ◌∷◌, ◌++◌, length, get_or, set, Bool, true, false, Option, Some, None, IsTrue, refl, sym, ap, ◌∙◌, subst, arith, length-set, length-append, get_or-set_same, get_or-set_other}
 use Rattle.std.specs.Prelude.{slice_index, slice_set}
 use Rattle.std.proofs.lemmas.Bool.{and_parts}
-use lemmas.Bool.Decides.{nat_tests}
+use Rattle.std.proofs.lemmas.Bool.Decides.{nat_tests}
 use Rattle.text_defs.specs.Moments.{last_moment, is_stamp}
 use Rattle.rt_types.specs.declared.message.FeedMessage.{FeedMessage}
 use Rattle.feed_defs.specs.declared.history.Entry.{Entry}
 use Rattle.feed_defs.specs.History.{IsLegal, messages_of, last_stamp, stamp_of, is_sound, has_version, has_moment}
-use Rattle.feed_defs.proofs.Legal.{grown, messages_of-own, messages_of-other, last_stamp-own, legal_more, same_or_not}
+use Rattle.feed_defs.proofs.Legal.{empty_legal, grown, messages_of-own, messages_of-other, last_stamp-own, legal_more, same_or_not}
 use Rattle.board_defs.specs.Views.{HubKept, StandsFor, feed_at}
 use Rattle.board_defs.proofs.ViewLaws.{fold_at}
 use Rattle.feed_permits.specs.Seen.{DeskSeen}
+use Rattle.hub_history.specs.Log.{entries_of}
 use Rattle.hub_history.specs.Told.{Told, history_of, AreOne}
 use Rattle.snapshot_cell.specs.Seen.{Publishing}
 use Rattle.hub_shared.specs.Seats.{Ties, IsOf, SeatSeen, history_at, count_of, Begins}
 use Rattle.hub_shared.specs.Kept.{IsLocked}
 use Rattle.hub_shared.specs.Calls.{Takes}
+use Rattle.hub_shared.proofs.Sitting.{nothing_of}
 
 -- a sound message has a moment
 pub moment_of : (m : FeedMessage) → is_sound m ≡ true → IsTrue (is_stamp (stamp_of m))
@@ -98,3 +100,41 @@ module _ (core : HubKept) (publisher : Publishing) (desk : DeskSeen) (locked : I
           ∙ ap (λ (n : ℕ). messages_of n (history_at old.receipt) ++ m ∷ []) (sym feed_is);
       seat = seat;
     }
+
+-- the same of names for the same things
+pub legal_moved : (p p' : Publishing) (f f' : ℕ) (m m' : FeedMessage) → p' ≡ p → f' ≡ f → m' ≡ m → IsLegal p.line.feeds (grown (history_of p.line) f m) → IsLegal p'.line.feeds (grown (history_of p'.line) f' m')
+legal_moved p p' f f' m m' e g h legal =
+    subst (λ (x : FeedMessage). IsLegal p'.line.feeds (grown (history_of p'.line) f' x)) (sym h)
+    (subst (λ (n : ℕ). IsLegal p'.line.feeds (grown (history_of p'.line) n m)) (sym g)
+    (subst (λ (q : Publishing). IsLegal q.line.feeds (grown (history_of q.line) f m)) (sym e) legal))
+
+pub stands_moved : (p p' : Publishing) (f : ℕ) (m m' : FeedMessage) (kept kept' : HubKept) → p' ≡ p → m' ≡ m → kept' ≡ kept → StandsFor (grown (history_of p.line) f m) kept → StandsFor (grown (history_of p'.line) f m') kept'
+stands_moved p p' f m m' kept kept' e h same stands =
+    subst (λ (x : FeedMessage). StandsFor (grown (history_of p'.line) f x) kept') (sym h)
+    (subst (λ (q : Publishing). StandsFor (grown (history_of q.line) f m) kept') (sym e)
+    (subst (λ (k : HubKept). StandsFor (grown (history_of p.line) f m) k) (sym same) stands))
+
+pub grown_moved : (p p' : Publishing) (f f' : ℕ) (m m' : FeedMessage) → p' ≡ p → f' ≡ f → m' ≡ m → grown (history_of p'.line) f' m' ≡ grown (history_of p.line) f m
+grown_moved p p' f f' m m' e g h =
+    ap (λ (x : FeedMessage). grown (history_of p'.line) f' x) h
+    ∙ ap (λ (n : ℕ). grown (history_of p'.line) n m) g
+    ∙ ap (λ (q : Publishing). grown (history_of q.line) f m) e
+
+-- what is kept of a hub that accepted nothing
+pub locked_first : (core view : HubKept) (publisher : Publishing) (desk : DeskSeen) → StandsFor [] core → view ≡ core → publisher.line.log ≡ [] → publisher.line.feeds ≡ length view.plans.feeds → publisher.plans ≡ view.plans
+    → desk.counts ≡ replicate 64 0 → IsLocked core publisher desk
+locked_first core view publisher desk stands same log feeds plans counts =
+    let none : history_of publisher.line ≡ [] = ap entries_of log in
+    record {
+      stands = subst (λ (h : List Entry). StandsFor h core) (sym none) stands;
+      plans = plans ∙ ap (λ (k : HubKept). k.plans) same;
+      feeds = feeds ∙ ap (λ (k : HubKept). length k.plans.feeds) same;
+      legal = subst (λ (h : List Entry). IsLegal publisher.line.feeds h) (sym none) (empty_legal publisher.line.feeds);
+      wide = ap length counts;
+      counts = λ k within. ap (λ (xs : List ℕ). slice_index xs k) counts ∙ zeros 64 k ∙ sym (ap length (nothing_of k)) ∙ sym (ap (λ (h : List Entry). count_of k h) none);
+    }
+  where
+    zeros : (n k : ℕ) → slice_index (replicate n 0) k ≡ 0
+    zeros zero k = refl
+    zeros (suc n) zero = refl
+    zeros (suc n) (suc k) = zeros n k

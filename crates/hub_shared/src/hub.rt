@@ -1,13 +1,13 @@
 //! The hub.
 
 use crate::locked::Locked;
+use crate::tag::Tag;
 use keyed_lock::KeyedLock;
 use std::marker::Model;
-use std::snapshot::Snapshot;
 
 /// A hub that threads share. A contract sees which one it is. It is not dropped: it ends by `close_hub`.
 pub struct Hub {
-    pub(crate) lock: KeyedLock<Locked, Snapshot<Locked>>,
+    pub(crate) lock: KeyedLock<Locked, Tag>,
 }
 
 impl Model for Hub {
@@ -16,5 +16,5 @@ impl Model for Hub {
 
     ghost Value = { Ties };
 
-    ghost view = { λ hub. (key_of hub.lock).value };
+    ghost view = { λ hub. key_of hub.lock };
 }

@@ -25,8 +25,7 @@ mod opened;
 mod opening;
 mod publishing;
 mod seat;
-#[cfg(test)]
-mod tests;
+mod tag;
 
 pub use closing::close_hub;
 pub use hub::Hub;

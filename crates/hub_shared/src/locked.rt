@@ -8,6 +8,7 @@ ghost use Rattle.hub_shared.specs.Calls.{Takes};
 use crate::NoMemory;
 use crate::publishing::publish;
 use crate::seat::FeedSeat;
+use crate::tag::Tag;
 use board_core::HubView;
 use feed_permits::Desk;
 use hub_state::HubCore;
@@ -41,10 +42,10 @@ impl Model for Locked {
     ghost invariant = { λ locked. IsLocked locked.core locked.publisher locked.desk };
 }
 
-impl Keyed<Snapshot<Locked>> for Locked {
+impl Keyed<Tag> for Locked {
     ghost use Rattle.std.specs.Prelude.{◌≡◌};
 
-    ghost fits = { λ tag locked. locked ≡ tag.value };
+    ghost fits = { λ tag locked. locked ≡ tag };
 }
 
 impl Locked {

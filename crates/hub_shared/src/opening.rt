@@ -13,6 +13,7 @@ use crate::hub::Hub;
 use crate::locked::Locked;
 use crate::opened::Opened;
 use crate::seat::FeedSeat;
+use crate::tag::Tag;
 use board_core::HubView;
 use feed_permits::{Key, Permits, permits};
 use hub_state::HubCore;
@@ -48,7 +49,7 @@ pub fn open_hub<R: Wait>(
         publisher,
         desk,
     };
-    match seats_of(alloc, &locked, keys, passes, feeds) {
+    match seats_of(alloc, &locked, keys, passes) {
         Ok((seats, passes)) => open(rt, alloc, locked, seats, passes),
         Err(error) => {
             give_up(rt, locked);
@@ -70,7 +71,7 @@ fn feeds_of(view: &HubView) -> u32
 fn open<R: Wait>(
     rt: &R,
     alloc: Global,
-    locked: Locked,
+    mut locked: Locked,
     seats: Vec<FeedSeat>,
     passes: Vec<Pass>,
 ) -> Result<Opened, NoMemory>
@@ -78,7 +79,11 @@ fn open<R: Wait>(
     ensures seats { IfOk result (λ all. all.seats.items ≡ seats.items) }
     ensures passes { IfOk result (λ all. all.passes.items ≡ passes.items) }
 {
-    let tag = Snapshot::of(&locked);
+    let tag = Tag {
+        receipt: locked.publisher.tell(),
+        desk: Snapshot::of(&locked.desk),
+        core: Snapshot::of(&locked.core),
+    };
     match KeyedLock::new(alloc, locked, &tag) {
         Ok(lock) => Ok(Opened {
             hub: Hub { lock },
@@ -95,20 +100,18 @@ fn open<R: Wait>(
 /// A seat for each feed, with a key and a pass, and the passes that are left.
 fn seats_of(
     alloc: Global,
-    _hub: &Locked,
+    hub: &Locked,
     keys: Vec<Key>,
     passes: Vec<Pass>,
-    feeds: u32,
 ) -> Result<(Vec<FeedSeat>, Vec<Pass>), NoMemory>
-    requires keys { keys.items ≡ fresh_keys _hub.now.table 64 }
-    requires passes { All (λ pass. IsFresh _hub.now pass) passes.items }
-    requires feeds { feeds ≡ length _hub.now.plans.feeds }
-    requires few { feeds ≤ 64 }
-    requires enough { feeds ≤ vec_len passes }
-    ensures seats { IfOk result (λ all. all.0.items ≡ fresh_seats _hub.now) }
-    ensures count { IfOk result (λ all. vec_len all.1 + feeds ≡ vec_len passes) }
-    ensures passes { IfOk result (λ all. All (λ pass. IsFresh _hub.now pass) all.1.items) }
+    requires keys { keys.items ≡ fresh_keys hub.now.table 64 }
+    requires passes { All (λ pass. IsFresh hub.now pass) passes.items }
+    requires enough { length hub.now.plans.feeds ≤ vec_len passes }
+    ensures seats { IfOk result (λ all. all.0.items ≡ fresh_seats hub.now) }
+    ensures count { IfOk result (λ all. vec_len all.1 + length hub.now.plans.feeds ≡ vec_len passes) }
+    ensures passes { IfOk result (λ all. All (λ pass. IsFresh hub.now pass) all.1.items) }
 {
+    let feeds = feeds_of(hub.core.view());
     let mut seats = Vec::with_capacity(alloc, feeds as usize)?;
     let mut left = passes;
     let mut feed = 0;
