@@ -140,19 +140,23 @@ short_outcome None before = record {
   no_memory = λ _. Appends-nil before.output.told;
   output_count = omega arith;
 }
-short_outcome (Some Replay) before = ([], All-nil IsServed, λ later. record {
-  is_status = inr (inr (inr (inl refl)));
-  whole = elim [ inl f ↦ absurd (omega arith) | inr f ↦ absurd (omega arith) ];
-  input_fault = λ f. absurd (omega arith);
-  output_fault = λ f. absurd (omega arith);
-  no_memory = λ _. (
-    unwrap_or before.input.told [],
-    record { taken = []; read = Consumes-nil before.input.told; within = omega arith; all = refl },
-    (0, Appends-nil before.output.told),
-  );
-  input_count = omega arith;
-  output_count = omega arith;
-})
+short_outcome (Some Replay) before = (
+  [],
+  All-nil IsServed,
+  λ later. record {
+    is_status = inr (inr (inr (inl refl)));
+    whole = elim [ inl f ↦ absurd (omega arith) | inr f ↦ absurd (omega arith) ];
+    input_fault = λ f. absurd (omega arith);
+    output_fault = λ f. absurd (omega arith);
+    no_memory = λ _. (
+      unwrap_or before.input.told [],
+      record { taken = []; read = Consumes-nil before.input.told; within = omega arith; all = refl },
+      (0, Appends-nil before.output.told),
+    );
+    input_count = omega arith;
+    output_count = omega arith;
+  },
+)
 short_outcome (Some (ReplayWith path)) before =
     inl (load_short path before.files before.files before.output before.output (omega arith) refl, refl)
 short_outcome (Some (Board path asked)) before =

@@ -30,7 +30,12 @@ fn serves(alloc: Global, input: &str, responses: &[&str], end: &str) -> Result<b
     for response in responses {
         written.push_str(response)?;
     }
-    let told = format!(in alloc; "connection {} {}\n{}\n", written.len(), end, written.as_str())?;
+    let told = format!(in alloc;
+        "connection {} {}\n{}\n",
+        written.len(),
+        end,
+        written.as_str()
+    )?;
     plays(alloc, script.as_bytes(), &told)
 }
 

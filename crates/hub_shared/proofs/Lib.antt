@@ -1,0 +1,4 @@
+mod Fronts
+mod Sitting
+mod Taking
+mod Dealt
