@@ -37,7 +37,7 @@ fn trips_go_at_noon(rt: HostRuntime) -> Result<(), Fail> {
 }
 
 /// The file at that path.
-fn file_at(sample: &Sample, path: &str) -> Option<&[u8]> {
+fn file_at<'a>(sample: &'a Sample, path: &str) -> Option<&'a [u8]> {
     for file in &sample.files {
         if file.path.as_str() == path {
             return Some(file.bytes.as_slice());
