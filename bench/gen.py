@@ -14,14 +14,8 @@ PROGRAM = sys.argv[1]
 SEED = "7"
 SIZES = [tuple(map(int, word.split(":"))) for word in sys.argv[2:]] or [
     (1000, 1000), (5000, 1000), (20000, 200), (20000, 2000)]
-# Parts of a run by the functions that do them; what these call counts as theirs.
-PARTS = [
-    ("making the files", "files_of"),
-    ("making the messages", "offers_of"),
-    ("loading", "plan_of"),
-    ("offering", "offer_all"),
-    ("boards", "board_rows"),
-]
+OFFER = "hub_state::replay::ReplayHub::offer"
+ROWS = "board_core::board::rows"
 
 
 def run(trips, messages):
@@ -41,55 +35,57 @@ def run(trips, messages):
 
 
 def counted(trips, messages):
-    """All instructions of a run, and those of each part; nothing where valgrind is not there."""
-    if not shutil.which("valgrind"):
-        return None
+    """The instructions of a run, and how many of them offering the messages and asking for the boards take."""
     with tempfile.TemporaryDirectory() as work:
-        out = os.path.join(work, "calls")
+        calls = os.path.join(work, "calls")
         subprocess.run(
-            ["valgrind", "--tool=callgrind", f"--callgrind-out-file={out}", PROGRAM, "gen", SEED, str(trips), str(messages)],
+            ["valgrind", "--tool=callgrind", f"--callgrind-out-file={calls}",
+             PROGRAM, "gen", SEED, str(trips), str(messages)],
             stdin=subprocess.DEVNULL, capture_output=True, check=True,
         )
         said = subprocess.run(
-            ["callgrind_annotate", "--inclusive=yes", "--threshold=100", out], capture_output=True, text=True, check=True,
+            ["callgrind_annotate", "--inclusive=yes", "--threshold=100", calls],
+            capture_output=True, text=True, check=True,
         ).stdout
-    whole = int(re.search(r"^ *([\d,]+).*PROGRAM TOTALS", said, re.M).group(1).replace(",", ""))
-    parts = {}
-    for name, function in PARTS:
-        costs = [int(line.replace(",", "")) for line in re.findall(rf"^ *([\d,]+) .*hub_gen[^\n]*\b{function}\b", said, re.M)]
-        if costs:
-            parts[name] = max(costs)
-    return whole, parts
+
+    def cost(name):
+        found = re.search(rf"^ *([\d,]+) .*{re.escape(name)}\b", said, re.M)
+        return int(found.group(1).replace(",", "")) if found else 0
+
+    return cost("PROGRAM TOTALS"), cost(OFFER), cost(ROWS)
 
 
-def slope(what, before, after):
-    if before[0] != after[0] and before[1] > 0 and after[1] > 0:
-        print(f"{what}: slope {math.log(after[1] / before[1]) / math.log(after[0] / before[0]):.2f}")
+def parts(trips, messages):
+    """What each part of a run takes, in instructions. A run of one message tells what the timetable takes."""
+    whole, offering, boards = counted(trips, messages)
+    alone, offering_one, boards_one = counted(trips, 1)
+    timetable = alone - offering_one - boards_one
+    return {
+        "making and loading the timetable": (timetable, "a stop time", 20 * trips),
+        "making the messages": (whole - timetable - offering - boards, "a message", messages),
+        "offering them": (offering, "a message", messages),
+        "boards": (boards, "a board", 10),
+    }
 
 
 def main():
-    found = {}
+    points = {}
     for trips, messages in SIZES:
         line, seconds, peak = run(trips, messages)
         print(line)
         print(f"  {seconds:.2f} s of CPU, {peak:.0f} MiB")
-        count = counted(trips, messages)
-        if count:
-            whole, parts = count
-            print(f"  {whole / 1e6:,.0f} million instructions")
-            for name, cost in parts.items():
-                each = {"loading": cost / (20 * trips), "making the files": cost / (20 * trips),
-                        "offering": cost / messages, "making the messages": cost / messages, "boards": cost / 10}[name]
-                of = {"loading": "a stop time", "making the files": "a stop time", "offering": "a message",
-                      "making the messages": "a message", "boards": "a board"}[name]
-                print(f"    {name}: {cost / 1e6:,.0f} million, {each:,.0f} {of}")
-            found[trips, messages] = parts
-    sizes = sorted(found)
-    for part, size in (("loading", 0), ("making the files", 0), ("offering", 1), ("making the messages", 1)):
-        if all(part in found[s] for s in sizes):
-            points = sorted({s[size]: found[s][part] for s in sizes}.items())
-            for before, after in zip(points, points[1:]):
-                slope(f"{part}, {before[0]:,} to {after[0]:,} {'trips' if size == 0 else 'messages'}", before, after)
+        if not shutil.which("valgrind"):
+            continue
+        for name, (cost, of, count) in parts(trips, messages).items():
+            print(f"  {name}: {cost / 1e6:,.0f} million instructions, {cost / count:,.0f} {of}")
+            if name != "boards":
+                points.setdefault(name, {})[count] = cost
+    for name, costs in points.items():
+        sizes = sorted(costs)
+        for before, after in zip(sizes, sizes[1:]):
+            if costs[before] > 0 and costs[after] > 0:
+                slope = math.log(costs[after] / costs[before]) / math.log(after / before)
+                print(f"{name}, {before:,} to {after:,}: slope {slope:.2f}")
 
 
 main()
