@@ -11,7 +11,7 @@ use Rattle.hub_history.specs.declared.item.LogItem.TheVariants.{Ended}
 use Rattle.hub_history.proofs.Logs.{entries_append, entries_closed}
 use Rattle.feed_defs.specs.History.{messages_of}
 use Rattle.snapshot_cell.specs.Seen.{PassSeen, Publishing}
-use Rattle.hub_shared.specs.Seats.{Ties, SeatSeen, history_at, count_of, Begins}
+use Rattle.hub_shared.specs.Seats.{Ties, IsOf, SeatSeen, history_at, count_of, Begins}
 use Rattle.hub_shared.specs.Calls.{Ends, IsFresh}
 
 -- the first of the keys that are left, and the others
@@ -48,3 +48,11 @@ closes (Err x) p p' seats is same ends = tt
 pub ties_are : (hub : Ties) (pass : PassSeen) (key : KeySeen) → IsFresh hub pass → key.table ≡ hub.table
     → ◌≡◌ {A = Ties} (record { book = pass.line.book; table = key.table; plans = pass.shown.plans }) hub
 ties_are hub pass key fresh table = λ i. record { book = fresh.of.book i; table = table i; plans = (fresh.shown i).plans }
+
+-- the ended history is of the hub that published it
+pub closes_hub : {E : Type 0} (r : Result Told E) (p p' : Publishing) (hub : Ties) → IfOk r (λ t. t ≡ record p'.line { log = p'.line.log ++ Ended ∷ [] }) → p' ≡ p → IsOf p.line hub → IfOk r (λ t. IsOf t hub)
+closes_hub (Ok t) p p' hub is same of = record {
+  book = ap (λ (x : Told). x.book) is ∙ ap (λ (q : Publishing). q.line.book) same ∙ of.book;
+  feeds = ap (λ (x : Told). x.feeds) is ∙ ap (λ (q : Publishing). q.line.feeds) same ∙ of.feeds;
+}
+closes_hub (Err x) p p' hub is same of = tt

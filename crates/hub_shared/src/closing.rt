@@ -19,6 +19,7 @@ pub fn close_hub<R: Wait>(rt: &R, hub: Hub, seats: &mut [FeedSeat]) -> Result<En
     requires ties { (i : ℕ) (none : SeatSeen) → i < length seats.old
         → (slice_index_or seats.old i none).ties ≡ hub }
     ensures seats { seats.new ≡ seats.old }
+    ensures hub { IfOk result (λ ending. IsOf ending hub) }
     ensures ended { IfOk result (λ ending. (i : ℕ) (none : SeatSeen) → i < length seats.old
         → Ends (slice_index_or seats.old i none) ending) }
 {
@@ -38,6 +39,7 @@ fn end<R: Wait>(rt: &R, locked: Locked, seats: &mut [FeedSeat]) -> Result<Ending
     requires ties { (i : ℕ) (none : SeatSeen) → i < length seats.old
         → (slice_index_or seats.old i none).ties ≡ locked }
     ensures seats { seats.new ≡ seats.old }
+    ensures hub { IfOk result (λ ending. IsOf ending locked) }
     ensures ended { IfOk result (λ ending. (i : ℕ) (none : SeatSeen) → i < length seats.old
         → Ends (slice_index_or seats.old i none) ending) }
 {

@@ -22,6 +22,8 @@ pub fn ingest<R: Wait>(
 ) -> Result<Receipt, Refusal>
     requires { seat.old.ties ≡ hub.now }
     ensures ingested { Ingested bytes.now seat.old seat.new result }
+    ensures hub { seat.new.ties ≡ seat.old.ties }
+    ensures feed { seat.new.feed ≡ seat.old.feed }
 {
     let message = check(alloc, seat.last(), bytes)?;
     let (mut locked, loan) = hub.lock.take(rt);

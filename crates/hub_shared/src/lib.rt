@@ -26,6 +26,8 @@ mod opening;
 mod publishing;
 mod seat;
 mod tag;
+#[cfg(test)]
+mod tests;
 
 pub use closing::close_hub;
 pub use hub::Hub;

@@ -27,6 +27,8 @@ mod receipt;
 mod rule;
 mod seats;
 mod shown;
+#[cfg(test)]
+mod tests;
 
 pub use ending::Ending;
 pub use opening::Snapshots;

@@ -106,7 +106,14 @@ impl Oracle for Pass {
 
     ghost steady = { λ _. false };
 
-    fn look(&mut self) -> Result<u64, NoMemory> {
+    /// A look stays at the pass's own hub.
+    fn look(&mut self) -> Result<u64, NoMemory>
+        ensures looked { Looked (history_of self.old.line) (history_of self.new.line)
+            self.old.shown self.new.shown self.old.reads self.new.reads false result }
+        ensures plans { self.new.shown.plans ≡ self.old.shown.plans }
+        ensures steady { false ≡ false }
+        ensures hub { AreOne self.new.line self.old.line }
+    {
         self.take_look()
     }
 
