@@ -16,7 +16,6 @@ use Rattle.hub_replay.specs.Outcome.{IsReplayStatus, Last, OutcomeOn}
 use Rattle.serve_defs.specs.Connections.{IsServed, Served}
 use Rattle.script_defs.specs.Output.{Output, replayed}
 use Rattle.script_defs.specs.Record.{Hub, configured, serving, start}
-use Rattle.board_text_defs.specs.Answers.{BoardAsked}
 use Rattle.command_defs.specs.Words.{Command}
 use Rattle.command_defs.specs.Words.Command.{Replay, ReplayWith, Check, Board, Gen}
 use Rattle.command_defs.specs.Checks.{check_output, output_of_check}
@@ -365,7 +364,7 @@ told_whole (Some Replay) before after status (served, are_served, o) = (
 told_whole (Some (ReplayWith path)) before after status (inl (o, same)) = none_served (Some (ReplayWith path)) before after status
     (λ later done. with_input (replay_output later) path before.files.told before.input.told (WroteAll before.output after.output status)
     (each_input before.input.told _ (λ bytes. told_refused (replay_output later bytes) path before.files after.files before.output after.output status o done)))
-told_whole (Some (ReplayWith path)) before after status (inr (plans, loaded, count, served, are_served, o)) = (
+told_whole (Some (ReplayWith path)) before after status (inr (plans, loaded, count, (served, are_served, o))) = (
   served,
   are_served,
   λ later done. with_input (replay_output (served ++ later)) path before.files.told before.input.told (WroteAll before.output after.output status)

@@ -1,5 +1,5 @@
 -- What the outcome of every command says of its status and of the counts.
-use Rattle.std.proofs.Common.{◌≡◌, ℕ, ◌≤◌, List, [], length, Option, Some, None, refl, sym, ap, ◌∙◌, subst, arith, inl, inr}
+use Rattle.std.proofs.Common.{◌≡◌, ℕ, ◌≤◌, List, [], length, Option, Some, None, refl, sym, ◌∙◌, subst, arith, inl, inr}
 use Rattle.std.specs.Prelude.{◌⊎◌}
 use Rattle.hub_outside.specs.Outside.{Outside, Stream}
 use Rattle.hub_replay.specs.Outcome.{IsReplayStatus, ReplayOutcome}
@@ -11,7 +11,7 @@ use Rattle.command_defs.specs.Words.{Command}
 use Rattle.command_defs.specs.Words.Command.{Replay, ReplayWith, Check, Board, Gen}
 use Rattle.command_defs.specs.Commands.{board_output}
 use Rattle.command_defs.specs.Samples.{gen_output, sample_lines}
-use Rattle.hub_main.specs.Offline.{IsExitStatus, OutcomeOf, PrintsOutput, ReplayWithOutcome}
+use Rattle.hub_main.specs.Offline.{IsExitStatus, OutcomeOf, ReplayWithOutcome}
 use Rattle.hub_main.proofs.Commands.{IsAnswer, check_answers, check_status, found_answers, replay_status}
 
 -- ---- what a replay says whatever connections are given
@@ -102,7 +102,7 @@ pub command_usage : (command : Option Command) (before after : Outside) (status 
 command_usage None before after status o two = refl
 command_usage (Some Replay) before after status (served, are_served, o) two = replay_status status (o []).is_status (inl two)
 command_usage (Some (ReplayWith path)) before after status (inl (o, same)) two = load_no_usage status o.is_status two
-command_usage (Some (ReplayWith path)) before after status (inr (plans, loaded, count, served, are_served, o)) two = replay_status status (o []).is_status (inl two)
+command_usage (Some (ReplayWith path)) before after status (inr (plans, loaded, count, (served, are_served, o))) two = replay_status status (o []).is_status (inl two)
 command_usage (Some (Check path)) before after status o two = check_status status o.is_status (inl two)
 command_usage (Some (Board path asked)) before after status (inl o) two = load_no_usage status o.is_status two
 command_usage (Some (Board path asked)) before after status (inr (plans, loaded, count, o)) two =
