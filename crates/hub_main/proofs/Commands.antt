@@ -12,18 +12,17 @@ use Rattle.text_defs.specs.Cleaned.{line_feed}
 use Rattle.hub_load.specs.Told.{HasCause, IsAsTold, NeedsNoFile, TellsFault, refusal_line}
 use Rattle.hub_load.specs.declared.fault.HubFault.{HubFault}
 use Rattle.hub_load.specs.declared.fault.HubFault.TheVariants.{Refused, FileFault, NoMemory}
-use Rattle.hub_replay.specs.Outcome.{IsReplayStatus, Last, OutcomeOn, ReplayOutcome}
+use Rattle.hub_replay.specs.Outcome.{IsReplayStatus, Last, OutcomeOn}
 use Rattle.serve_defs.specs.Connections.{IsServed, Served}
 use Rattle.script_defs.specs.Output.{Output, replayed}
 use Rattle.script_defs.specs.Record.{Hub, configured, serving, start}
-use Rattle.board_text_defs.specs.Answers.{BoardAsked}
 use Rattle.command_defs.specs.Words.{Command}
 use Rattle.command_defs.specs.Words.Command.{Replay, ReplayWith, Check, Board, Gen}
 use Rattle.command_defs.specs.Checks.{check_output, output_of_check}
 use Rattle.command_defs.specs.Commands.{board_output, file_fault_line, found_or_not, output_where_told, replay_output, usage, usage_line, with_schedules}
 use Rattle.command_defs.specs.Hubs.{schedules_at}
 use Rattle.command_defs.specs.Samples.{gen_output, sample_lines}
-use Rattle.hub_main.specs.Offline.{FilesRose, IsDone, IsExitStatus, IsRefusedWith, LoadFailed, OutcomeOf, PrintsFault, PrintsOutput, ReplayWithOutcome, UsageOutcome, WritesTold, WritesWhole}
+use Rattle.hub_main.specs.Offline.{FilesRose, IsDone, IsRefusedWith, LoadFailed, OutcomeOf, PrintsFault, PrintsOutput, UsageOutcome, WritesTold, WritesWhole}
 
 -- the line for words that are no command
 pub usage_outcome : (status : ℕ) (output output' : Stream) → Last 2 usage_line status output.told output'.told output.faults output'.faults
@@ -172,46 +171,10 @@ short_outcome (Some (Check path)) before = record {
   output_count = omega arith;
 }
 
--- ---- what a replay says whatever connections are given
-
-exit_of : (status : ℕ) → IsReplayStatus status → IsExitStatus status
-exit_of status (inl e) = inl e
-exit_of status (inr (inl e)) = inr (inr (inr (inl e)))
-exit_of status (inr (inr (inl e))) = inr (inr (inr (inr (inl e))))
-exit_of status (inr (inr (inr (inl e)))) = inr (inr (inr (inr (inr (inl e)))))
-exit_of status (inr (inr (inr (inr e)))) = inr (inr (inr (inr (inr (inr (inl e))))))
-
-pub replay_exit : (hub : Hub) (input input' output output' : Stream) (status : ℕ) → ReplayOutcome hub input input' output output' status → IsExitStatus status
-replay_exit hub input input' output output' status (served, are_served, o) = exit_of status (o []).is_status
-
-pub replay_input : (hub : Hub) (input input' output output' : Stream) (status : ℕ) → ReplayOutcome hub input input' output output' status → input.faults ≤ input'.faults
-replay_input hub input input' output output' status (served, are_served, o) = (o []).input_count
-
-pub replay_output_count : (hub : Hub) (input input' output output' : Stream) (status : ℕ) → ReplayOutcome hub input input' output output' status → output.faults ≤ output'.faults
-replay_output_count hub input input' output output' status (served, are_served, o) = (o []).output_count
-
-load_exit : (status : ℕ) → (status ≡ 3) ⊎ (status ≡ 4) ⊎ (status ≡ 5) ⊎ (status ≡ 6) → IsExitStatus status
-load_exit status (inl e) = inr (inr (inl e))
-load_exit status (inr (inl e)) = inr (inr (inr (inl e)))
-load_exit status (inr (inr (inl e))) = inr (inr (inr (inr (inl e))))
-load_exit status (inr (inr (inr e))) = inr (inr (inr (inr (inr (inl e)))))
-
-pub configured_exit : (path : List ℕ) (before after : Outside) (status : ℕ) → ReplayWithOutcome path before after status → IsExitStatus status
-configured_exit path before after status (inl (o, same)) = load_exit status o.is_status
-configured_exit path before after status (inr (plans, loaded, count, o)) = replay_exit (configured plans) before.input after.input before.output after.output status o
-
-pub configured_input : (path : List ℕ) (before after : Outside) (status : ℕ) → ReplayWithOutcome path before after status → before.input.faults ≤ after.input.faults
-configured_input path before after status (inl (o, same)) = subst (λ s. before.input.faults ≤ s.faults) (sym same) (omega arith)
-configured_input path before after status (inr (plans, loaded, count, o)) = replay_input (configured plans) before.input after.input before.output after.output status o
-
-pub configured_output : (path : List ℕ) (before after : Outside) (status : ℕ) → ReplayWithOutcome path before after status → before.output.faults ≤ after.output.faults
-configured_output path before after status (inl (o, same)) = o.output_count
-configured_output path before after status (inr (plans, loaded, count, o)) = replay_output_count (configured plans) before.input after.input before.output after.output status o
-
 -- ---- which statuses a command has once all is written
 
 -- no replay has the status 2, 3 or 8
-replay_status : {A : Type 0} (status : ℕ) → IsReplayStatus status → (status ≡ 2) ⊎ (status ≡ 3) ⊎ (status ≡ 8) → A
+pub replay_status : {A : Type 0} (status : ℕ) → IsReplayStatus status → (status ≡ 2) ⊎ (status ≡ 3) ⊎ (status ≡ 8) → A
 replay_status status (inl e) (inl f) = absurd (omega arith)
 replay_status status (inl e) (inr (inl f)) = absurd (omega arith)
 replay_status status (inl e) (inr (inr f)) = absurd (omega arith)
@@ -229,7 +192,7 @@ replay_status status (inr (inr (inr (inr e)))) (inr (inl f)) = absurd (omega ari
 replay_status status (inr (inr (inr (inr e)))) (inr (inr f)) = absurd (omega arith)
 
 -- words that are no command have no other status than 2
-usage_status : {A : Type 0} (status other : ℕ) → (status ≡ 2) ⊎ (status ≡ 5) ⊎ (status ≡ 6) → status ≡ other
+pub usage_status : {A : Type 0} (status other : ℕ) → (status ≡ 2) ⊎ (status ≡ 5) ⊎ (status ≡ 6) → status ≡ other
     → (other ≡ 0) ⊎ (other ≡ 3) ⊎ (other ≡ 7) ⊎ (other ≡ 8) → A
 usage_status status other (inl e) h (inl f) = absurd (omega arith)
 usage_status status other (inl e) h (inr (inl f)) = absurd (omega arith)
@@ -245,7 +208,7 @@ usage_status status other (inr (inr e)) h (inr (inr (inl f))) = absurd (omega ar
 usage_status status other (inr (inr e)) h (inr (inr (inr f))) = absurd (omega arith)
 
 -- no check has the status 2, 7 or 8
-check_status : {A : Type 0} (status : ℕ) → (status ≡ 0) ⊎ (status ≡ 3) ⊎ (status ≡ 4) ⊎ (status ≡ 5) ⊎ (status ≡ 6)
+pub check_status : {A : Type 0} (status : ℕ) → (status ≡ 0) ⊎ (status ≡ 3) ⊎ (status ≡ 4) ⊎ (status ≡ 5) ⊎ (status ≡ 6)
     → (status ≡ 2) ⊎ (status ≡ 7) ⊎ (status ≡ 8) → A
 check_status status (inl e) (inl f) = absurd (omega arith)
 check_status status (inl e) (inr (inl f)) = absurd (omega arith)
@@ -376,9 +339,10 @@ given_whole : (hub : Hub) (before after : Outside) (status : ℕ) → OutcomeOn 
 given_whole hub before after status o done = o.whole (replay_done status o.is_status done)
 
 -- where no connection is served, what is told doesn't hang on any
-none_served : (told : List Served → Option Output) (status : ℕ) (before after : Option (List ℕ)) → ((later : List Served) → WritesTold (told later) status before after)
-    → WritesWhole told status before after
-none_served told status before after h = ([], All-nil IsServed, h)
+none_served : (command : Option Command) (before after : Outside) (status : ℕ)
+    → ((later : List Served) → WritesTold (output_where_told later command before.files.told before.input.told) status before.output.told after.output.told)
+    → WritesWhole (λ served. output_where_told served command before.files.told before.input.told) status before.output.told after.output.told
+none_served command before after status h = ([], All-nil IsServed, h)
 
 usage_whole : (before after : Outside) (status : ℕ) → UsageOutcome before.output after.output status → WritesTold (Some usage) status before.output.told after.output.told
 usage_whole before after status o (inl e) = usage_status status 0 o.is_status e (inl refl)
@@ -390,14 +354,14 @@ usage_whole before after status o (inr (inr (inr (inr e)))) = usage_status statu
 -- where all was written, it is what the definition of the command's output tells, with its status
 pub told_whole : (command : Option Command) (before after : Outside) (status : ℕ) → OutcomeOf command before after status
     → WritesWhole (λ served. output_where_told served command before.files.told before.input.told) status before.output.told after.output.told
-told_whole None before after status o = none_served _ status _ _ (λ later. usage_whole before after status o)
+told_whole None before after status o = none_served None before after status (λ later. usage_whole before after status o)
 told_whole (Some Replay) before after status (served, are_served, o) = (
   served,
   are_served,
   λ later done. of_part (replayed (serving (served ++ later) start)) before.input.told before.output.told after.output.told status
       (given_whole (serving (served ++ later) start) before after status (o later) done),
 )
-told_whole (Some (ReplayWith path)) before after status (inl (o, same)) = none_served _ status _ _
+told_whole (Some (ReplayWith path)) before after status (inl (o, same)) = none_served (Some (ReplayWith path)) before after status
     (λ later done. with_input (replay_output later) path before.files.told before.input.told (WroteAll before.output after.output status)
     (each_input before.input.told _ (λ bytes. told_refused (replay_output later bytes) path before.files after.files before.output after.output status o done)))
 told_whole (Some (ReplayWith path)) before after status (inr (plans, loaded, count, (served, are_served, o))) = (
@@ -407,16 +371,16 @@ told_whole (Some (ReplayWith path)) before after status (inr (plans, loaded, cou
       (each_told before.input.told _ _ (λ bytes wrote. told_loaded (replay_output (served ++ later) bytes) path before.files.told plans before.output after.output status loaded wrote)
       (given_whole (serving (served ++ later) (configured plans)) before after status (o later) done)),
 )
-told_whole (Some (Check path)) before after status o = none_served _ status _ _
+told_whole (Some (Check path)) before after status o = none_served (Some (Check path)) before after status
     (λ later done. of_part (λ fs. check_output fs path) before.files.told before.output.told after.output.told status (o.whole (check_done status o.is_status done)))
-told_whole (Some (Board path asked)) before after status (inl o) = none_served _ status _ _
+told_whole (Some (Board path asked)) before after status (inl o) = none_served (Some (Board path asked)) before after status
     (λ later done. of_part (λ fs. with_schedules (board_output asked) (schedules_at fs path)) before.files.told before.output.told after.output.told status
     (told_refused (board_output asked) path before.files after.files before.output after.output status o done))
-told_whole (Some (Board path asked)) before after status (inr (plans, loaded, count, o)) = none_served _ status _ _
+told_whole (Some (Board path asked)) before after status (inr (plans, loaded, count, o)) = none_served (Some (Board path asked)) before after status
     (λ later done. let is = print_status status (board_output asked plans).status o.is_status done in
     of_part (λ fs. with_schedules (board_output asked) (schedules_at fs path)) before.files.told before.output.told after.output.told status
     (told_loaded (board_output asked) path before.files.told plans before.output after.output status loaded (o.whole is, is)))
-told_whole (Some (Gen seed trips messages)) before after status o = none_served _ status _ _
+told_whole (Some (Gen seed trips messages)) before after status o = none_served (Some (Gen seed trips messages)) before after status
     (λ later done. let is = print_status status (gen_output seed trips messages).status o.is_status done in (o.whole is, is))
 
 -- ---- a hub that could not be loaded

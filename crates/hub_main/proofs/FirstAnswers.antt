@@ -1,5 +1,5 @@
 -- What a view answers of which no feed has said anything.
-use Rattle.std.proofs.Common.{◌≡◌, ℕ, List, [], ◌++◌, length, Option, Some, None, Ok, Bool, true, false, sym, ap, ◌∙◌, subst}
+use Rattle.std.proofs.Common.{◌≡◌, ℕ, List, [], length, Some, None, Ok, Bool, true, false, sym, ap, ◌∙◌, subst}
 use Rattle.feed_defs.specs.declared.history.Entry.{Entry}
 use Rattle.sched_types.specs.Schedules.{Schedules}
 use Rattle.board_defs.specs.Fold.{fold_of}

@@ -1,3 +1,4 @@
 pub mod Commands
 pub mod Asked
 pub mod FirstAnswers
+pub mod Exits

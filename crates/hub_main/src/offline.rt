@@ -68,6 +68,31 @@ pub fn run_offline<F: Files, S: Source, K: Sink, C: Clock>(
     ensures no_input { ReadsInput (command_of words.now) ⊎ (input.new ≡ input.old) }
     ensures clock { clock.new ≡ clock.old }
 {
+    run_words(alloc, words, files, input, out)
+}
+
+/// The same without a clock, which no command reads.
+fn run_words<F: Files, S: Source, K: Sink>(
+    alloc: Global,
+    words: &[Text],
+    files: &mut F,
+    input: &mut S,
+    out: &mut K,
+) -> u8
+    ensures outcome { OutcomeOf (command_of words.now)
+        (outside (file_store (F.contents files.old) (F.faults files.old))
+        (stream (S.left input.old) (S.faults input.old))
+        (stream (K.written out.old) (K.faults out.old)))
+        (outside (file_store (F.contents files.new) (F.faults files.new))
+        (stream (S.left input.new) (S.faults input.new))
+        (stream (K.written out.new) (K.faults out.new)))
+        result }
+    ensures input_count { S.faults input.old ≤ S.faults input.new }
+    ensures files_count { F.faults files.old ≤ F.faults files.new }
+    ensures files { F.contents files.new ≡ F.contents files.old }
+    ensures no_files { ReadsFiles (command_of words.now) ⊎ (files.new ≡ files.old) }
+    ensures no_input { ReadsInput (command_of words.now) ⊎ (input.new ≡ input.old) }
+{
     match read_words(alloc, words) {
         Ok(Command::Replay) => replay(alloc, None, input, out),
         Ok(Command::ReplayWith(path)) => run_replay(alloc, files, path, input, out),

@@ -1,29 +1,41 @@
 use Rattle.hub_outside.specs.Outside.{file_store, outside, stream}
 use Rattle.command_defs.specs.Words.{command_of}
-use Rattle.std.proofs.Common.{◌≡◌, Some, subst}
-use Rattle.hub_words.specs.Answer.{asked_seen, seen}
-use Rattle.hub_words.specs.declared.read.Command.TheVariants.{Board, Gen}
-use Rattle.hub_main.proofs.Asked.{asked_range, sample_range}
-use Rattle.hub_main.proofs.Commands.{short_outcome}
+use Rattle.hub_main.proofs.Commands.{told_whole}
+use Rattle.hub_main.proofs.Exits.{command_exit, command_output, command_usage}
 use Rattle.hub_main.proofs.offline.run_offline.Goals as goal
 
-pub returns-in-Err-NoMemory-clause-outcome : goal.returns-in-Err-NoMemory-clause-outcome
-returns-in-Err-NoMemory-clause-outcome g c =
-    short_outcome (command_of c.args.words.now) (outside
-    (file_store (g.F.Files.contents c.args.files.now) (g.F.Files.faults c.args.files.now))
-    (stream (g.S.Source.left c.args.input.now) (g.S.Source.faults c.args.input.now))
+pub returns-clause-status : goal.returns-clause-status
+returns-clause-status g c =
+    command_exit (command_of c.args.words.now)
+    (outside (file_store (g.F.Files.contents c.args.files.now) (g.F.Files.faults c.args.files.now)) (stream (g.S.Source.left c.args.input.now) (g.S.Source.faults c.args.input.now))
     (stream (g.K.Sink.written c.args.out.now) (g.K.Sink.faults c.args.out.now)))
+    (outside (file_store (g.F.Files.contents c.run_words.new.files) (g.F.Files.faults c.run_words.new.files)) (stream (g.S.Source.left c.run_words.new.input) (g.S.Source.faults c.run_words.new.input))
+    (stream (g.K.Sink.written c.run_words.new.out) (g.K.Sink.faults c.run_words.new.out)))
+    c.run_words.result c.run_words.ensures.outcome
 
-pub run_board-requires : goal.run_board-requires
-run_board-requires g c =
-    let words = c.args.words.now in
-    let is : command_of words ≡ Some (seen (Board c.in-Ok-Board.config c.in-Ok-Board.asked)) =
-    subst (λ command. command_of words ≡ Some (seen command)) c.in-Ok-Board.field-0-is c.in-Ok-Board.ensures in
-    asked_range words c.in-Ok-Board.config.now (asked_seen c.in-Ok-Board.asked) is
+pub returns-clause-whole : goal.returns-clause-whole
+returns-clause-whole g c =
+    told_whole (command_of c.args.words.now)
+    (outside (file_store (g.F.Files.contents c.args.files.now) (g.F.Files.faults c.args.files.now)) (stream (g.S.Source.left c.args.input.now) (g.S.Source.faults c.args.input.now))
+    (stream (g.K.Sink.written c.args.out.now) (g.K.Sink.faults c.args.out.now)))
+    (outside (file_store (g.F.Files.contents c.run_words.new.files) (g.F.Files.faults c.run_words.new.files)) (stream (g.S.Source.left c.run_words.new.input) (g.S.Source.faults c.run_words.new.input))
+    (stream (g.K.Sink.written c.run_words.new.out) (g.K.Sink.faults c.run_words.new.out)))
+    c.run_words.result c.run_words.ensures.outcome
 
-pub run_gen-requires : goal.run_gen-requires
-run_gen-requires g c =
-    let words = c.args.words.now in
-    let is : command_of words ≡ Some (seen (Gen c.in-Ok-Gen.seed c.in-Ok-Gen.trips c.in-Ok-Gen.messages)) =
-    subst (λ command. command_of words ≡ Some (seen command)) c.in-Ok-Gen.field-0-is c.in-Ok-Gen.ensures in
-    sample_range words c.in-Ok-Gen.seed c.in-Ok-Gen.trips c.in-Ok-Gen.messages is
+pub returns-clause-usage : goal.returns-clause-usage
+returns-clause-usage g c =
+    command_usage (command_of c.args.words.now)
+    (outside (file_store (g.F.Files.contents c.args.files.now) (g.F.Files.faults c.args.files.now)) (stream (g.S.Source.left c.args.input.now) (g.S.Source.faults c.args.input.now))
+    (stream (g.K.Sink.written c.args.out.now) (g.K.Sink.faults c.args.out.now)))
+    (outside (file_store (g.F.Files.contents c.run_words.new.files) (g.F.Files.faults c.run_words.new.files)) (stream (g.S.Source.left c.run_words.new.input) (g.S.Source.faults c.run_words.new.input))
+    (stream (g.K.Sink.written c.run_words.new.out) (g.K.Sink.faults c.run_words.new.out)))
+    c.run_words.result c.run_words.ensures.outcome
+
+pub returns-clause-output_count : goal.returns-clause-output_count
+returns-clause-output_count g c =
+    command_output (command_of c.args.words.now)
+    (outside (file_store (g.F.Files.contents c.args.files.now) (g.F.Files.faults c.args.files.now)) (stream (g.S.Source.left c.args.input.now) (g.S.Source.faults c.args.input.now))
+    (stream (g.K.Sink.written c.args.out.now) (g.K.Sink.faults c.args.out.now)))
+    (outside (file_store (g.F.Files.contents c.run_words.new.files) (g.F.Files.faults c.run_words.new.files)) (stream (g.S.Source.left c.run_words.new.input) (g.S.Source.faults c.run_words.new.input))
+    (stream (g.K.Sink.written c.run_words.new.out) (g.K.Sink.faults c.run_words.new.out)))
+    c.run_words.result c.run_words.ensures.outcome
