@@ -55,8 +55,8 @@ module _ (key : KeySeen) (pass : PassSeen) (feed accepted last : ℕ) (receipt :
   pub agreed : (desk desk' : DeskSeen) (key' : KeySeen) (count : ℕ) → slice_index desk'.counts key'.number ≤ key'.granted → desk' ≡ desk → key' ≡ key → slice_index desk.counts feed ≡ count → count ≤ accepted
   agreed desk desk' key' count low same_desk same_key counts =
       let at : slice_index desk'.counts key'.number ≡ count =
-          ap (λ (d : DeskSeen). slice_index d.counts key'.number) same_desk ∙ ap (λ (k : KeySeen). slice_index desk.counts k.number) same_key
-          ∙ ap (λ (n : ℕ). slice_index desk.counts n) seat.number ∙ counts in
+      ap (λ (d : DeskSeen). slice_index d.counts key'.number) same_desk ∙ ap (λ (k : KeySeen). slice_index desk.counts k.number) same_key
+      ∙ ap (λ (n : ℕ). slice_index desk.counts n) seat.number ∙ counts in
       let granted : key'.granted ≡ accepted = ap (λ (k : KeySeen). k.granted) same_key ∙ seat.granted in
       omega (arith, low, at, granted)
 

@@ -70,11 +70,11 @@ module _ (core : HubKept) (publisher : Publishing) (desk : DeskSeen) (locked : I
         each : (k : ℕ) → k < 64 → slice_index (slice_set desk.counts feed (accepted + 1)) k ≡ count_of k (grown (history_of publisher.line) feed m)
         each k within = ⊎_elim
             (λ same. ap (λ (j : ℕ). slice_index (slice_set desk.counts feed (accepted + 1)) j) same
-                ∙ get_or-set_same desk.counts feed (accepted + 1) 0 (omega (arith, locked.wide, small))
-                ∙ sym more ∙ ap (λ (j : ℕ). count_of j (grown (history_of publisher.line) feed m)) (sym same))
+            ∙ get_or-set_same desk.counts feed (accepted + 1) 0 (omega (arith, locked.wide, small))
+            ∙ sym more ∙ ap (λ (j : ℕ). count_of j (grown (history_of publisher.line) feed m)) (sym same))
             (λ other. get_or-set_other desk.counts feed k (accepted + 1) 0 other
-                ∙ locked.counts k within
-                ∙ sym (ap length (messages_of-other k feed (history_of publisher.line) m other)))
+            ∙ locked.counts k within
+            ∙ sym (ap length (messages_of-other k feed (history_of publisher.line) m other)))
             (same_or_not k feed)
 
     -- what the seat is told

@@ -17,11 +17,11 @@ loop-key-preserved c =
     let n = c.loop-key.feed in
     let step : c.loop-key.key-iterator.rest.items ≡ c.in-Some.key ∷ c.next.new.self.rest.items = c.in-Some.ensures.steps.0 in
     let keys = first_key hub.table n c.in-Some.key c.next.new.self.rest.items
-        (sym step ∙ c.loop-key.invariant.keys ∙ ap (λ (xs : List KeySeen). map (fresh_key hub.table) (range_with_len n (length xs))) step) in
+    (sym step ∙ c.loop-key.invariant.keys ∙ ap (λ (xs : List KeySeen). map (fresh_key hub.table) (range_with_len n (length xs))) step) in
     let popped = All-pop (λ (pass : PassSeen). IsFresh hub pass) c.loop-key.left.items c.pop.new.self.items c.pop.result c.pop.ensures.items c.loop-key.invariant.passes in
     let fresh : IsFresh hub c.in-Some-pop.pass = subst (λ (o : Option PassSeen). IfSome o (λ pass. IsFresh hub pass)) c.in-Some-pop.is popped.1 in
     let seat : c.new.result ≡ fresh_seat hub n =
-        c.new.ensures ∙ ap (λ (t : Ties). fresh_seat t n) (ties_are hub c.in-Some-pop.pass c.in-Some.key fresh (ap (λ (k : KeySeen). k.table) keys.0)) in
+    c.new.ensures ∙ ap (λ (t : Ties). fresh_seat t n) (ties_are hub c.in-Some-pop.pass c.in-Some.key fresh (ap (λ (k : KeySeen). k.table) keys.0)) in
     record {
       can = tt;
       finite = tt;

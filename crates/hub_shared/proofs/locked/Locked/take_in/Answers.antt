@@ -29,11 +29,18 @@ publish-requires g c κs within =
     let seen : arc_value c.in_ok-shown.shown ≡ arc_value c.in_ok-next.next = search rules in
     let kept : (arc_value c.in_ok-next.next).plans ≡ l.core.plans = ap (λ (k : HubKept). k.plans) c.in_ok-next.ensures.after in (
       search rules,
-      (refl, (legal_moved l.publisher c.level.new.publisher seat.feed c.feed-feed.result c.args.message c.of-noted.result.value c.level.ensures.publisher feed_is c.of-noted.ensures
-      (legal_at l.core l.publisher l.desk c.self.invariant seat.feed seat.accepted seat.last one c.level.ensures.counted c.level.ensures.last c.args.message c.requires.sound c.requires.newer),
-      (stands_moved l.publisher c.level.new.publisher c.feed-feed.result c.args.message c.of-noted.result.value (arc_value c.in_ok-next.next) (arc_value c.in_ok-shown.shown) c.level.ensures.publisher c.of-noted.ensures seen
-      (c.in_ok-next.ensures.stands (history_of l.publisher.line) c.self.invariant.stands),
-      ap (λ (k : HubKept). k.plans) seen ∙ kept ∙ sym c.self.invariant.plans ∙ sym (ap (λ (p : Publishing). p.plans) c.level.ensures.publisher)))),
+      (
+        refl,
+        (
+          legal_moved l.publisher c.level.new.publisher seat.feed c.feed-feed.result c.args.message c.of-noted.result.value c.level.ensures.publisher feed_is c.of-noted.ensures
+              (legal_at l.core l.publisher l.desk c.self.invariant seat.feed seat.accepted seat.last one c.level.ensures.counted c.level.ensures.last c.args.message c.requires.sound c.requires.newer),
+          (
+            stands_moved l.publisher c.level.new.publisher c.feed-feed.result c.args.message c.of-noted.result.value (arc_value c.in_ok-next.next) (arc_value c.in_ok-shown.shown) c.level.ensures.publisher c.of-noted.ensures seen
+                (c.in_ok-next.ensures.stands (history_of l.publisher.line) c.self.invariant.stands),
+            ap (λ (k : HubKept). k.plans) seen ∙ kept ∙ sym c.self.invariant.plans ∙ sym (ap (λ (p : Publishing). p.plans) c.level.ensures.publisher),
+          ),
+        ),
+      ),
     )
 
 pub count-requires-clause-room : goal.count-requires-clause-room
@@ -42,8 +49,8 @@ count-requires-clause-room g c =
     let feed_is : c.feed-feed.result ≡ seat.feed = c.feed-feed.ensures ∙ ap (λ (s : SeatSeen). s.feed) c.level.ensures.seat in
     let one : seat.feed < length l.core.plans.feeds = subst (λ (n : ℕ). seat.feed < n) (ap (λ (t : Ties). length t.plans.feeds) (c.requires.tie ∙ sym c.self.view_is)) c.level.ensures.one in
     let few : (feed_at l.core seat.feed).fold.count ≤ (feed_at l.core seat.feed).fold.stamp =
-        subst (λ (n : ℕ). (feed_at l.core n).fold.count ≤ (feed_at l.core n).fold.stamp) feed_is
-        (subst (λ (k : HubKept). (feed_at k c.feed-feed.result).fold.count ≤ (feed_at k c.feed-feed.result).fold.stamp) (c.deref.ensures ∙ c.view.ensures) c.counts_few.ensures) in
+    subst (λ (n : ℕ). (feed_at l.core n).fold.count ≤ (feed_at l.core n).fold.stamp) feed_is
+    (subst (λ (k : HubKept). (feed_at k c.feed-feed.result).fold.count ≤ (feed_at k c.feed-feed.result).fold.stamp) (c.deref.ensures ∙ c.view.ensures) c.counts_few.ensures) in
     subst (λ (s : SeatSeen). s.accepted < 253402300799) (sym c.level.ensures.seat)
     (room l.core l.publisher l.desk c.self.invariant seat.feed seat.accepted seat.last one c.level.ensures.counted c.level.ensures.last c.args.message c.requires.sound c.requires.newer few)
 
@@ -53,8 +60,8 @@ count-requires-clause-more g c =
     let feed_is : c.feed-feed.result ≡ seat.feed = c.feed-feed.ensures ∙ ap (λ (s : SeatSeen). s.feed) c.level.ensures.seat in
     let one : seat.feed < length l.core.plans.feeds = subst (λ (n : ℕ). seat.feed < n) (ap (λ (t : Ties). length t.plans.feeds) (c.requires.tie ∙ sym c.self.view_is)) c.level.ensures.one in
     let history : history_of c.publish.new.publisher.line ≡ grown (history_of l.publisher.line) seat.feed c.args.message =
-        ap (λ (t : Told). history_of t) c.in_ok-receipt.ensures.published ∙ c.in_ok-receipt.ensures.history
-        ∙ grown_moved l.publisher c.level.new.publisher seat.feed c.feed-feed.result c.args.message c.of-noted.result.value c.level.ensures.publisher feed_is c.of-noted.ensures in
+    ap (λ (t : Told). history_of t) c.in_ok-receipt.ensures.published ∙ c.in_ok-receipt.ensures.history
+    ∙ grown_moved l.publisher c.level.new.publisher seat.feed c.feed-feed.result c.args.message c.of-noted.result.value c.level.ensures.publisher feed_is c.of-noted.ensures in
     ap (λ (s : SeatSeen). count_of s.feed (history_of c.publish.new.publisher.line)) c.level.ensures.seat
     ∙ ap (λ (h : List Entry). count_of seat.feed h) history
     ∙ more l.core l.publisher l.desk c.self.invariant seat.feed seat.accepted seat.last one c.level.ensures.counted c.level.ensures.last c.args.message c.requires.sound c.requires.newer
@@ -66,8 +73,8 @@ count-requires-clause-last g c =
     let feed_is : c.feed-feed.result ≡ seat.feed = c.feed-feed.ensures ∙ ap (λ (s : SeatSeen). s.feed) c.level.ensures.seat in
     let one : seat.feed < length l.core.plans.feeds = subst (λ (n : ℕ). seat.feed < n) (ap (λ (t : Ties). length t.plans.feeds) (c.requires.tie ∙ sym c.self.view_is)) c.level.ensures.one in
     let history : history_of c.publish.new.publisher.line ≡ grown (history_of l.publisher.line) seat.feed c.args.message =
-        ap (λ (t : Told). history_of t) c.in_ok-receipt.ensures.published ∙ c.in_ok-receipt.ensures.history
-        ∙ grown_moved l.publisher c.level.new.publisher seat.feed c.feed-feed.result c.args.message c.of-noted.result.value c.level.ensures.publisher feed_is c.of-noted.ensures in
+    ap (λ (t : Told). history_of t) c.in_ok-receipt.ensures.published ∙ c.in_ok-receipt.ensures.history
+    ∙ grown_moved l.publisher c.level.new.publisher seat.feed c.feed-feed.result c.args.message c.of-noted.result.value c.level.ensures.publisher feed_is c.of-noted.ensures in
     let stamp : stamp_of c.args.message ≡ c.unwrap_or-stamp.result = search rules in
     ap (λ (s : SeatSeen). last_stamp s.feed (history_of c.publish.new.publisher.line)) c.level.ensures.seat
     ∙ ap (λ (h : List Entry). last_stamp seat.feed h) history
@@ -80,11 +87,11 @@ invariant_of-self-2 g c =
     let feed_is : c.feed-feed.result ≡ seat.feed = c.feed-feed.ensures ∙ ap (λ (s : SeatSeen). s.feed) c.level.ensures.seat in
     let one : seat.feed < length l.core.plans.feeds = subst (λ (n : ℕ). seat.feed < n) (ap (λ (t : Ties). length t.plans.feeds) (c.requires.tie ∙ sym c.self.view_is)) c.level.ensures.one in
     let history : history_of c.publish.new.publisher.line ≡ grown (history_of l.publisher.line) seat.feed c.args.message =
-        ap (λ (t : Told). history_of t) c.in_ok-receipt.ensures.published ∙ c.in_ok-receipt.ensures.history
-        ∙ grown_moved l.publisher c.level.new.publisher seat.feed c.feed-feed.result c.args.message c.of-noted.result.value c.level.ensures.publisher feed_is c.of-noted.ensures in
+    ap (λ (t : Told). history_of t) c.in_ok-receipt.ensures.published ∙ c.in_ok-receipt.ensures.history
+    ∙ grown_moved l.publisher c.level.new.publisher seat.feed c.feed-feed.result c.args.message c.of-noted.result.value c.level.ensures.publisher feed_is c.of-noted.ensures in
     let published : c.count.new.publisher ≡ c.publish.new.publisher = c.count.ensures.publisher in
     let feeds : c.publish.new.publisher.line.feeds ≡ l.publisher.line.feeds =
-        ap (λ (t : Told). t.feeds) c.in_ok-receipt.ensures.published ∙ c.in_ok-receipt.ensures.hub.feeds ∙ ap (λ (p : Publishing). p.line.feeds) c.level.ensures.publisher in
+    ap (λ (t : Told). t.feeds) c.in_ok-receipt.ensures.published ∙ c.in_ok-receipt.ensures.hub.feeds ∙ ap (λ (p : Publishing). p.line.feeds) c.level.ensures.publisher in
     let stands = subst (λ (n : ℕ). StandsFor (grown (history_of l.publisher.line) n c.args.message) (arc_value c.in_ok-next.next)) feed_is (c.in_ok-next.ensures.stands (history_of l.publisher.line) c.self.invariant.stands) in
     locked_more l.core l.publisher l.desk c.self.invariant seat.feed seat.accepted seat.last one c.level.ensures.counted c.level.ensures.last c.args.message c.requires.sound c.requires.newer
     c.level.ensures.few c.commit.new.self c.count.new.publisher c.count.new.desk
@@ -101,8 +108,8 @@ returns-clause-taken g c =
     let feed_is : c.feed-feed.result ≡ seat.feed = c.feed-feed.ensures ∙ ap (λ (s : SeatSeen). s.feed) c.level.ensures.seat in
     let one : seat.feed < length l.core.plans.feeds = subst (λ (n : ℕ). seat.feed < n) (ap (λ (t : Ties). length t.plans.feeds) (c.requires.tie ∙ sym c.self.view_is)) c.level.ensures.one in
     let history : history_of c.in_ok-receipt.receipt ≡ grown (history_of l.publisher.line) seat.feed c.args.message =
-        c.in_ok-receipt.ensures.history
-        ∙ grown_moved l.publisher c.level.new.publisher seat.feed c.feed-feed.result c.args.message c.of-noted.result.value c.level.ensures.publisher feed_is c.of-noted.ensures in
+    c.in_ok-receipt.ensures.history
+    ∙ grown_moved l.publisher c.level.new.publisher seat.feed c.feed-feed.result c.args.message c.of-noted.result.value c.level.ensures.publisher feed_is c.of-noted.ensures in
     let stamp : c.unwrap_or-stamp.result ≡ stamp_of c.args.message = search rules in
     takes l.core l.publisher l.desk c.self.invariant seat.feed seat.accepted seat.last one c.level.ensures.counted c.level.ensures.last c.args.message c.requires.sound c.requires.newer
     c.args.self.now seat c.count.new.self c.in_ok-receipt.receipt c.requires.tie refl
