@@ -169,7 +169,12 @@ fn ingest_all<R: Threads + Wait + Sync>(
     ensures length { vec_len result ≡ vec_len seats }
 {
     let mut seats = seats;
-    for_each_mut(rt, seats.as_mut_slice(), 4, &|_, seat| ingest_many(rt, alloc, hub, seat));
+    for_each_mut(
+        rt,
+        seats.as_mut_slice(),
+        4,
+        &|_, seat| ingest_many(rt, alloc, hub, seat),
+    );
     seats
 }
 
@@ -196,7 +201,12 @@ fn look_all<R: Threads + Wait + Sync>(rt: &R, passes: Vec<Pass>, odd: &AtomicU64
     ensures { vec_len result ≡ vec_len passes }
 {
     let mut passes = passes;
-    for_each_mut(rt, passes.as_mut_slice(), 4, &|_, pass| look_many(pass, odd));
+    for_each_mut(
+        rt,
+        passes.as_mut_slice(),
+        4,
+        &|_, pass| look_many(pass, odd),
+    );
     passes
 }
 
