@@ -1,5 +1,4 @@
 -- The loop goes on for ever.
-use Rattle.std.proofs.Common.{◌≡◌}
 use Rattle.keyed_lock.proofs.lock.KeyedLock.take.Given as goal
 
 abbrev pub invariant-loop : goal.invariant-loop
