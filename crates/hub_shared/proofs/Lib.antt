@@ -2,3 +2,5 @@ mod Fronts
 mod Sitting
 mod Taking
 mod Dealt
+mod Handed
+mod Asking

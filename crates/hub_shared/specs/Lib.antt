@@ -1,3 +1,4 @@
 pub mod Seats
 pub mod Kept
 pub mod Calls
+pub mod Feeding

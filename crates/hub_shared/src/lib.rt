@@ -18,22 +18,26 @@
 #![tactic(auto)]
 
 mod closing;
+mod feeding;
 mod hub;
 mod ingesting;
 mod locked;
 mod opened;
 mod opening;
 mod publishing;
+mod report;
 mod seat;
 mod tag;
 #[cfg(test)]
 mod tests;
 
 pub use closing::close_hub;
+pub use feeding::ingest_all;
 pub use hub::Hub;
 pub use hub_core::Refusal;
 pub use ingesting::ingest;
 pub use opened::Opened;
 pub use opening::open_hub;
+pub use report::{IngestReport, PortEnd};
 pub use seat::FeedSeat;
 pub use std::alloc::AllocError as NoMemory;
