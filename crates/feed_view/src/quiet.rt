@@ -61,7 +61,7 @@ fn is_free(table: &Table, entity: &Entity) -> bool
 
 /// Whether what is held, if anything is, is no alert.
 fn is_quiet_at(held: Option<&Stored>) -> bool
-    ensures { result ≡ quiet.is_quiet_at (option_copied held) }
+    ensures { result ≡ quiet.is_quiet_at (option_copied held.entry) }
 {
     match held {
         Some(stored) => stored.entity.alert.is_none(),
