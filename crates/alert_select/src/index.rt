@@ -5,32 +5,32 @@ ghost use Rattle.alert_select.specs.Ids.{alert_ids};
 
 use crate::NoMemory;
 use entity_table::Table;
-use rt_types::{Copied, Text};
+use rt_types::{Copied, Shared, Text};
 use std::alloc::Global;
 use std::marker::Model;
 
-/// The ids of a feed's alerts. A contract sees the list of ids.
+/// The ids of a feed's alerts, which its copies share. A contract sees the list of ids.
 #[derive(Drop)]
 pub struct AlertIndex {
-    ids: Vec<Text>,
+    // None of a feed that holds nothing.
+    ids: Option<Shared<Vec<Text>>>,
 }
 
 impl Model for AlertIndex {
     ghost use Rattle.std.specs.Prelude.{List, ℕ};
+    ghost use Rattle.alert_select.specs.Ids.{kept_ids};
 
     ghost Value = { List (List ℕ) };
 
-    ghost view = { λ index. index.ids.items };
+    ghost view = { λ index. kept_ids index.ids };
 }
 
 impl AlertIndex {
     /// The index of a feed that holds nothing. It takes no memory.
-    pub fn empty(alloc: Global) -> AlertIndex
+    pub fn empty() -> AlertIndex
         ensures { result ≡ [] }
     {
-        AlertIndex {
-            ids: Vec::new(alloc),
-        }
+        AlertIndex { ids: None }
     }
 
     /// The ids of the entities that have an alert, in byte order; or want of memory.
@@ -43,13 +43,26 @@ impl AlertIndex {
                 ids.push(stored.entity.id.copy()?)?;
             }
         }
-        Ok(AlertIndex { ids })
+        Ok(AlertIndex {
+            ids: Some(Shared::new(alloc, ids)?),
+        })
     }
 
     /// The ids, in byte order.
     pub fn ids(&self) -> &[Text]
         ensures { result.now ≡ self.now }
     {
-        self.ids.as_slice()
+        match &self.ids {
+            Some(ids) => ids.get().as_slice(),
+            None => &[],
+        }
+    }
+}
+
+impl Copied for AlertIndex {
+    fn copy(&self) -> Result<Self, NoMemory> {
+        Ok(AlertIndex {
+            ids: self.ids.copy()?,
+        })
     }
 }

@@ -1,14 +1,17 @@
 //! The view of a feed.
 
 ghost use Rattle.std.specs.Prelude.{◌≡◌, ◌+◌, ◌*◌, ◌<◌, ◌≤◌, length, IfOk, IsTrue};
-ghost use Rattle.feed_defs.specs.History.{stamp_of};
+ghost use Rattle.alert_select.specs.Ids.{alert_ids};
+ghost use Rattle.feed_defs.specs.History.{stamp_of, entities_after};
 ghost use Rattle.text_defs.specs.Moments.{last_moment, is_stamp};
 ghost use Rattle.board_defs.specs.Views.{nothing_kept, feed_after};
 
 use crate::NoMemory;
+use crate::quiet::stays_quiet;
+use alert_select::AlertIndex;
 use delay_rule::Steps;
 use entity_table::{Table, apply};
-use rt_types::FeedMessage;
+use rt_types::{Copied, FeedMessage};
 use sched_types::Plan;
 use std::alloc::Global;
 use std::marker::Model;
@@ -18,6 +21,8 @@ use std::sync::ledger::Ledger;
 #[derive(Drop)]
 pub struct FeedView {
     table: Table,
+    // The ids of the table's alerts.
+    alerts: AlertIndex,
     // The stamp of the last message, 0 if there is none.
     stamp: u64,
     // How many messages there were.
@@ -25,9 +30,10 @@ pub struct FeedView {
 }
 
 impl Model for FeedView {
-    ghost use Rattle.std.specs.Prelude.{◌≤◌};
+    ghost use Rattle.std.specs.Prelude.{◌≡◌, ◌≤◌};
     ghost use Rattle.text_defs.specs.Moments.{last_moment};
     ghost use Rattle.board_defs.specs.Views.{FeedKept};
+    ghost use Rattle.feed_view.specs.Quiet.{AreKept};
 
     ghost Value = { FeedKept };
 
@@ -39,7 +45,7 @@ impl Model for FeedView {
       };
     } };
 
-    ghost invariant = { λ v. (v.count ≤ v.stamp) × (v.stamp ≤ last_moment) };
+    ghost invariant = { λ v. AreKept v.table v.alerts v.count v.stamp };
 }
 
 impl FeedView {
@@ -49,13 +55,15 @@ impl FeedView {
     {
         FeedView {
             table: Table::empty(alloc),
+            alerts: AlertIndex::empty(),
             stamp: 0,
             count: 0,
         }
     }
 
     /// The view after one message more, whose stamp is a moment behind the last one; or want of memory. The
-    /// feed is one of the given timetable. The count of steps rises by up to two for each entity.
+    /// feed is one of the given timetable. The count of steps rises by up to two for each entity. Where neither the
+    /// message nor what it replaces has an alert, the old view's alerts are shared.
     pub fn next<L: Ledger>(
         alloc: Global,
         _plan: &Plan,
@@ -69,9 +77,11 @@ impl FeedView {
         ensures few { _steps.new ≤ _steps.old + 2 * length message.entity }
     {
         let table = apply(alloc, &old.table, &message)?;
+        let alerts = alerts_after(alloc, &old.alerts, &old.table, &message, &table)?;
         let stamp = message.header.timestamp.unwrap_or(0);
         Ok(FeedView {
             table,
+            alerts,
             stamp,
             count: old.count + 1,
         })
@@ -82,6 +92,13 @@ impl FeedView {
         ensures { result.now ≡ self.now.fold.entities }
     {
         &self.table
+    }
+
+    /// The ids of the alerts that it holds.
+    pub fn alerts(&self) -> &AlertIndex
+        ensures { result.now ≡ alert_ids self.now.fold.entities }
+    {
+        &self.alerts
     }
 
     /// The stamp of its last message, in seconds since 1970; 0 if it sent none.
@@ -99,5 +116,25 @@ impl FeedView {
         ensures moment { result ≤ last_moment }
     {
         self.count
+    }
+}
+
+/// The alerts of a table after a message; those of the table before it, where the message leaves them.
+fn alerts_after(
+    alloc: Global,
+    old: &AlertIndex,
+    table: &Table,
+    message: &FeedMessage,
+    next: &Table,
+) -> Result<AlertIndex, NoMemory>
+    requires old { old.now ≡ alert_ids table.now }
+    requires next { next.now ≡ entities_after message.now table.now }
+    ensures { IfOk result (λ alerts. alerts ≡ alert_ids next.now) }
+{
+    table.sound();
+    if stays_quiet(old, table, message) {
+        old.copy()
+    } else {
+        AlertIndex::build(alloc, next)
     }
 }

@@ -7,7 +7,8 @@ use Rattle.alert_select.proofs.index.AlertIndex.build.Goals as goal
 
 pub returns : goal.returns
 returns c =
-    sym (append-nil c.loop-stored.ids.items)
+    ap (λ ids. ids.items) c.in_ok-new.ensures
+    ∙ sym (append-nil c.loop-stored.ids.items)
     ∙ ap (λ left. c.loop-stored.ids.items ++ filter_map alert_id left) (sym c.in-None.ensures.steps.0)
     ∙ c.loop-stored.invariant
     ∙ ap (λ all. filter_map alert_id all) (c.into_iter-stored-iterator.ensures.into_iter_gives ∙ c.iter-stored-items.ensures.items)
