@@ -29,6 +29,7 @@ mod sources;
 mod writing;
 
 pub use adapters::clock::SystemClock;
+pub use adapters::door::TcpDoor;
 pub use adapters::files::StdFiles;
 pub use adapters::sink::StdSink;
 pub use adapters::source::StdSource;
