@@ -50,4 +50,6 @@ pub use std::alloc::AllocError as NoMemory;
 pub use writing::{OutputFault, write_all};
 
 #[cfg(test)]
+mod door_tests;
+#[cfg(test)]
 mod tests;

@@ -23,6 +23,7 @@ const WRITE_SECONDS: u64 = 30;
 /// How often a call tries to accept a connection, and how many milliseconds it waits in between: for
 /// a minute in all.
 const TRIES: u32 = 600;
+
 const PAUSE_MILLISECONDS: u64 = 100;
 
 /// A door over a listener of the system, which several doors may share. It ends after a given number
@@ -107,8 +108,7 @@ where
     fn done(&mut self, _input: StdSource<L::Stream>, _output: StdSink<L::Stream>)
         ensures cause { tcp_faults self.old ≤ tcp_faults self.new }
         ensures same { self.new ≡ self.old }
-    {
-    }
+    {}
 }
 
 /// Whether so many connections are all that a door is to hand out.
@@ -134,10 +134,7 @@ where
 
 /// Accepts a connection and gives its two ends. What passes is waited for: a connection that can't
 /// be accepted or made ready is let go, and the next one is tried.
-fn accept<L: OpenListener, C: rt::Clock>(
-    listener: &L,
-    system: &C,
-) -> Option<(L::Stream, L::Stream)>
+fn accept<L: OpenListener, C: rt::Clock>(listener: &L, system: &C) -> Option<(L::Stream, L::Stream)>
 where
     L::Stream: OpenStream,
 {
