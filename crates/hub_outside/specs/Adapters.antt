@@ -4,6 +4,7 @@ use Rattle.hub_outside.specs.declared.adapters.source.StdSource.{StdSource}
 use Rattle.hub_outside.specs.declared.adapters.sink.StdSink.{StdSink}
 use Rattle.hub_outside.specs.declared.adapters.files.StdFiles.{StdFiles}
 use Rattle.hub_outside.specs.declared.adapters.clock.SystemClock.{SystemClock}
+use Rattle.hub_outside.specs.declared.adapters.door.TcpDoor.{TcpDoor}
 
 -- the reader behind a source
 abbrev pub reader_of : {R : Type 0} → StdSource R → R
@@ -32,3 +33,15 @@ files_faults files = files.faults
 -- the runtime behind the system's clock
 abbrev pub clock_system : {C : Type 0} → SystemClock C → C
 clock_system clock = clock.system
+
+-- the faults that a door over a listener met
+abbrev pub tcp_faults : {L C : Type 0} → TcpDoor L C → ℕ
+tcp_faults door = door.faults
+
+-- how many connections it is to hand out, of which 0 sets no end
+abbrev pub tcp_most : {L C : Type 0} → TcpDoor L C → ℕ
+tcp_most door = door.most
+
+-- how many connections it handed out
+abbrev pub tcp_taken : {L C : Type 0} → TcpDoor L C → ℕ
+tcp_taken door = door.taken

@@ -1,12 +1,15 @@
 -- What the adapters make of the answers of std.
-use Rattle.std.specs.Prelude.{ℕ, ◌/◌, ◌==◌, min, Bool, true, false, Result, Ok, Err, if◌then◌else◌}
+use Rattle.std.specs.Prelude.{◌≡◌, ℕ, ◌/◌, ◌==◌, ◌&&◌, nat_le, nat_lt, min, Bool, true, false, Result, Ok, Err, if◌then◌else◌}
 use Rattle.std.specs.Duration.{as_nanos}
 use Rattle.std.specs.IoError.{error_kind}
 use Rattle.std.specs.declared.io.Error.{Error}
 use Rattle.std.specs.declared.io.ErrorKind.{ErrorKind}
-use Rattle.std.specs.declared.io.ErrorKind.TheVariants.{NotFound, NotADirectory, Interrupted}
+use Rattle.std.specs.declared.io.ErrorKind.TheVariants.{NotFound, NotADirectory, Interrupted, ConnectionAborted, ConnectionReset, HostUnreachable, NetworkDown, NetworkUnreachable, OutOfMemory, TimedOut, Uncategorized, WouldBlock}
 use Rattle.std.specs.declared.time.Duration.{Duration}
 use Rattle.text_defs.specs.Moments.{last_moment}
+use Rattle.hub_outside.specs.Count.{one_more}
+use Rattle.hub_outside.specs.declared.doors.DoorAnswer.{DoorAnswer}
+use Rattle.hub_outside.specs.declared.doors.DoorAnswer.TheVariants.{Link, End as DoorEnd, Failed as DoorFailed}
 use Rattle.hub_outside.specs.declared.file_stores.FileAnswer.{FileAnswer}
 use Rattle.hub_outside.specs.declared.file_stores.FileAnswer.TheVariants.{Absent, Failed}
 use Rattle.hub_outside.specs.declared.sinks.WriteAnswer.{WriteAnswer}
@@ -47,3 +50,31 @@ answer_unopened _ = Failed
 abbrev pub moment_of : Result Duration Error → ℕ
 moment_of (Ok time) = min (as_nanos time / 1_000_000_000) last_moment
 moment_of (Err e) = 0
+
+-- Whether a connection that could not be accepted tells nothing of those that come next: it is gone
+-- already, the network or memory is wanting, or too many files are open (ECONNABORTED, EMFILE, ENFILE
+-- and the like of POSIX; those that std has no kind for among them).
+abbrev pub is_passing : ErrorKind → Bool
+is_passing ConnectionAborted = true
+is_passing ConnectionReset = true
+is_passing HostUnreachable = true
+is_passing Interrupted = true
+is_passing NetworkDown = true
+is_passing NetworkUnreachable = true
+is_passing OutOfMemory = true
+is_passing TimedOut = true
+is_passing Uncategorized = true
+is_passing WouldBlock = true
+is_passing _ = false
+
+-- whether so many connections are all that a door is to hand out, of which 0 sets no end
+abbrev pub are_all : ℕ → ℕ → Bool
+are_all most taken = nat_lt 0 most && nat_le most taken
+
+-- what a door over a listener answers by how many connections it handed out, and how many they are
+-- then: it ends once they are all, and each that it hands out counts
+abbrev pub CountsLinks : {I O : Type 0} → DoorAnswer I O → ℕ → ℕ → ℕ → Type 0
+CountsLinks (Link input output) most before after =
+    (are_all most before ≡ false) × (after ≡ one_more before)
+CountsLinks DoorEnd most before after = (are_all most before ≡ true) × (after ≡ before)
+CountsLinks DoorFailed most before after = (are_all most before ≡ false) × (after ≡ before)

@@ -5,6 +5,7 @@ pub mod Buffer
 pub mod Files
 pub mod Clock
 pub mod Calls
+pub mod Doors
 pub mod Memory
 pub mod Writing
 pub mod Outside

@@ -1,10 +1,13 @@
 -- The forms in memory as their callers see them, and what their calls do.
-use Rattle.std.specs.Prelude.{◌≡◌, ℕ, ◌==◌, min, List, ◌++◌, length, take, drop, IsFalse, if◌then◌else◌}
+use Rattle.std.specs.Prelude.{◌≡◌, ℕ, ◌==◌, min, List, [], ◌++◌, length, take, drop, slice_get, Option, Some, None, IsFalse, if◌then◌else◌}
 use Rattle.hub_outside.specs.declared.sources.ReadAnswer.{ReadAnswer}
 use Rattle.hub_outside.specs.declared.sources.ReadAnswer.TheVariants.{Got, End, Failed}
 use Rattle.hub_outside.specs.declared.sinks.WriteAnswer.{WriteAnswer}
 use Rattle.hub_outside.specs.declared.sinks.WriteAnswer.TheVariants.{Took, Failed as WriteFailed}
-use Rattle.hub_outside.specs.Calls.{CallCounts, is_failing, with_call, with_fault, after_call, cut_at}
+use Rattle.hub_outside.specs.declared.doors.DoorAnswer.{DoorAnswer}
+use Rattle.hub_outside.specs.declared.doors.DoorAnswer.TheVariants.{Link, End as DoorEnd, Failed as DoorFailed}
+use Rattle.hub_outside.specs.Doors.{Links, handed_out, given_back}
+use Rattle.hub_outside.specs.Calls.{CallCounts, no_calls, is_failing, with_call, with_fault, after_call, cut_at}
 
 -- a source in memory: the bytes still to be read, the sizes that cut its reads, and its calls
 pub record SourceState : Type 0 where
@@ -83,3 +86,54 @@ files_in store = store.files
 -- the faults of a store in memory
 abbrev pub store_faults : StoreState → ℕ
 store_faults store = store.calls.faults
+
+-- a door in memory: its links, and its calls
+pub record DoorState : Type 0 where
+  pub links : Links SourceState SinkState
+  pub calls : CallCounts
+
+-- the links of a door in memory
+abbrev pub links_in : DoorState → Links SourceState SinkState
+links_in door = door.links
+
+-- the faults of a door in memory
+abbrev pub door_faults : DoorState → ℕ
+door_faults door = door.calls.faults
+
+-- a door in memory with these links ahead
+abbrev pub new_door : List (SourceState × SinkState) → List ℕ → DoorState
+new_door ahead failing = record {
+  links = record { ahead = ahead; done = []; out = 0 };
+  calls = no_calls failing;
+}
+
+-- what a door in memory answers with this link in front, if there is one, where it does not fail
+abbrev pub answer_in_front : Option (SourceState × SinkState) → DoorAnswer SourceState SinkState
+answer_in_front None = DoorEnd
+answer_in_front (Some link) = Link link.0 link.1
+
+-- what the next call of a door in memory answers
+abbrev pub door_answer : DoorState → DoorAnswer SourceState SinkState
+door_answer door =
+    if is_failing door.calls then DoorFailed else answer_in_front (slice_get door.links.ahead 0)
+
+-- the links of a door in memory once it answered so
+abbrev pub links_after : DoorAnswer SourceState SinkState → Links SourceState SinkState
+    → Links SourceState SinkState
+links_after (Link input output) links = handed_out links
+links_after DoorEnd links = links
+links_after DoorFailed links = links
+
+-- the door after that call
+abbrev pub after_next : DoorState → DoorState
+after_next door = record {
+  links = links_after (door_answer door) door.links;
+  calls = after_call door.calls;
+}
+
+-- the door once a link was given back
+abbrev pub after_done : DoorState → SourceState → SinkState → DoorState
+after_done door input output = record {
+  links = given_back door.links input output;
+  calls = door.calls;
+}

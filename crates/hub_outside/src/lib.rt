@@ -1,9 +1,11 @@
-//! The outside of the hub: where bytes come from and go to, files, and the clock.
+//! The outside of the hub: where bytes come from and go to, files, the clock, and doors at which
+//! connections come in.
 //!
-//! Everything above reaches the outside by four traits alone: [`Source`], [`Sink`], [`Files`] and
-//! [`Clock`]. Each has a contract over what it *tells*: the bytes that a source has left, the bytes
-//! that a sink took, the map of files, the readings ahead. A real object tells nothing, a form in
-//! memory tells all, and code that is proved over the trait is right for both.
+//! Everything above reaches the outside by five traits alone: [`Source`], [`Sink`], [`Files`],
+//! [`Clock`] and [`Door`]. Each has a contract over what it *tells*: the bytes that a source has left,
+//! the bytes that a sink took, the map of files, the readings ahead, the links of a door. A real
+//! object tells nothing, a form in memory tells all, and code that is proved over the trait is right
+//! for both. A [`Gate`] is passed by threads and tells nothing either; it is there for tests.
 //!
 //! What the layer above may rely on:
 //! - where contents are told, each answer says exactly what it took, left or found;
@@ -14,27 +16,34 @@
 //! [`Buf`] is a buffer that says how much it takes without asking for memory. The forms in memory
 //! cut and fail their calls as their lists say. The adapters over std are a few lines each.
 //!
-//! The crate stands on std, and on `texts` for the last moment.
+//! The crate stands on std, and on `texts` for the last moment. It opens no socket and starts no
+//! thread: a [`TcpDoor`] is given its listener.
 #![tactic(auto)]
 
 mod adapters;
 mod buffers;
 mod clocks;
+mod doors;
 mod file_stores;
+mod gates;
 mod memory;
 mod sinks;
 mod sources;
 mod writing;
 
 pub use adapters::clock::SystemClock;
+pub use adapters::door::TcpDoor;
 pub use adapters::files::StdFiles;
 pub use adapters::sink::StdSink;
 pub use adapters::source::StdSource;
 pub use buffers::Buf;
 pub use clocks::Clock;
+pub use doors::{Door, DoorAnswer};
 pub use file_stores::{FileAnswer, Files};
+pub use gates::{Gate, GatePoint, OpenGate};
 pub use memory::calls::Calls;
 pub use memory::clock::FixedClock;
+pub use memory::door::{MemoryDoor, MemoryLink};
 pub use memory::files::{MemoryFile, MemoryFiles};
 pub use memory::sink::MemorySink;
 pub use memory::source::MemorySource;
@@ -43,5 +52,7 @@ pub use sources::{ReadAnswer, Source};
 pub use std::alloc::AllocError as NoMemory;
 pub use writing::{OutputFault, write_all};
 
+#[cfg(test)]
+mod door_tests;
 #[cfg(test)]
 mod tests;

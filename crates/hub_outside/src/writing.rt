@@ -8,8 +8,8 @@ use crate::sinks::{Sink, WriteAnswer};
 #[derive(Clone, Copy, Debug, PartialEq, Eq)]
 pub struct OutputFault;
 
-/// Writes all the bytes, in as many calls as it takes. Where the sink fails, the first of the bytes
-/// were written.
+/// Writes all the bytes, in as many calls as it takes. Where the sink fails, fewer of them were
+/// written, from the first on.
 pub fn write_all<K: Sink>(out: &mut K, bytes: &[u8]) -> Result<(), OutputFault>
     ensures bytes { WritesAll result (K.written out.old) (K.written out.new) bytes.now }
     ensures cause { HasWritingCause result (K.faults out.old) (K.faults out.new) }
