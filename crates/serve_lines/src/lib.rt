@@ -14,5 +14,5 @@ mod pieces;
 #[cfg(test)]
 mod tests;
 
-pub use lines::{FeedLine, ReadersLine, write_feed, write_readers};
+pub use lines::{FeedNumbers, ReaderNumbers, write_feed, write_readers};
 pub use pieces::Writing;

@@ -7,10 +7,8 @@ use crate::pieces::{Writing, put, put_number};
 use hub_outside::Sink;
 
 /// What is told of a feed at the end.
-#[derive(Clone, Copy, Debug)]
-pub struct FeedLine<'a> {
-    /// Its name.
-    pub name: &'a str,
+#[derive(Clone, Copy, Debug, PartialEq, Eq)]
+pub struct FeedNumbers {
     /// How many of its messages were accepted.
     pub accepted: u64,
     /// How many were refused, for another cause than want of memory.
@@ -24,8 +22,8 @@ pub struct FeedLine<'a> {
 }
 
 /// What is told of all readers at the end.
-#[derive(Clone, Copy, Debug)]
-pub struct ReadersLine {
+#[derive(Clone, Copy, Debug, PartialEq, Eq)]
+pub struct ReaderNumbers {
     /// How many there were.
     pub readers: u64,
     /// How many connections they served.
@@ -36,31 +34,31 @@ pub struct ReadersLine {
     pub starved: u64,
 }
 
-/// Writes the line of a feed. It takes no memory.
-pub fn write_feed<K: Sink>(out: &mut K, writing: &mut Writing, line: FeedLine<'_>)
+/// Writes the line of the feed of that name. It takes no memory.
+pub fn write_feed<K: Sink>(out: &mut K, writing: &mut Writing, name: &str, numbers: FeedNumbers)
     ensures wrote { Puts writing.old writing.new (K.written out.old) (K.written out.new)
-        (feed_line line.entry) }
+        (feed_line name.now numbers) }
     ensures cause { HasCause writing.old writing.new (K.faults out.old) (K.faults out.new) }
 {
     put(out, writing, b"feed ");
-    put(out, writing, line.name.as_bytes());
-    put_number(out, writing, b" accepted ", line.accepted);
-    put_number(out, writing, b" refused ", line.refused);
-    put_number(out, writing, b" starved ", line.starved);
-    put_number(out, writing, b" toolong ", line.too_long);
-    put_number(out, writing, b" last ", line.last);
+    put(out, writing, name.as_bytes());
+    put_number(out, writing, b" accepted ", numbers.accepted);
+    put_number(out, writing, b" refused ", numbers.refused);
+    put_number(out, writing, b" starved ", numbers.starved);
+    put_number(out, writing, b" toolong ", numbers.too_long);
+    put_number(out, writing, b" last ", numbers.last);
     put(out, writing, b"\n");
 }
 
 /// Writes the line of the readers. It takes no memory.
-pub fn write_readers<K: Sink>(out: &mut K, writing: &mut Writing, line: ReadersLine)
+pub fn write_readers<K: Sink>(out: &mut K, writing: &mut Writing, numbers: ReaderNumbers)
     ensures wrote { Puts writing.old writing.new (K.written out.old) (K.written out.new)
-        (readers_line line) }
+        (readers_line numbers) }
     ensures cause { HasCause writing.old writing.new (K.faults out.old) (K.faults out.new) }
 {
-    put_number(out, writing, b"readers ", line.readers);
-    put_number(out, writing, b" connections ", line.connections);
-    put_number(out, writing, b" responses ", line.responses);
-    put_number(out, writing, b" starved ", line.starved);
+    put_number(out, writing, b"readers ", numbers.readers);
+    put_number(out, writing, b" connections ", numbers.connections);
+    put_number(out, writing, b" responses ", numbers.responses);
+    put_number(out, writing, b" starved ", numbers.starved);
     put(out, writing, b"\n");
 }

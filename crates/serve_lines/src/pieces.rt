@@ -4,7 +4,7 @@ ghost use Rattle.std.specs.Prelude.{◌≡◌, ℕ, ◌≤◌, ◌++◌, Option,
 ghost use Rattle.std.specs.Fmt.{decimal};
 ghost use Rattle.serve_lines.specs.Wrote.{Wrote, Puts, HasCause};
 
-use hub_outside::{Sink, write_all};
+use hub_outside::{OutputFault, Sink, write_all};
 use itoa::Buffer;
 
 /// How writing went so far.
@@ -23,11 +23,10 @@ pub(crate) fn put<K: Sink>(out: &mut K, writing: &mut Writing, bytes: &[u8])
 {
     match *writing {
         Writing::Cut => {}
-        Writing::Whole => {
-            if write_all(out, bytes).is_err() {
-                *writing = Writing::Cut;
-            }
-        }
+        Writing::Whole => match write_all(out, bytes) {
+            Ok(()) => {}
+            Err(OutputFault) => *writing = Writing::Cut,
+        },
     }
 }
 

@@ -1,6 +1,6 @@
 //! The lines of one feed and two readers.
 
-use crate::{FeedLine, ReadersLine, Writing, write_feed, write_readers};
+use crate::{FeedNumbers, ReaderNumbers, Writing, write_feed, write_readers};
 use hub_outside::MemorySink;
 use std::alloc::Global;
 use std::test::Fail;
@@ -9,16 +9,15 @@ use std::test::Fail;
 fn written(alloc: Global, failing: Vec<u64>) -> (MemorySink, Writing) {
     let mut out = MemorySink::new(alloc, Vec::new(alloc), failing);
     let mut writing = Writing::Whole;
-    let feed = FeedLine {
-        name: "a",
+    let feed = FeedNumbers {
         accepted: 2,
         refused: 1,
         starved: 0,
         too_long: 0,
         last: 1_743_314_000,
     };
-    write_feed(&mut out, &mut writing, feed);
-    let readers = ReadersLine {
+    write_feed(&mut out, &mut writing, "a", feed);
+    let readers = ReaderNumbers {
         readers: 2,
         connections: 2,
         responses: 2,
