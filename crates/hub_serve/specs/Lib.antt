@@ -1,0 +1,5 @@
+pub mod Ties
+pub mod Words
+pub mod Feeds
+pub mod Readers
+pub mod Runs

@@ -1,0 +1,32 @@
+-- What a run made of the connections of its doors.
+use Rattle.std.specs.Prelude.{◌≡◌, ℕ, false, List, [], ◌∷◌, Option, IfSome, ⊤}
+use mathlib.Core.List.{IsPrefix}
+use Rattle.sched_types.specs.Schedules.{Schedules}
+use Rattle.hub_outside.specs.Doors.{Links}
+use Rattle.hub_history.specs.Told.{Told, history_of}
+use Rattle.http_door.specs.declared.report.DoorReport.{DoorReport}
+use Rattle.http_door.specs.Doors.{ServesDoor}
+use Rattle.http_door.specs.Visits.{Ends, hub}
+use Rattle.hub_serve.specs.Words.{DoorWords}
+
+-- The connections of a door were served by a reader that knew nothing at first, at the readings of a
+-- clock; what it knew in the end begins the ended history.
+pub record DoorRan {I O : Type 0} (seen : Ends I O) (plans : Schedules) (ending : Option Told)
+    (links links' : Option (Links I O)) (faults faults' : ℕ) (ahead : Option (List ℕ))
+    (report : DoorReport) : Type 0 where
+  pub left : Option (List ℕ)
+  pub line : Told
+  pub reads : ℕ
+  pub serves : ServesDoor seen links links' faults faults' (hub ahead plans [] 0 false)
+      (hub left plans (history_of line) reads false) report
+  pub begins : IfSome ending (λ ended. IsPrefix line.log ended.log)
+
+-- each door, with what the readings of its clock were
+abbrev pub DoorsRan : {D I O : Type 0} → DoorWords D I O → Ends I O → Schedules → Option Told
+    → List D → List D → List (Option (List ℕ)) → List DoorReport → Type 0
+DoorsRan words seen plans ending [] [] [] [] = ⊤
+DoorsRan words seen plans ending (old ∷ olds) (new ∷ news) (ahead ∷ aheads) (report ∷ reports) =
+    DoorRan seen plans ending (words.links old) (words.links new) (words.faults old)
+    (words.faults new) ahead report
+    × DoorsRan words seen plans ending olds news aheads reports
+DoorsRan words seen plans ending _ _ _ _ = ⊥

@@ -1,0 +1,117 @@
+-- What a run of a hub does, writes and answers.
+use Rattle.std.specs.Prelude.{◌≡◌, ℕ, ◌+◌, ◌<◌, nat_lt, Bool, true, false, ◌||◌, if◌then◌else◌, List, [], ◌∷◌, ◌++◌, length, map, Option, Some, None, IfSome}
+use Rattle.std.specs.List.{list_any, sum_by}
+use Rattle.std.specs.Option.{is_none}
+use Rattle.feed_defs.specs.History.{IsLegal}
+use Rattle.hub_outside.specs.Doors.{Links}
+use Rattle.hub_history.specs.Told.{Told, history_of}
+use Rattle.sched_types.specs.declared.plans.NamedFeed.{NamedFeed}
+use Rattle.sched_types.specs.Schedules.{Schedules}
+use Rattle.hub_shared.specs.Seats.{Ties, IsOf}
+use Rattle.hub_shared.specs.declared.report.PortEnd.{PortEnd}
+use Rattle.hub_shared.specs.declared.report.PortEnd.TheVariants.{Ended, PortFault, Spent, NoMemory}
+use Rattle.http_door.specs.declared.report.DoorEnd.{DoorEnd}
+use Rattle.http_door.specs.declared.report.DoorEnd.TheVariants.{Ended as DoorEnded, Failed}
+use Rattle.http_door.specs.declared.report.DoorReport.{DoorReport}
+use Rattle.http_door.specs.Doors.{capped}
+use Rattle.http_door.specs.Visits.{Ends}
+use Rattle.serve_lines.specs.declared.lines.FeedNumbers.{FeedNumbers}
+use Rattle.serve_lines.specs.declared.lines.ReaderNumbers.{ReaderNumbers}
+use Rattle.serve_lines.specs.declared.pieces.Writing.{Writing}
+use Rattle.serve_lines.specs.declared.pieces.Writing.TheVariants.{Whole, Cut}
+use Rattle.serve_lines.specs.Lines.{feed_line, readers_line}
+use Rattle.serve_lines.specs.Wrote.{Wrote, HasCause}
+use Rattle.hub_serve.specs.Words.{PortWords, DoorWords}
+use Rattle.hub_serve.specs.Feeds.{FeedTold, FeedsRan}
+use Rattle.hub_serve.specs.Readers.{DoorsRan}
+
+-- ---- what is written
+
+abbrev pub numbers_of : FeedTold → FeedNumbers
+numbers_of told = record {
+  accepted = told.report.accepted;
+  refused = told.report.refused;
+  starved = told.report.starved;
+  too_long = told.report.too_long;
+  last = told.last;
+}
+
+-- the line of each feed, under its name
+abbrev pub feed_lines : List NamedFeed → List FeedTold → List ℕ
+feed_lines (feed ∷ feeds) (told ∷ tolds) =
+    feed_line feed.name (numbers_of told) ++ feed_lines feeds tolds
+feed_lines _ _ = []
+
+-- what all readers did; each sum stops at the last number of 64 bits
+abbrev pub sum_of : List DoorReport → ReaderNumbers
+sum_of reports = record {
+  readers = length reports;
+  connections = capped (sum_by (λ r. r.connections) reports);
+  responses = capped (sum_by (λ r. r.responses) reports);
+  starved = capped (sum_by (λ r. r.starved) reports);
+}
+
+abbrev pub text_of : List NamedFeed → List FeedTold → List DoorReport → List ℕ
+text_of feeds tolds reports = feed_lines feeds tolds ++ readers_line (sum_of reports)
+
+-- ---- the status
+
+abbrev pub is_starved : PortEnd → Bool
+is_starved Ended = false
+is_starved PortFault = false
+is_starved Spent = false
+is_starved NoMemory = true
+
+abbrev pub is_fault : PortEnd → Bool
+is_fault Ended = false
+is_fault PortFault = true
+is_fault Spent = false
+is_fault NoMemory = false
+
+abbrev pub has_failed : DoorEnd → Bool
+has_failed DoorEnded = false
+has_failed Failed = true
+
+-- no ending was had, or an ingester had no memory for its buffer
+abbrev pub wants_memory : Option Told → List FeedTold → Bool
+wants_memory ending tolds = is_none ending || list_any (λ told. is_starved told.report.end) tolds
+
+-- a port failed or had a message that was too long, or a door failed
+abbrev pub went_ill : List FeedTold → List DoorReport → Bool
+went_ill tolds reports =
+    list_any (λ told. is_fault told.report.end || nat_lt 0 told.report.too_long) tolds
+    || list_any (λ report. has_failed report.end) reports
+
+-- the output failed, or memory was wanting, or something went ill, or all went well
+abbrev pub status_of : Writing → Bool → Bool → ℕ
+status_of Cut wants ill = 5
+status_of Whole wants ill = if wants then 6 else if ill then 1 else 0
+
+-- ---- the run
+
+-- A hub ran with these ports and doors to their ends. All feeds' messages stand in one legal history,
+-- which is that of the ending, where one was had; each reader's history begins it.
+pub record Ran {P D I O : Type 0}
+    (ports : PortWords P) (doors : DoorWords D I O) (seen : Ends I O) (schedules : Schedules)
+    (ps ps' : List P) (ds ds' : List D) (aheads : List (Option (List ℕ)))
+    (written written' : Option (List ℕ)) (faults faults' : ℕ) (status : ℕ) : Type 0 where
+  pub hub : Ties
+  pub plans : hub.plans ≡ schedules
+  pub ending : Option Told
+  pub of : IfSome ending (λ ended. IsOf ended hub)
+  pub tolds : List FeedTold
+  pub feeds_ran : FeedsRan ports hub ending 0 ps ps' tolds
+  pub reports : List DoorReport
+  pub doors_ran : DoorsRan doors seen schedules ending ds ds' aheads reports
+  pub writing : Writing
+  pub wrote : Wrote writing written written' (text_of schedules.feeds tolds reports)
+  pub cause : HasCause Whole writing faults faults'
+  pub status_is : status ≡ status_of writing (wants_memory ending tolds) (went_ill tolds reports)
+
+-- no hub was had for want of memory: no port and no door was asked, and nothing was written
+pub record WasNotOpened {P D K : Type 0} (ps ps' : List P) (ds ds' : List D) (out out' : K)
+    (status : ℕ) : Type 0 where
+  pub ports_same : ps' ≡ ps
+  pub doors_same : ds' ≡ ds
+  pub out_same : out' ≡ out
+  pub wants : status ≡ 6
