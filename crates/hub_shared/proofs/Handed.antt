@@ -1,10 +1,11 @@
 -- Messages that are handed in one after another, and what becomes of each.
-use Rattle.std.proofs.Common.{◌≡◌, ℕ, ◌+◌, ◌<◌, ◌≤◌, not, Bool, true, false, cond, List, [], ◌∷◌, ◌++◌, length, map, filter, Option, Some, None, Result, Ok, Err, refl, sym, ap, ◌∙◌, subst, arith, append-nil, append_assoc, length-append, filter-append}
-use Rattle.std.specs.Prelude.{nat_lt, if◌then◌else◌, ⊥}
+use Rattle.std.proofs.Common.{◌≡◌, ℕ, ◌+◌, ◌<◌, ◌≤◌, not, Bool, true, false, cond, List, [], ◌∷◌, ◌++◌, length, map, filter, Option, Some, None, Result, Ok, Err, refl, sym, ap, ◌∙◌, subst, arith, append-nil, append_assoc, length-append}
+use Rattle.std.specs.Prelude.{nat_lt, if◌then◌else◌}
 use Rattle.std.specs.List.{All}
 use Rattle.std.proofs.lemmas.Bool.Decides.{nat_tests}
 use Rattle.std.proofs.lemmas.List.{map-append}
-use Rattle.std.proofs.lemmas.List.Elements.{All-nil, All-cons, All-append}
+use Rattle.std.proofs.lemmas.List.Elements.{All-nil, All-cons, All-append, filter-append}
+use Rattle.answer_defs.specs.Defined.{IsCause}
 use Rattle.rt_types.specs.declared.message.FeedMessage.{FeedMessage}
 use Rattle.feed_defs.specs.declared.history.Entry.{Entry}
 use Rattle.feed_defs.specs.History.{Refusal, judgement_of, well_formed, longest_message, messages_of, stamp_of}
@@ -20,13 +21,14 @@ use Rattle.hub_shared.proofs.Fronts.{begins_append, begins_trans}
 
 -- one more message is judged by the last that was accepted
 pub newer_push : (last : ℕ) (xs : List (List ℕ)) (bytes : List ℕ) → newer_of last (xs ++ bytes ∷ []) ≡ newer_of last xs ++ newer_of (last_after last (newer_of last xs)) (bytes ∷ [])
-unfolding newer_of, last_after
+unfolding newer_of last_after
 newer_push last [] bytes = refl
-newer_push last (x ∷ xs) bytes = by_judgement (judgement_of last x) where
-  by_judgement : (j : Result FeedMessage Refusal) → newer_by j last (λ stamp. newer_of stamp (xs ++ bytes ∷ []))
+newer_push last (x ∷ xs) bytes = by_judgement (judgement_of last x) (λ stamp. newer_push stamp xs bytes) where
+  by_judgement : (j : Result FeedMessage Refusal) → ((stamp : ℕ) → newer_of stamp (xs ++ bytes ∷ []) ≡ newer_of stamp xs ++ newer_of (last_after stamp (newer_of stamp xs)) (bytes ∷ []))
+      → newer_by j last (λ stamp. newer_of stamp (xs ++ bytes ∷ []))
       ≡ newer_by j last (λ stamp. newer_of stamp xs) ++ newer_of (last_after last (newer_by j last (λ stamp. newer_of stamp xs))) (bytes ∷ [])
-  by_judgement (Ok m) = ap (λ ms. m ∷ ms) (newer_push (stamp_of m) xs bytes)
-  by_judgement (Err refusal) = newer_push last xs bytes
+  by_judgement (Ok m) rest = ap (λ (ms : List FeedMessage). m ∷ ms) (rest (stamp_of m))
+  by_judgement (Err refusal) rest = rest last
 
 pub newer_one : (last : ℕ) (bytes : List ℕ) (m : FeedMessage) → judgement_of last bytes ≡ Ok m → newer_of last (bytes ∷ []) ≡ m ∷ []
 unfolding newer_of
@@ -146,3 +148,8 @@ module _ (first old new : SeatSeen) (given : List Given) (bytes : List ℕ) (tal
   pub exceeds_limit : longest_message < length bytes → new ≡ old → Sorts first new (with_one false) (record tally { too_long = tally.too_long + 1 })
   exceeds_limit many same = leaves same false (newer_with ∙ ap (λ ms. accepted_so_far ++ ms) (newer_none old.last bytes (TooLong (length bytes)) (too_long old.last bytes many)) ∙ append-nil accepted_so_far)
       (record tally { too_long = tally.too_long + 1 }) refl (omega arith) (λ e. absurd (cc)) (omega (arith, s.too_long, count_push exceeds given (record { bytes = bytes; starved = false }) true (is_long bytes false many))) (omega arith)
+
+  -- it was refused, or memory was wanting for it
+  pub not_accepted : length bytes ≤ longest_message → new ≡ old → (o : Option Refusal) → IsCause (judgement_of old.last bytes) o → (tally' : Tally) → tally' ≡ counted o tally → SortsMore first new given bytes tally'
+  not_accepted few same None is tally' are = record { starved = true; sorts = subst (λ (t : Tally). Sorts first new (with_one true) t) (sym are) (starves few same) }
+  not_accepted few same (Some cause) is tally' are = record { starved = false; sorts = subst (λ (t : Tally). Sorts first new (with_one false) t) (sym are) (refuses few same cause is) }

@@ -1,5 +1,5 @@
 -- What becomes of the messages that a port hands in, one after another.
-use Rattle.std.specs.Prelude.{◌≡◌, ℕ, ◌+◌, ◌<◌, ◌≤◌, not, Bool, true, false, nat_lt, ⊥, List, [], ◌∷◌, ◌++◌, length, map, filter, Option, Some, None, Result, Ok, Err}
+use Rattle.std.specs.Prelude.{◌≡◌, ℕ, ◌+◌, ◌<◌, ◌≤◌, not, Bool, true, false, nat_lt, List, [], ◌∷◌, ◌++◌, length, map, filter, Option, Some, None, Result, Ok, Err}
 use Rattle.std.specs.List.{All}
 use Rattle.rt_types.specs.declared.message.FeedMessage.{FeedMessage}
 use Rattle.feed_defs.specs.History.{Refusal, judgement_of, longest_message, messages_of, stamp_of}
@@ -93,21 +93,35 @@ pub record Sorts (old new : SeatSeen) (given : List Given) (tally : Tally) : Typ
   pub too_long : tally.too_long ≡ count_by exceeds given
   pub all : total tally ≡ length given
 
--- Why no more was asked for: none is left, the port failed, so many were handed in, or there was no
+-- of a port that tells its messages first and last, these were the first ones
+abbrev pub AreFirst : Ahead → Ahead → List (List ℕ) → Type 0
+AreFirst None after items = Unit {0}
+AreFirst (Some xs) None items = Unit {0}
+AreFirst (Some xs) (Some ys) items = (rest : List (List ℕ)) × (xs ≡ items ++ rest)
+
+-- and these were all
+abbrev pub AreAll : Ahead → Ahead → List (List ℕ) → Type 0
+AreAll None after items = Unit {0}
+AreAll (Some xs) None items = Unit {0}
+AreAll (Some xs) (Some ys) items = xs ≡ items
+
+-- Why no more was asked for: these were all, the port failed, so many were handed in, or there was no
 -- memory for the buffer, and nothing was asked for.
-abbrev pub EndsAs : PortEnd → ℕ → Ahead → ℕ → ℕ → Type 0
-EndsAs Ended many after faults faults' = (many < most_answers) × IsDone after
-EndsAs PortFault many after faults faults' = (many < most_answers) × Rose faults faults'
-EndsAs Spent many after faults faults' = many ≡ most_answers
-EndsAs NoMemory many after faults faults' = many ≡ 0
+abbrev pub EndsAs : PortEnd → List (List ℕ) → Ahead → Ahead → ℕ → ℕ → Type 0
+EndsAs Ended items before after faults faults' =
+    (length items < most_answers) × AreAll before after items
+EndsAs PortFault items before after faults faults' =
+    (length items < most_answers) × Rose faults faults'
+EndsAs Spent items before after faults faults' = length items ≡ most_answers
+EndsAs NoMemory items before after faults faults' = items ≡ []
 
 -- What was handed in by a port, what became of it, and why no more was.
 pub record Ingests (old new : SeatSeen) (before after : Ahead) (faults faults' : ℕ)
     (tally : Tally) (end : PortEnd) : Type 0 where
   pub given : List Given
-  pub front : Gives before after (bytes_of given)
+  pub front : AreFirst before after (bytes_of given)
   pub sorts : Sorts old new given tally
-  pub ends : EndsAs end (total tally) after faults faults'
+  pub ends : EndsAs end (bytes_of given) before after faults faults'
   pub fallen : faults ≤ faults'
 
 -- ---- one ask
@@ -128,19 +142,18 @@ pub record Goes (old new : SeatSeen) (before after : Ahead) (faults faults' : �
   pub counted : total tally' ≡ total tally + 1
 
 -- an ask that hands in nothing finds that none is left, or fails
-abbrev pub StopsAs : PortEnd → Ahead → ℕ → ℕ → Type 0
-StopsAs Ended after faults faults' = IsDone after
-StopsAs PortFault after faults faults' = Rose faults faults'
-StopsAs Spent after faults faults' = ⊥
-StopsAs NoMemory after faults faults' = ⊥
+abbrev pub StopsAs : PortEnd → Ahead → Ahead → ℕ → ℕ → Type 0
+StopsAs Ended before after faults faults' = Gives before after [] × IsDone after
+StopsAs PortFault before after faults faults' = Rose faults faults'
+StopsAs Spent before after faults faults' = ⊥
+StopsAs NoMemory before after faults faults' = ⊥
 
 -- nothing was handed in, and the port ends so
 pub record Stops (end : PortEnd) (old new : SeatSeen) (before after : Ahead) (faults faults' : ℕ)
     (tally tally' : Tally) : Type 0 where
-  pub gives : Gives before after []
   pub seat : new ≡ old
   pub tally_is : tally' ≡ tally
-  pub ends : StopsAs end after faults faults'
+  pub ends : StopsAs end before after faults faults'
 
 abbrev pub Asked : SeatSeen → SeatSeen → Ahead → Ahead → ℕ → ℕ → Tally → Tally
     → Option PortEnd → Type 0

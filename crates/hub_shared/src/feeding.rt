@@ -1,6 +1,6 @@
 //! Ingesting all that a port hands in.
 
-ghost use Rattle.std.specs.Prelude.{◌≡◌, ◌+◌, ◌<◌, ◌≤◌, ⊥, List, length};
+ghost use Rattle.std.specs.Prelude.{◌≡◌, ◌+◌, ◌<◌, ◌≤◌, List, length};
 ghost use Rattle.feed_defs.specs.History.{longest_message};
 ghost use Rattle.hub_outside.specs.Buffer.{room_of};
 ghost use Rattle.hub_core.specs.Answers.{cause_of};
@@ -10,7 +10,7 @@ ghost use Rattle.hub_shared.specs.declared.report.PortEnd.TheVariants.{NoMemory}
 
 use crate::hub::Hub;
 use crate::ingesting::ingest;
-use crate::report::{IngestReport, PortEnd, Tally};
+use crate::report::{IngestReport, PortEnd, PortReport, Tally};
 use crate::seat::FeedSeat;
 use feed_port::{FeedPort, LONGEST_MESSAGE, PortAnswer};
 use hub_core::Refusal;
@@ -24,7 +24,31 @@ const MOST_ANSWERS: u64 = 1_000_000_000_000;
 /// Brings in what the port hands in, message after message in their order, for the seat's feed, until
 /// the port has none left or fails, or has handed in 1,000,000,000,000. A message that is refused, or
 /// for which there is no memory, is counted and left. Memory for the longest message is taken before
-/// the port is asked for the first, and none for those that follow. It may wait as [`ingest`] does.
+/// the port is asked for the first, and none for those that follow. It may wait as
+/// [`ingest`](crate::ingest) does.
+pub fn ingest_port<R: Wait, P: FeedPort>(
+    rt: &R,
+    alloc: Global,
+    hub: &Hub,
+    seat: &mut FeedSeat,
+    port: &mut P,
+) -> PortReport
+    requires { seat.old.ties ≡ hub.now }
+    ensures ingests { Ingests seat.old seat.new (P.ahead port.old) (P.ahead port.new)
+        (P.faults port.old) (P.faults port.new)
+        (tally_of result.accepted result.refused result.starved result.too_long) result.end }
+    ensures unasked { result.end ≡ NoMemory → port.new ≡ port.old }
+{
+    let mut buffer = Buf::new(alloc);
+    if buffer.reserve(LONGEST_MESSAGE).is_err() {
+        return report(Tally::NONE, PortEnd::NoMemory);
+    }
+    let mut tally = Tally::NONE;
+    let end = ask_all(rt, alloc, hub, seat, port, &mut buffer, &mut tally);
+    report(tally, end)
+}
+
+/// The same with a seat that is given, and given back with the report.
 pub fn ingest_all<R: Wait, P: FeedPort>(
     rt: &R,
     alloc: Global,
@@ -38,24 +62,24 @@ pub fn ingest_all<R: Wait, P: FeedPort>(
         (tally_of result.accepted result.refused result.starved result.too_long) result.end }
     ensures unasked { result.end ≡ NoMemory → port.new ≡ port.old }
 {
-    let mut buffer = Buf::new(alloc);
-    if buffer.reserve(LONGEST_MESSAGE).is_err() {
-        return report(seat, Tally::NONE, PortEnd::NoMemory);
-    }
     let mut seat = seat;
-    let mut tally = Tally::NONE;
-    let end = ask_all(rt, alloc, hub, &mut seat, port, &mut buffer, &mut tally);
-    report(seat, tally, end)
+    let report = ingest_port(rt, alloc, hub, &mut seat, port);
+    IngestReport {
+        seat,
+        accepted: report.accepted,
+        refused: report.refused,
+        starved: report.starved,
+        too_long: report.too_long,
+        end: report.end,
+    }
 }
 
-/// The report of a seat.
-fn report(seat: FeedSeat, tally: Tally, end: PortEnd) -> IngestReport
-    ensures seat { result.seat ≡ seat }
+/// The report of such numbers.
+fn report(tally: Tally, end: PortEnd) -> PortReport
     ensures tally { tally_of result.accepted result.refused result.starved result.too_long ≡ tally }
     ensures end { result.end ≡ end }
 {
-    IngestReport {
-        seat,
+    PortReport {
         accepted: tally.accepted,
         refused: tally.refused,
         starved: tally.starved,
@@ -82,8 +106,9 @@ fn ask_all<R: Wait, P: FeedPort>(
     ensures asked { (result ≡ NoMemory) → ⊥ }
 {
     for _ in 0..MOST_ANSWERS {
-        if let Some(end) = ask(rt, alloc, hub, seat, port, buffer, tally) {
-            return end;
+        match ask(rt, alloc, hub, seat, port, buffer, tally) {
+            Some(end) => return end,
+            None => {}
         }
     }
     PortEnd::Spent

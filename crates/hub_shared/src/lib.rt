@@ -32,12 +32,12 @@ mod tag;
 mod tests;
 
 pub use closing::close_hub;
-pub use feeding::ingest_all;
+pub use feeding::{ingest_all, ingest_port};
 pub use hub::Hub;
 pub use hub_core::Refusal;
 pub use ingesting::ingest;
 pub use opened::Opened;
 pub use opening::open_hub;
-pub use report::{IngestReport, PortEnd};
+pub use report::{IngestReport, PortEnd, PortReport};
 pub use seat::FeedSeat;
 pub use std::alloc::AllocError as NoMemory;

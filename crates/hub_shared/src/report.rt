@@ -35,6 +35,21 @@ impl Tally {
 }
 
 /// What became of the messages that a port handed in.
+#[derive(Clone, Copy, Debug, PartialEq, Eq)]
+pub struct PortReport {
+    /// How many messages were accepted.
+    pub accepted: u64,
+    /// How many were refused, for another cause than want of memory.
+    pub refused: u64,
+    /// How many were refused for want of memory.
+    pub starved: u64,
+    /// How many had more bytes than a message may have, and were not handed in whole.
+    pub too_long: u64,
+    /// Why no more came.
+    pub end: PortEnd,
+}
+
+/// The same, with the seat by which they were brought in.
 #[derive(Drop)]
 pub struct IngestReport {
     /// The feed's seat, which knows the newest receipt.
