@@ -9,7 +9,7 @@ use rt_types::Text;
 use sched_types::{NamedFeed, NamedPlan, Plan, Plans};
 use std::alloc::Global;
 use std::cell::Cell;
-use std::sync::Arc;
+use std::sync::{Arc, Wait};
 use std::test::Fail;
 
 /// A request for a board of a stop that is not there, and the response to it.
@@ -71,8 +71,7 @@ impl Gate for Log {
 }
 
 /// Serves that door as the reader 3; the report, and what was passed.
-fn serve(rt: &HostRuntime, door: &mut MemoryDoor) -> Result<(DoorReport, u64), Fail> {
-    let alloc = rt.alloc();
+fn serve<R: Wait>(rt: &R, alloc: Global, door: &mut MemoryDoor) -> Result<(DoorReport, u64), Fail> {
     let mut hub = hub(alloc)?;
     let mut clock = FixedClock::new(vec![in alloc; 7]?);
     let log = Log {
@@ -94,7 +93,7 @@ fn written(alloc: Global, door: &MemoryDoor) -> Result<Vec<u8>, NoMemory> {
 #[test]
 fn links_are_served_and_given_back(rt: HostRuntime) -> Result<(), Fail> {
     let mut door = door(rt.alloc(), Vec::new(rt.alloc()))?;
-    let (report, points) = serve(&rt, &mut door)?;
+    let (report, points) = serve(&rt, rt.alloc(), &mut door)?;
     assert_eq!(rt; report.end, DoorEnd::Ended);
     assert_eq!(rt;
         (report.connections, report.responses, report.starved),
@@ -113,7 +112,7 @@ fn links_are_served_and_given_back(rt: HostRuntime) -> Result<(), Fail> {
 #[test]
 fn door_that_fails_is_served_no_further(rt: HostRuntime) -> Result<(), Fail> {
     let mut door = door(rt.alloc(), vec![in rt.alloc(); 2]?)?;
-    let (report, points) = serve(&rt, &mut door)?;
+    let (report, points) = serve(&rt, rt.alloc(), &mut door)?;
     assert_eq!(rt; report.end, DoorEnd::Failed);
     assert_eq!(rt;
         (report.connections, report.responses, report.starved),
