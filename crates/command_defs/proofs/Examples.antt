@@ -7,7 +7,7 @@ use Rattle.load_defs.proofs.OnFiles.{loading_on_files}
 use Rattle.conf_defs.specs.declared.conf.ScheduleConf.{ScheduleConf}
 use Rattle.text_defs.specs.Cleaned.{line_feed}
 use Rattle.text_defs.specs.Numbers.{number}
-use Rattle.command_defs.specs.Words.{command_of}
+use Rattle.command_defs.specs.Words.{command_of, serve_of}
 use Rattle.command_defs.specs.Words.Command.{Replay, ReplayWith, Check, Board, Gen}
 use Rattle.command_defs.specs.Checks.{timetables, counts_lines, conf_in}
 use Rattle.command_defs.specs.Commands.{offline, usage_line}
@@ -56,6 +56,16 @@ pub sample_asked : (command_of (gen_words (codes "18446744073709551615") (codes 
     × (command_of (codes "gen" ∷ codes "1" ∷ codes "10" ∷ []) ≡ None)
 unfolding command_of number
 sample_asked = (refl, refl, refl, refl, refl, refl, refl, refl)
+
+-- the words of the server, and others: they are no command of the other kind
+pub served : (serve_of (codes "serve" ∷ codes "hub.toml" ∷ []) ≡ Some (codes "hub.toml"))
+    × (serve_of (codes "serve" ∷ []) ≡ None)
+    × (serve_of (codes "serve" ∷ codes "hub.toml" ∷ codes "hub.toml" ∷ []) ≡ None)
+    × (serve_of (codes "serve" ∷ codes "-c" ∷ []) ≡ None)
+    × (serve_of (codes "check" ∷ codes "hub.toml" ∷ []) ≡ None)
+    × (command_of (codes "serve" ∷ codes "hub.toml" ∷ []) ≡ None)
+unfolding serve_of command_of
+served = (refl, refl, refl, refl, refl, refl)
 
 pub check_one : command_of (codes "check" ∷ codes "hub.toml" ∷ []) ≡ Some (Check (codes "hub.toml"))
 unfolding command_of

@@ -36,3 +36,11 @@ schedules_at files path = do
   conf ← conf_in (file_at files path)
   ts ← timetables files conf.schedules
   Ok (schedules_of conf ts)
+
+-- the same, and the configuration beside them
+unfoldable pub configured_at : List (List ℕ × List ℕ) → List ℕ
+    → Result (HubConf × Schedules) (List ℕ)
+configured_at files path = do
+  conf ← conf_in (file_at files path)
+  ts ← timetables files conf.schedules
+  Ok (conf, schedules_of conf ts)

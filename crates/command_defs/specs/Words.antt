@@ -75,3 +75,12 @@ command_with (name ∷ words) = command_by_name name words
 -- the command of the words, if they are one
 unfoldable pub command_of : List (List ℕ) → Option Command
 command_of words = if list_any is_option words then None else command_with words
+
+-- the path of the configuration in the words `serve CONFIG`, which are not of the commands that run
+-- once and end
+abbrev pub serve_with : List (List ℕ) → Option (List ℕ)
+serve_with (name ∷ config ∷ []) = if bytes_eq name (codes "serve") then Some config else None
+serve_with _ = None
+
+unfoldable pub serve_of : List (List ℕ) → Option (List ℕ)
+serve_of words = if list_any is_option words then None else serve_with words

@@ -11,6 +11,7 @@
 #![tactic(auto)]
 
 mod conf;
+mod copies;
 mod fault;
 mod rule;
 

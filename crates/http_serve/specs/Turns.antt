@@ -18,13 +18,6 @@ use Rattle.http_serve.specs.Replies.{Reply, moments_of, numbers_of, reply_bytes,
 use Rattle.http_serve.specs.Notes.{Noted, noted}
 use Rattle.http_serve.specs.Serves.{WasStarved, HasEndCause}
 
--- the output grew by all the bytes, or, where the sink failed, by fewer of them, from the first on
-abbrev pub WritesWhole : {E : Type 0} → Result Unit E → Option (List ℕ) → Option (List ℕ) → List ℕ
-    → Type 0
-WritesWhole (Ok done) before after bytes = Appends before after bytes
-WritesWhole (Err e) before after bytes =
-    (n : ℕ) × (n < length bytes) × Appends before after (take n bytes)
-
 -- Responses were written, of which the first has this place, and more may have been begun.
 pub record Answers (place : ℕ) (old new : Setting) (replies : List Reply) (begun : Begun)
     : Type 0 where

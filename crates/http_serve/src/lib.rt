@@ -34,7 +34,6 @@ mod session;
 #[cfg(test)]
 mod tests;
 mod transcript;
-mod writing;
 
 pub use serving::serve_connection;
 pub use session::{End, Session};

@@ -5,10 +5,9 @@ ghost use Rattle.http_serve.specs.Turns.{Replies};
 
 use crate::notes::Notes;
 use crate::responses::Responder;
-use crate::writing::write_whole;
 use board_core::Oracle;
 use http_defs::Item;
-use hub_outside::{Clock, Sink};
+use hub_outside::{Clock, Sink, write_all};
 
 /// The place of a connection's last request, counted from 1.
 pub(crate) const LAST_PLACE: u16 = 1000;
@@ -50,7 +49,7 @@ pub(crate) fn reply<K: Sink, O: Oracle, C: Clock>(
     let Ok(()) = responder.respond(oracle.view(), item, thousandth, number, moment) else {
         return Err(Unwritten::Starved);
     };
-    let Ok(()) = write_whole(sink, responder.response.as_slice()) else {
+    let Ok(()) = write_all(sink, responder.response.as_slice()) else {
         return Err(Unwritten::Cut);
     };
     notes.note(number, moment);

@@ -7,13 +7,14 @@ use Rattle.answer_defs.specs.Steps.{◌>>=◌}
 use Rattle.hub_outside.specs.Files.{file_at}
 use Rattle.sched_types.specs.declared.plans.NamedFeed.{NamedFeed}
 use Rattle.sched_types.specs.declared.plans.NamedPlan.{NamedPlan}
+use Rattle.sched_types.specs.Schedules.{Schedules}
 use Rattle.sched_types.specs.Timetable.{Timetable}
 use Rattle.conf_defs.specs.Right.{has_window}
 use Rattle.conf_defs.specs.declared.conf.HubConf.{HubConf}
 use Rattle.conf_defs.specs.declared.conf.ScheduleConf.{ScheduleConf}
 use Rattle.command_defs.specs.Checks.{conf_in, timetables}
-use Rattle.command_defs.specs.Hubs.{named_feed, named_plans, schedules_at, schedules_of}
-use Rattle.hub_load.specs.Told.{Stored, TellsFault, named_plan_told, named_plans_told, plan_told, with_front}
+use Rattle.command_defs.specs.Hubs.{configured_at, named_feed, named_plans, schedules_at, schedules_of}
+use Rattle.hub_load.specs.Told.{Stored, TellsFault, named_plan_told, named_plans_told, plan_told, schedules_told, with_front}
 use Rattle.hub_load.proofs.Telling.{front_nothing, front_twice, told_behind, told_first}
 use Rattle.hub_load.specs.declared.fault.HubFault.{HubFault}
 
@@ -93,28 +94,81 @@ with_feeds : (conf : HubConf) (told : Result (List Timetable) (List ℕ))
 with_feeds conf (Ok ts) = refl
 with_feeds conf (Err l) = refl
 
+-- those of a configuration are told one after another
+schedules_are_told : (files : Stored) (conf : HubConf) → schedules_told files conf ≡ (timetables files conf.schedules >>= λ ts. Ok (schedules_of conf ts))
+schedules_are_told files conf =
+    ap (λ r. r >>= λ plans. Ok (record { plans = plans; feeds = map named_feed conf.feeds })) (plans_are files conf.schedules)
+    ∙ sym (with_feeds conf (timetables files conf.schedules))
+
 -- behind a configuration that is there its timetables are told, with its feeds
-whole : (files : Stored) (path : List ℕ) (conf : HubConf) → conf_in (file_at files path) ≡ Ok conf
-    → schedules_at files path ≡ (named_plans_told files conf.schedules >>= λ plans. Ok (record { plans = plans; feeds = map named_feed conf.feeds }))
+pub whole : (files : Stored) (path : List ℕ) (conf : HubConf) → conf_in (file_at files path) ≡ Ok conf → schedules_at files path ≡ schedules_told files conf
 unfolding schedules_at
 whole files path conf is =
-    ap (λ r. r >>= λ c. timetables files c.schedules >>= λ ts. Ok (schedules_of c ts)) is
-    ∙ with_feeds conf (timetables files conf.schedules)
-    ∙ ap (λ r. r >>= λ plans. Ok (record { plans = plans; feeds = map named_feed conf.feeds })) (sym (plans_are files conf.schedules))
+    ap (λ r. r >>= λ c. timetables files c.schedules >>= λ ts. Ok (schedules_of c ts)) is ∙ sym (schedules_are_told files conf)
+
+-- a configuration and what it describes
+abbrev beside : HubConf → Schedules → HubConf × Schedules
+beside conf plans = (conf, plans)
+
+with_conf : (conf : HubConf) (told : Result (List Timetable) (List ℕ))
+    → (told >>= λ ts. Ok (beside conf (schedules_of conf ts))) ≡ ((told >>= λ ts. Ok (schedules_of conf ts)) >>= λ plans. Ok (beside conf plans))
+with_conf conf (Ok ts) = refl
+with_conf conf (Err l) = refl
+
+-- the same with the configuration beside it
+configured_whole : (files : Stored) (path : List ℕ) (conf : HubConf) → conf_in (file_at files path) ≡ Ok conf
+    → configured_at files path ≡ (schedules_told files conf >>= λ plans. Ok (beside conf plans))
+unfolding configured_at
+configured_whole files path conf is =
+    ap (λ r. r >>= λ c. timetables files c.schedules >>= λ ts. Ok (beside c (schedules_of c ts))) is
+    ∙ with_conf conf (timetables files conf.schedules)
+    ∙ ap (λ r. r >>= λ plans. Ok (beside conf plans)) (sym (schedules_are_told files conf))
 
 pub conf_refused : (files : Stored) (path : List ℕ) (fault : HubFault) → TellsFault (conf_in (file_at files path)) fault → TellsFault (schedules_at files path) fault
 unfolding schedules_at
 conf_refused files path fault h = told_first (conf_in (file_at files path)) (λ conf. timetables files conf.schedules >>= λ ts. Ok (schedules_of conf ts)) fault h
 
-pub plans_refused : (files : Stored) (path : List ℕ) (conf : HubConf) (schedules : List ScheduleConf) (fault : HubFault) → conf_in (file_at files path) ≡ Ok conf → schedules ≡ conf.schedules
-    → TellsFault (named_plans_told files schedules) fault → TellsFault (schedules_at files path) fault
-plans_refused files path conf schedules fault is same h =
-    subst (λ r. TellsFault r fault) (sym (whole files path conf is))
-    (told_first (named_plans_told files conf.schedules) (λ plans. Ok (record { plans = plans; feeds = map named_feed conf.feeds })) fault (subst (λ ss. TellsFault (named_plans_told files ss) fault) same h))
+pub configured_refused : (files : Stored) (path : List ℕ) (fault : HubFault) → TellsFault (conf_in (file_at files path)) fault → TellsFault (configured_at files path) fault
+unfolding configured_at
+configured_refused files path fault h = told_first (conf_in (file_at files path)) (λ conf. timetables files conf.schedules >>= λ ts. Ok (beside conf (schedules_of conf ts))) fault h
 
-pub plans_told : (files : Stored) (path : List ℕ) (conf : HubConf) (schedules : List ScheduleConf) (plans : List NamedPlan) (feeds : List NamedFeed) → conf_in (file_at files path) ≡ Ok conf → schedules ≡ conf.schedules
-    → named_plans_told files schedules ≡ Ok plans → feeds ≡ map named_feed conf.feeds → schedules_at files path ≡ Ok (record { plans = plans; feeds = feeds })
-plans_told files path conf schedules plans feeds is same told named =
-    whole files path conf is
-    ∙ ap (λ r. r >>= λ ps. Ok (record { plans = ps; feeds = map named_feed conf.feeds })) (ap (named_plans_told files) (sym same) ∙ told)
+-- a fault of the timetables of a configuration
+pub plans_refused : (files : Stored) (conf : HubConf) (schedules : List ScheduleConf) (fault : HubFault) → schedules ≡ conf.schedules
+    → TellsFault (named_plans_told files schedules) fault → TellsFault (schedules_told files conf) fault
+plans_refused files conf schedules fault same h =
+    told_first (named_plans_told files conf.schedules) (λ plans. Ok (record { plans = plans; feeds = map named_feed conf.feeds })) fault (subst (λ ss. TellsFault (named_plans_told files ss) fault) same h)
+
+pub plans_told : (files : Stored) (conf : HubConf) (schedules : List ScheduleConf) (plans : List NamedPlan) (feeds : List NamedFeed) → schedules ≡ conf.schedules
+    → named_plans_told files schedules ≡ Ok plans → feeds ≡ map named_feed conf.feeds → schedules_told files conf ≡ Ok (record { plans = plans; feeds = feeds })
+plans_told files conf schedules plans feeds same told named =
+    ap (λ r. r >>= λ ps. Ok (record { plans = ps; feeds = map named_feed conf.feeds })) (ap (named_plans_told files) (sym same) ∙ told)
     ∙ ap (λ fs. Ok (record { plans = plans; feeds = fs })) (sym named)
+
+-- the same with the configuration beside it
+pub configured_plans_refused : (files : Stored) (path : List ℕ) (conf copy : HubConf) (fault : HubFault) → conf_in (file_at files path) ≡ Ok conf → copy ≡ conf
+    → TellsFault (schedules_told files copy) fault → TellsFault (configured_at files path) fault
+configured_plans_refused files path conf copy fault is same h =
+    subst (λ r. TellsFault r fault) (sym (configured_whole files path conf is))
+    (told_first (schedules_told files conf) (λ plans. Ok (beside conf plans)) fault (subst (λ c. TellsFault (schedules_told files c) fault) same h))
+
+pub configured_told : (files : Stored) (path : List ℕ) (conf copy : HubConf) (plans : Schedules) → conf_in (file_at files path) ≡ Ok conf → copy ≡ conf
+    → schedules_told files copy ≡ Ok plans → configured_at files path ≡ Ok (beside conf plans)
+configured_told files path conf copy plans is same told =
+    configured_whole files path conf is
+    ∙ ap (λ r. r >>= λ ps. Ok (beside conf ps)) (ap (schedules_told files) (sym same) ∙ told)
+
+-- a refusal is the same without the configuration beside it
+without_conf : (told : Result HubConf (List ℕ)) (files : Stored)
+    → (told >>= λ conf. timetables files conf.schedules >>= λ ts. Ok (schedules_of conf ts))
+    ≡ ((told >>= λ conf. timetables files conf.schedules >>= λ ts. Ok (beside conf (schedules_of conf ts))) >>= λ h. Ok h.1)
+without_conf (Err l) files = refl
+without_conf (Ok conf) files = each (timetables files conf.schedules)
+  where
+    each : (ts : Result (List Timetable) (List ℕ)) → (ts >>= λ t. Ok (schedules_of conf t)) ≡ ((ts >>= λ t. Ok (beside conf (schedules_of conf t))) >>= λ h. Ok h.1)
+    each (Ok t) = refl
+    each (Err l) = refl
+
+pub refused_without : (files : Stored) (path : List ℕ) (fault : HubFault) → TellsFault (configured_at files path) fault → TellsFault (schedules_at files path) fault
+unfolding schedules_at configured_at
+refused_without files path fault h =
+    subst (λ r. TellsFault r fault) (sym (without_conf (conf_in (file_at files path)) files)) (told_first (configured_at files path) (λ h. Ok h.1) fault h)

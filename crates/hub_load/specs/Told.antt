@@ -1,19 +1,22 @@
 -- What loading answers, of what is told of the files.
-use Rattle.std.specs.Prelude.{◌≡◌, ℕ, ◌≤◌, List, [], ◌∷◌, ◌++◌, Option, Some, None, Result, Ok, Err, codes}
+use Rattle.std.specs.Prelude.{◌≡◌, ℕ, ◌≤◌, List, [], ◌∷◌, ◌++◌, map, Option, Some, None, Result, Ok, Err, codes}
 use Rattle.hub_outside.specs.Count.{Rose}
 use Rattle.answer_defs.specs.Steps.{◌>>=◌}
 use Rattle.text_defs.specs.Cleaned.{line_feed}
 use Rattle.sched_types.specs.declared.plans.NamedPlan.{NamedPlan}
+use Rattle.sched_types.specs.Schedules.{Schedules}
 use Rattle.sched_types.specs.Timetable.{Timetable}
 use Rattle.load_defs.specs.Loading.{timetable}
 use Rattle.load_defs.specs.declared.fault.LoadFault.{LoadFault}
 use Rattle.load_defs.specs.declared.fault.LoadFault.TheVariants as load
 use Rattle.conf_defs.specs.Lines.{line_of}
+use Rattle.conf_defs.specs.declared.conf.HubConf.{HubConf}
 use Rattle.conf_defs.specs.declared.conf.ScheduleConf.{ScheduleConf}
 use Rattle.conf_defs.specs.declared.fault.ConfFault.{ConfFault}
 use Rattle.conf_defs.specs.declared.fault.ConfFault.TheVariants as conf
 use Rattle.command_defs.specs.Faults.{load_words}
 use Rattle.command_defs.specs.Checks.{timetable_or_line, plan_conf}
+use Rattle.command_defs.specs.Hubs.{named_feed}
 use Rattle.hub_load.specs.declared.fault.HubFault.{HubFault}
 use Rattle.hub_load.specs.declared.fault.HubFault.TheVariants.{Refused, FileFault, NoMemory}
 
@@ -105,3 +108,8 @@ unfoldable pub named_plans_told : Stored → List ScheduleConf → Result (List 
 named_plans_told files [] = Ok []
 named_plans_told files (schedule ∷ more) = named_plan_told files schedule >>= λ plan.
     with_front (plan ∷ []) (named_plans_told files more)
+
+-- those of a configuration, with its feeds
+abbrev pub schedules_told : Stored → HubConf → Result Schedules (List ℕ)
+schedules_told files conf = named_plans_told files conf.schedules >>= λ plans.
+    Ok (record { plans = plans; feeds = map named_feed conf.feeds })

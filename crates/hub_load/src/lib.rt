@@ -2,7 +2,8 @@
 //!
 //! [`load_plans`] reads the configuration at a path, loads each of its timetables in their order, and
 //! gives them with its feeds as `Plans`, or the line of the first fault. What these are is defined in
-//! `command_defs` (`Hubs.schedules_at`). [`conf_at`] gives the configuration alone and [`load_plan`]
+//! `command_defs` (`Hubs.schedules_at`). [`load_configured`] gives the configuration beside them.
+//! [`conf_at`] gives the configuration alone and [`load_plan`]
 //! the timetable of one schedule, for a caller that keeps less than all of them.
 //!
 //! The layer above may rely on this: where the files are told, an answer is the one that is defined;
@@ -23,6 +24,6 @@ mod words;
 
 pub use conf::conf_at;
 pub use fault::HubFault;
-pub use loading::load_plans;
+pub use loading::{Configured, load_configured, load_plans};
 pub use plan::load_plan;
 pub use std::alloc::AllocError as NoMemory;

@@ -10,6 +10,9 @@
 //! `clap` counts words and names them, no more: the numbers and the form of a board are read of the
 //! words that it gives, and words that are no numbers, or out of range, are no command.
 //!
+//! [`serve_path`] tells the words of the server, which is no command that runs once and ends; `clap`
+//! has no part in it.
+//!
 //! The crate stands on `clap` for the parsing, on `texts` for numbers and on `rt_types` for the
 //! words.
 #![tactic(auto)]
@@ -18,9 +21,11 @@ mod board;
 mod given;
 mod parser;
 mod read;
+mod serve;
 #[cfg(test)]
 mod tests;
 
 pub use board::BoardAsked;
 pub use read::{Command, WordsFault, read_words};
+pub use serve::serve_path;
 pub use std::alloc::AllocError as NoMemory;

@@ -91,7 +91,7 @@ pub fn read_words<'a>(alloc: Global, words: &'a [Text]) -> Result<Command<'a>, W
 }
 
 /// Whether a word begins with a hyphen.
-fn has_option(words: &[Text]) -> bool
+pub(crate) fn has_option(words: &[Text]) -> bool
     ensures { result ≡ list_any is_option words.now }
 {
     words.iter().any(|word| is_option(word.as_str()))

@@ -1,0 +1,29 @@
+-- The configuration's fault, want of memory for its copy, or its timetables and feeds beside it.
+use Rattle.std.proofs.Common.{◌≡◌, ◌∙◌, ap, map, true, sym, subst, Result}
+use Rattle.std.specs.List.{list_all}
+use Rattle.conf_defs.specs.Right.{IsLegal, has_window}
+use Rattle.conf_defs.specs.declared.conf.HubConf.{HubConf}
+use Rattle.command_defs.specs.Hubs.{configured_at, named_feed}
+use Rattle.hub_load.specs.Configuring.{configured_seen}
+use Rattle.hub_load.specs.Told.{IsAsTold}
+use Rattle.hub_load.specs.declared.fault.HubFault.{HubFault}
+use Rattle.hub_load.specs.declared.loading.Configured.{Configured}
+use Rattle.hub_load.proofs.LoadedPlans.{configured_plans_refused, configured_refused, configured_told}
+use Rattle.hub_load.proofs.Telling.{both_told, each_told, passed}
+use Rattle.hub_load.proofs.loading.load_configured.Goals as goal
+
+pub returns-in_err-conf-clause-told : goal.returns-in_err-conf-clause-told
+returns-in_err-conf-clause-told g c =
+    each_told _ _ _ c.in_err-conf.ensures.told
+    (λ fs told. passed (λ (r : Result Configured HubFault). IsAsTold configured_seen (configured_at fs c.args.path.now) r) _ _ c.from_residual.ensures.1 (configured_refused fs c.args.path.now _ told))
+
+pub returns-in_err-plans-clause-told : goal.returns-in_err-plans-clause-told
+returns-in_err-plans-clause-told g c =
+    both_told _ _ _ _ _ c.in_ok-conf.ensures.same c.in_ok-conf.ensures.told c.in_err-plans.ensures.told
+    (λ fs is told. passed (λ (r : Result Configured HubFault). IsAsTold configured_seen (configured_at fs c.args.path.now) r) _ _ c.from_residual-in_err-plans.ensures.1
+    (configured_plans_refused fs c.args.path.now c.in_ok-conf.conf c.in_ok-copy.copy _ is c.in_ok-copy.ensures.copy told))
+
+pub returns-clause-told : goal.returns-clause-told
+returns-clause-told g c =
+    both_told _ _ _ _ _ c.in_ok-conf.ensures.same c.in_ok-conf.ensures.told c.in_ok-plans.ensures.told
+    (λ fs is told. configured_told fs c.args.path.now c.in_ok-conf.conf c.in_ok-copy.copy c.in_ok-plans.plans is c.in_ok-copy.ensures.copy told)
