@@ -1,4 +1,4 @@
-//! The rows of a board.
+//! The rows of a board, and what they are about.
 
 ghost use Rattle.std.specs.Prelude.{◌≡◌, ◌<◌, ◌≤◌, List, length, map, take, IfOk};
 ghost use Rattle.std.specs.Arc.{arc_value};
@@ -10,40 +10,65 @@ ghost use Rattle.board_defs.specs.Choice.{updates_at};
 ghost use Rattle.board_defs.specs.Fold.{fold_of};
 ghost use Rattle.board_defs.specs.Rows.{row_cmp, board_at};
 ghost use Rattle.board_defs.specs.Views.{StandsFor, folds_of};
-ghost use Rattle.board_core.specs.Answers.{IsAnswer};
-ghost use Rattle.board_core.specs.Departures.{rows_there};
+ghost use Rattle.board_core.specs.Answers.{IsAnswer, AreAbout, AreSubjects};
+ghost use Rattle.board_core.specs.Departures.{rows_there, Become};
 ghost use Rattle.board_core.specs.Told.{key_told, run_cmp};
 
 use crate::candidates::{Candidate, choices};
-use crate::departure::Asked;
-use crate::row_texts::rows_of;
+use crate::departure::{Asked, Departure};
+use crate::row_texts::{rows_of, subjects_of};
 use crate::runs::departures;
 use crate::sorting::first_of;
 use crate::{HubView, NoMemory, RowsFault};
+use alert_select::Subject;
 use board_defs::{BoardQuery, Row};
 use feed_view::FeedView;
 use sched_types::{NamedFeed, Plan};
 use std::alloc::Global;
 use std::sync::Arc;
 
-/// The first rows of a board, of candidates in order of their runs; or want of memory.
-fn first_rows(
+/// The first departures of a board, of candidates in order of their runs; or want of memory.
+fn first_departures(
     alloc: Global,
     plan: &Plan,
     asked: Asked,
     choices: &[Candidate<'_>],
     limit: u32,
-) -> Result<Vec<Row>, NoMemory>
+) -> Result<Vec<Departure>, NoMemory>
     requires sorted { IsSortedByKey key_told run_cmp choices.now }
     requires moment { asked.at ≤ last_moment }
-    ensures { IfOk result (λ rows. rows.items
-        ≡ map (λ b. b.row)
+    ensures { IfOk result (λ first. Become plan.now first.items
         (take limit (ordered row_cmp (rows_there plan.now asked choices.entry.now)))) }
 {
     plan.sound();
     let all = departures(alloc, plan, asked, choices)?;
-    let first = first_of(all, limit)?;
-    rows_of(alloc, plan, first.as_slice())
+    first_of(all, limit)
+}
+
+/// The departures at the stop of that number; or want of memory.
+fn departures_at(
+    alloc: Global,
+    plan: &Plan,
+    feeds: &[NamedFeed],
+    views: &[Arc<FeedView>],
+    query: &BoardQuery,
+    stop: u32,
+) -> Result<Vec<Departure>, NoMemory>
+    requires each { length views.now ≡ length feeds.now }
+    requires few { length feeds.now ≤ 64 }
+    requires moment { query.now.at ≤ last_moment }
+    ensures { IfOk result (λ first. Become plan.now first.items
+        (board_at plan.now stop
+        (updates_at query.now.plan query.now.at feeds.now
+        (map (λ feed. feed.fold) (map arc_value views.now))) query.now)) }
+{
+    let choices = choices(alloc, query.plan, plan, feeds, views)?;
+    let asked = Asked {
+        stop,
+        at: query.at,
+        span: query.span,
+    };
+    first_departures(alloc, plan, asked, choices.as_slice(), query.limit)
 }
 
 /// The rows at the stop of that number; or want of memory.
@@ -64,13 +89,29 @@ fn rows_at(
         (updates_at query.now.plan query.now.at feeds.now
         (map (λ feed. feed.fold) (map arc_value views.now))) query.now)) }
 {
-    let choices = choices(alloc, query.plan, plan, feeds, views)?;
-    let asked = Asked {
-        stop,
-        at: query.at,
-        span: query.span,
-    };
-    first_rows(alloc, plan, asked, choices.as_slice(), query.limit)
+    let first = departures_at(alloc, plan, feeds, views, query, stop)?;
+    rows_of(alloc, plan, first.as_slice())
+}
+
+/// What the rows at the stop of that number are about; or want of memory.
+fn subjects_at<'a>(
+    alloc: Global,
+    plan: &'a Plan,
+    feeds: &[NamedFeed],
+    views: &'a [Arc<FeedView>],
+    query: &BoardQuery,
+    stop: u32,
+) -> Result<Vec<Subject<'a>>, NoMemory>
+    requires each { length views.now ≡ length feeds.now }
+    requires few { length feeds.now ≤ 64 }
+    requires moment { query.now.at ≤ last_moment }
+    ensures { IfOk result (λ subjects. AreAbout plan.now
+        (board_at plan.now stop
+        (updates_at query.now.plan query.now.at feeds.now
+        (map (λ feed. feed.fold) (map arc_value views.now))) query.now) subjects.items) }
+{
+    let first = departures_at(alloc, plan, feeds, views, query, stop)?;
+    subjects_of(alloc, first.as_slice())
 }
 
 /// The rows of the asked board, of what the hub's feeds hold: the places, but the last of a trip, at which
@@ -94,6 +135,28 @@ pub fn rows(alloc: Global, view: &HubView, query: &BoardQuery) -> Result<Vec<Row
         Some(stop) => {
             let rows = rows_at(alloc, plan, plans.feeds(), view.feeds(), query, stop)?;
             Ok(rows)
+        }
+        None => Err(RowsFault::NoStop),
+    }
+}
+
+/// What the rows of the asked board are about, in their order: the same rows that [`rows`] gives. No text is made.
+pub fn subjects<'a>(
+    alloc: Global,
+    view: &'a HubView,
+    query: &BoardQuery,
+) -> Result<Vec<Subject<'a>>, RowsFault>
+    requires plan { query.now.plan < length view.now.plans.plans }
+    requires moment { query.now.at ≤ last_moment }
+    ensures subjects { AreSubjects view.now.plans (folds_of view.now) query.now result }
+{
+    view.sound();
+    let plans = view.plans();
+    let plan = &plans.plans()[query.plan as usize].plan;
+    match plan.stop_of(query.stop.as_str()) {
+        Some(stop) => {
+            let subjects = subjects_at(alloc, plan, plans.feeds(), view.feeds(), query, stop)?;
+            Ok(subjects)
         }
         None => Err(RowsFault::NoStop),
     }

@@ -6,12 +6,13 @@
 //! view: its meanings are the history that was published, the timetables, and how often it was looked at.
 //!
 //! `rows` gives the rows of a board exactly as `board_defs` defines them, of what a view keeps and so of each
-//! history that it stands for. `candidates` has the updates with the runs that they are about, in order of the
-//! runs, `choice` the one that counts for a run, `known` what it tells, `departure` and `runs` the departures
-//! in numbers, `sorting` their order, and `row_texts` the texts of those that are shown.
+//! history that it stands for, and `subjects` what these rows are about, as `alert_select` takes it.
+//! `candidates` has the updates with the runs that they are about, in order of the runs, `choice` the one that
+//! counts for a run, `known` what it tells, `departure` and `runs` the departures in numbers, `sorting` their
+//! order, and `row_texts` the texts of those that are shown.
 //!
 //! It stands on `feed_view`, on `trip_match` and `delay_rule` for the meaning of updates, and on the
-//! definitions of `board_defs`.
+//! definitions of `board_defs`; for what rows are about on `alert_select`.
 #![tactic(auto)]
 
 mod board;
@@ -28,7 +29,8 @@ mod sorting;
 mod tests;
 mod view;
 
-pub use board::rows;
+pub use alert_select::{AddedKey, Subject};
+pub use board::{rows, subjects};
 pub use board_defs::{BoardQuery, Row, RowState};
 pub use fault::RowsFault;
 pub use feed_defs::Entry;

@@ -1,14 +1,15 @@
-//! The texts of rows.
+//! The texts of rows, and what they are about.
 
 ghost use Rattle.std.specs.Prelude.{◌≡◌, ◌<◌, Some, [], length, map, slice_get, unwrap_or, IfOk};
 ghost use Rattle.std.specs.Fmt.{decimal};
 ghost use Rattle.std.specs.List.{All};
 ghost use Rattle.std.specs.Option.{option_map};
 ghost use Rattle.board_defs.specs.Rows.{route_name, route_text, stop_id_of, date_text};
-ghost use Rattle.board_core.specs.Departures.{as_row, IsThere};
+ghost use Rattle.board_core.specs.Departures.{as_row, subject_of, IsThere};
 
 use crate::NoMemory;
 use crate::departure::Departure;
+use alert_select::Subject;
 use board_defs::Row;
 use rt_types::Text;
 use sched_types::{Plan, Route};
@@ -109,4 +110,18 @@ pub(crate) fn rows_of(
         rows.push(row(alloc, plan, *departure)?)?;
     }
     Ok(rows)
+}
+
+/// What the rows of some departures are about, in their order; or want of memory.
+pub(crate) fn subjects_of<'a>(
+    alloc: Global,
+    departures: &[Departure],
+) -> Result<Vec<Subject<'a>>, NoMemory>
+    ensures { IfOk result (λ subjects. subjects.items ≡ map subject_of departures.now) }
+{
+    let mut subjects = Vec::with_capacity(alloc, departures.len())?;
+    for departure in departures {
+        subjects.push(Subject::Row(departure.run, departure.stop))?;
+    }
+    Ok(subjects)
 }

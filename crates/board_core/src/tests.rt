@@ -284,6 +284,27 @@ fn board(alloc: Global, view: &HubView, stop: &str, limit: u32) -> Result<Vec<Ro
     rows(alloc, view, &query)
 }
 
+/// How many rows that board has, by what they are about; a row of an added trip counts for none.
+fn runs_at(alloc: Global, view: &HubView, stop: &str) -> Result<usize, RowsFault> {
+    if view.plans().plans().is_empty() {
+        return Err(RowsFault::NoMemory);
+    }
+    let query = BoardQuery {
+        plan: 0,
+        stop: Text::new(alloc, stop)?,
+        at: 1743314000,
+        span: 3600,
+        limit: 50,
+    };
+    let subjects = subjects(alloc, view, &query)?;
+    Ok(
+        subjects
+            .iter()
+            .filter(|subject| matches!(subject, Subject::Row(_, _)))
+            .count(),
+    )
+}
+
 /// What a test wants of a row.
 #[derive(Clone, Copy)]
 struct Wanted {
@@ -392,6 +413,8 @@ fn without_messages_all_is_as_scheduled(rt: HostRuntime) -> Result<(), Fail> {
     assert!(rt; are_wanted(rows.as_slice(), &[FIRST, SECOND, OTHER]));
     let rows = board(alloc, &view, "S1", 50)?;
     assert!(rt; are_wanted(rows.as_slice(), &[FIRST]));
+    assert_eq!(rt; runs_at(alloc, &view, "ST")?, 3);
+    assert_eq!(rt; runs_at(alloc, &view, "NO").err(), Some(RowsFault::NoStop));
     // Nobody boards at the last place.
     let rows = board(alloc, &view, "S4", 50)?;
     assert!(rt; rows.is_empty());

@@ -7,7 +7,7 @@ pub returns-in_ok-rows-in-Some-clause-rows : goal.returns-in_ok-rows-in-Some-cla
 returns-in_ok-rows-in-Some-clause-rows c =
     rows_found c.args.view.now c.args.query.now c.plans-plans.result.now c.plans.result.now c.index-plans-query.result c.as_str.result.now
     c.plans-plans.ensures c.plans.ensures c.requires.plan c.as_str.ensures
-    c.in-Some.stop c.feeds.result.now _ c.in_ok-rows-in-Some.rows.items c.in-Some.ensures.value c.feeds.ensures c.feeds-in-Some.ensures c.in_ok-rows-in-Some.ensures
+    c.in-Some.stop c.feeds.result.now _ c.in-Some.ensures.value c.feeds.ensures c.feeds-in-Some.ensures c.in_ok-rows-in-Some.rows.items c.in_ok-rows-in-Some.ensures
 
 pub returns-in_ok-rows-in-Some-clause-stands : goal.returns-in_ok-rows-in-Some-clause-stands
 returns-in_ok-rows-in-Some-clause-stands c =

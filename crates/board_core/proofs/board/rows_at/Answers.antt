@@ -1,16 +1,12 @@
--- The candidates are in order of their runs, and give the rows of the board.
-use Rattle.std.proofs.Common.{map}
-use Rattle.std.specs.Arc.{arc_value}
-use Rattle.board_defs.specs.Choice.{updates_at}
-use Rattle.board_core.proofs.FirstRows.{if_ok_same, board_is}
+-- The rows of the departures are those of the board.
+use Rattle.board_core.proofs.FirstRows.{if_ok_same, there_given, rows_become}
 use Rattle.board_core.proofs.board.rows_at.Goals as goal
 
-pub first_rows-requires-clause-sorted : goal.first_rows-requires-clause-sorted
-first_rows-requires-clause-sorted c = rw c.as_slice.ensures.value (c.in_ok-choices.ensures 0).sorted
+pub rows_of-requires : goal.rows_of-requires
+rows_of-requires c = there_given c.args.plan.now c.as_slice.result.now c.in_ok-first.first.items _ c.as_slice.ensures.value c.in_ok-first.ensures
 
 pub returns : goal.returns
 returns c =
-    if_ok_same c.first_rows.result (λ rows. rows.items) _ _
-    (board_is c.args.plan.now c.args.stop c.args.query.now (updates_at c.args.query.now.plan c.args.query.now.at c.args.feeds.now (map (λ feed. feed.fold) (map arc_value c.args.views.now))) c.as_slice.result.now c.in_ok-choices.choices.items
-    c.as_slice.ensures.value (c.in_ok-choices.ensures c.args.query.now.at))
-    c.first_rows.ensures
+    if_ok_same c.rows_of.result (λ rows. rows.items) _ _
+    (rows_become c.args.plan.now c.as_slice.result.now c.in_ok-first.first.items _ c.as_slice.ensures.value c.in_ok-first.ensures)
+    c.rows_of.ensures
