@@ -1,5 +1,5 @@
 -- Going over what a feed holds: by its entities, and by the ids of its alerts.
-use Rattle.std.proofs.Common.{◌≡◌, ℕ, Bool, true, false, cond, Option, Some, None, List, [], ◌∷◌, ◌++◌, map, drop, get_or, refl, sym, ap, ◌∙◌, append-nil}
+use Rattle.std.proofs.Common.{◌≡◌, ◌≤◌, ℕ, zero, suc, length, take, arith, Bool, true, false, cond, Option, Some, None, List, [], ◌∷◌, ◌++◌, map, drop, get_or, refl, sym, ap, ◌∙◌, append-nil}
 use Rattle.std.specs.Prelude.{◌&&◌, T, ⊤, if◌then◌else◌}
 use Rattle.std.specs.List.{flat_map, filter_map}
 use Rattle.std.specs.Option.{is_some}
@@ -16,7 +16,7 @@ use Rattle.feed_defs.specs.History.{Change}
 use Rattle.feed_defs.proofs.Kept.{id_cmp, left, right}
 use Rattle.alert_defs.specs.Alerts.{listed}
 use Rattle.alert_select.specs.Ids.{alert_ids}
-use Rattle.board_lists.specs.Active.{active_if, active_in, active_under, active_held}
+use Rattle.board_lists.specs.Active.{Active, active_if, active_in, active_under, active_held}
 use Rattle.board_lists.specs.Strangers.{under_id}
 
 -- ---- by the entities
@@ -97,3 +97,19 @@ module _ (at feed : ℕ) (all : List Change) where
 pub by_ids : (at feed : ℕ) (es : List Change) → T (is_sorted id_cmp es) → map (λ s. (s.entity.id, s)) (map (λ change. change.1) es) ≡ es
     → flat_map (active_under at feed es) (alert_ids es) ≡ flat_map (active_in at feed) es
 by_ids at feed es sorted keyed = from_ids at feed es es (each_found es sorted) (each_keyed es keyed)
+
+take_all : {A : Type 0} (i : ℕ) (xs : List A) → length xs ≤ i → take i xs ≡ xs
+take_all zero [] h = refl
+take_all zero (x ∷ xs) h = absurd (omega arith)
+take_all (suc i) [] h = refl
+take_all (suc i) (x ∷ xs) h = ap (λ ys. x ∷ ys) (take_all i xs (omega arith))
+
+-- so it is when all ids that a view keeps are gone over
+pub view_found : (at feed : ℕ) (entities table : List Change) (items ids : List (List ℕ)) (i : ℕ) (old new : List Active) → table ≡ entities → T (is_sorted id_cmp table) → map (λ s. (s.entity.id, s)) (map (λ change. change.1) table) ≡ table
+    → ids ≡ alert_ids entities → items ≡ ids → length items ≤ i → new ≡ old ++ flat_map (active_under at feed table) (take i items) → new ≡ old ++ flat_map (active_in at feed) entities
+view_found at feed entities table items ids i old new same sorted keyed are kept past so_far =
+    so_far
+    ∙ ap (λ xs. old ++ xs)
+    (ap (flat_map (active_under at feed table)) (take_all i items past ∙ kept ∙ are ∙ ap alert_ids (sym same))
+    ∙ by_ids at feed table sorted keyed
+    ∙ ap (flat_map (active_in at feed)) same)

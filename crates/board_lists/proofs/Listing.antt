@@ -1,8 +1,11 @@
 -- The lists that are defined are made of those alerts that are active, and of all feeds.
-use Rattle.std.proofs.Common.{◌≡◌, ℕ, ◌+◌, ◌<◌, Bool, true, false, ◌&&◌, nat_eq, Option, Some, None, List, [], ◌∷◌, ◌++◌, length, map, get_or, slice_get, refl, sym, ap, ◌∙◌, subst}
-use Rattle.std.specs.Prelude.{Result, Ok, Err, IfOk, if◌then◌else◌}
+use Rattle.std.proofs.Common.{◌≡◌, ℕ, zero, suc, ◌+◌, ◌<◌, arith, take, Bool, true, false, ◌&&◌, nat_eq, Option, Some, None, List, [], ◌∷◌, ◌++◌, length, map, get_or, slice_get, refl, sym, ap, ◌∙◌, subst}
+use Rattle.std.specs.Prelude.{Result, Ok, Err, IfOk, if◌then◌else◌, ◌==◌}
 use Rattle.std.specs.List.{flat_map, filter_map, cons_option, All}
+use Rattle.std.specs.Global.{Vec}
+use Rattle.std.specs.Prelude.{IsErrAnd}
 use Rattle.std.specs.Option.{option_map, option_and_then}
+use Rattle.std.proofs.lemmas.Bool.Decides.{nat_tests}
 use Rattle.std.proofs.lemmas.List.Elements.{filter_map-append}
 use Rattle.std.proofs.lemmas.Option.{slice_get-get_or}
 use Rattle.rt_types.specs.declared.alert.Alert.{Alert}
@@ -16,12 +19,18 @@ use Rattle.board_defs.specs.declared.query.BoardQuery.{BoardQuery}
 use Rattle.board_defs.specs.Choice.{updates_at}
 use Rattle.board_defs.specs.Fold.{FeedFold, fold_of}
 use Rattle.board_defs.specs.Rows.{BoardRow, board, board_at, board_in, board_of, timetable_in}
-use Rattle.board_defs.specs.Views.{HubKept, StandsFor, folds_of}
+use Rattle.board_defs.specs.Views.{FeedKept, HubKept, StandsFor, folds_of}
 use Rattle.alert_defs.specs.declared.rows.AlertRow.{AlertRow}
 use Rattle.alert_defs.specs.declared.rows.Unmatched.{Unmatched}
 use Rattle.alert_defs.specs.Touching.{Touched}
 use Rattle.alert_defs.specs.Alerts.{is_active, concerns, alert_row, listed, over_feeds, row_of_alert, row_of_change, alerts_at, alerts_in, alerts_beside, alerts, touched_as}
 use Rattle.alert_defs.specs.Unmatched.{unmatched_in, unmatched_of, unmatched}
+use Rattle.alert_select.specs.declared.subject.Subject.{Subject}
+use Rattle.alert_select.specs.Subjects.{touched_by}
+use Rattle.board_core.specs.Answers.{AreOfBoard, AreSubjects}
+use Rattle.board_core.specs.declared.fault.RowsFault.{RowsFault}
+use Rattle.board_core.specs.declared.fault.RowsFault.TheVariants.{NoStop, NoMemory}
+use Rattle.board_lists.specs.Answers.{AreAlerts}
 use Rattle.board_lists.specs.Active.{Active, active_if, active_in, active_from, row_if, rows_among}
 
 -- an answer that is one list is another that is equal
@@ -121,3 +130,86 @@ module _ (schedules : Schedules) (folds : List FeedFold) (query : BoardQuery) wh
 pub unmatched_stand : (kept : HubKept) (plan : ℕ) {E X : Type 0} (r : Result X E) (f : X → List Unmatched) → IfOk r (λ all. f all ≡ unmatched kept.plans (folds_of kept) plan)
     → (h : List Entry) → StandsFor h kept → IfOk r (λ all. f all ≡ unmatched kept.plans (fold_of (length kept.plans.feeds) h) plan)
 unmatched_stand kept plan r f is h stands = if_ok_same r f _ _ (ap (λ folds. unmatched kept.plans folds plan) stands.feeds) is
+
+-- the alerts that are defined are the rows among those that are active, of what rows are about
+pub touching_are : (schedules : Schedules) (folds : List FeedFold) (query : BoardQuery) (t : Timetable) (stop : ℕ) (subjects : List Subject) (slice : List Subject) (active : List Active) (found : List Active) (rows : List AlertRow)
+    → timetable_in schedules query.plan ≡ Some t → Some stop ≡ number_of (λ row. row.id) t.stops query.stop → AreOfBoard schedules folds query subjects → slice ≡ subjects → found ≡ active
+    → active ≡ active_from query.at query.plan 0 schedules.feeds folds → rows ≡ rows_among t stop (map touched_by slice) found → alerts schedules folds query ≡ Some rows
+touching_are schedules folds query t stop subjects slice active found rows plan_is stop_is about same all are told =
+    alerts_are schedules folds query t stop about.rows plan_is stop_is about.defined
+    ∙ ap Some
+    (ap (λ xs. rows_among t stop xs (active_from query.at query.plan 0 schedules.feeds folds)) (sym about.touched)
+    ∙ ap (λ xs. rows_among t stop (map touched_by xs) (active_from query.at query.plan 0 schedules.feeds folds)) (sym same)
+    ∙ ap (rows_among t stop (map touched_by slice)) (sym are ∙ sym all)
+    ∙ sym told)
+
+-- a refusal of what rows are about is one of the list
+pub refused : (schedules : Schedules) (folds : List FeedFold) (query : BoardQuery) (fault : RowsFault) → AreSubjects schedules folds query (Err fault) → AreAlerts schedules folds query (Err fault)
+refused schedules folds query NoStop none = no_board schedules folds query none
+refused schedules folds query NoMemory none = tt
+
+-- what is answered of what is kept is answered of the history that it stands for
+pub alerts_stand : (kept : HubKept) (query : BoardQuery) (result : Result (Vec AlertRow) RowsFault) → AreAlerts kept.plans (folds_of kept) query result
+    → (h : List Entry) → StandsFor h kept → AreAlerts kept.plans (fold_of (length kept.plans.feeds) h) query result
+alerts_stand kept query result is h stands =
+    let P : List FeedFold → Type 0 = λ folds. AreAlerts kept.plans folds query result in
+    subst P stands.feeds is
+
+-- the active alerts of what is kept are those of its feeds
+pub feeds_are : (kept : HubKept) (query : BoardQuery) (whole : Schedules) (feeds : List NamedFeed) (views : List FeedKept) (active : List Active) → whole ≡ kept.plans → feeds ≡ whole.feeds → views ≡ kept.feeds
+    → active ≡ active_from query.at query.plan 0 feeds (map (λ feed. feed.fold) views) → active ≡ active_from query.at query.plan 0 kept.plans.feeds (folds_of kept)
+feeds_are kept query whole feeds views active same its_feeds its_views are =
+    are
+    ∙ ap (λ xs. active_from query.at query.plan 0 xs (map (λ feed. feed.fold) views)) (its_feeds ∙ ap (λ s. s.feeds) same)
+    ∙ ap (λ xs. active_from query.at query.plan 0 kept.plans.feeds (map (λ feed. feed.fold) xs)) its_views
+
+-- the unmatched of what is kept are those of its feeds
+pub strangers_kept : (kept : HubKept) (plan : ℕ) (whole : Schedules) (feeds : List NamedFeed) (views : List FeedKept) (t : Timetable) → whole ≡ kept.plans → feeds ≡ whole.feeds → views ≡ kept.feeds → timetable_in kept.plans plan ≡ Some t
+    → over_feeds (unmatched_in t) plan 0 feeds (map (λ feed. feed.fold) views) ≡ unmatched kept.plans (folds_of kept) plan
+strangers_kept kept plan whole feeds views t same its_feeds its_views is =
+    ap (λ xs. over_feeds (unmatched_in t) plan 0 xs (map (λ feed. feed.fold) views)) (its_feeds ∙ ap (λ s. s.feeds) same)
+    ∙ ap (λ xs. over_feeds (unmatched_in t) plan 0 kept.plans.feeds (map (λ feed. feed.fold) xs)) its_views
+    ∙ strangers_are kept.plans (folds_of kept) plan t is
+
+-- one row more of those alerts that are gone over
+pub one_more : (t : Timetable) (stop : ℕ) (rows : List Touched) (old new : List AlertRow) (all : List Active) (i : ℕ) (none : Active) → none ≡ get_or all i none → i < length all → old ≡ rows_among t stop rows (take i all)
+    → new ≡ old ++ listed (row_if t stop rows none) → new ≡ rows_among t stop rows (take (i + 1) all)
+one_more t stop rows old new all i none here within so_far more =
+    more
+    ∙ ap (λ one. old ++ listed (row_if t stop rows one)) here
+    ∙ ap (λ xs. xs ++ listed (row_if t stop rows (get_or all i none))) so_far
+    ∙ sym (ap (filter_map (row_if t stop rows)) (take_more i all within)
+    ∙ filter_map-append (row_if t stop rows) (take i all) (get_or all i none ∷ [])
+    ∙ ap (λ xs. rows_among t stop rows (take i all) ++ xs) (single (row_if t stop rows (get_or all i none))))
+  where
+    single : (o : Option AlertRow) → cons_option o [] ≡ listed o
+    single (Some x) = refl
+    single None = refl
+
+    take_more : (i : ℕ) (xs : List Active) → i < length xs → take (i + 1) xs ≡ take i xs ++ get_or xs i none ∷ []
+    take_more i [] h = absurd (omega arith)
+    take_more zero (x ∷ xs) h = refl
+    take_more (suc i) (x ∷ xs) h = ap (λ n. take n (x ∷ xs)) (step i) ∙ ap (λ ys. x ∷ ys) (take_more i xs (omega arith))
+      where
+        step : (i : ℕ) → suc i + 1 ≡ suc (i + 1)
+        step i = omega arith
+
+-- a list that is said to be empty
+zero_length : (n : ℕ) (b : Bool) → b ≡ (n == 0) → b ≡ true → n ≡ 0
+zero_length n b is so = grind (arith, nat_tests)
+
+pub emptied : {A : Type 0} (xs : List A) (b : Bool) → b ≡ (length xs == 0) → b ≡ true → xs ≡ []
+emptied xs b is so = by_length xs (zero_length (length xs) b is so)
+  where
+    by_length : {A : Type 0} (xs : List A) → length xs ≡ 0 → xs ≡ []
+    by_length [] h = refl
+    by_length (x ∷ xs) h = absurd (omega arith)
+
+-- what is passed on is the refusal itself
+pub refused_too : (schedules : Schedules) (folds : List FeedFold) (query : BoardQuery) (subjects : Result (Vec Subject) RowsFault) (fault : RowsFault) (result : Result (Vec AlertRow) RowsFault)
+    → subjects ≡ Err fault → AreSubjects schedules folds query subjects → IsErrAnd result (λ x. x ≡ fault) → AreAlerts schedules folds query result
+refused_too schedules folds query subjects fault (Ok rows) was given passed = absurd passed
+refused_too schedules folds query subjects fault (Err other) was given passed =
+    let P : RowsFault → Type 0 = λ x. AreAlerts schedules folds query (Err x) in
+    let Q : Result (Vec Subject) RowsFault → Type 0 = λ x. AreSubjects schedules folds query x in
+    subst P (sym passed) (refused schedules folds query fault (subst Q was given))

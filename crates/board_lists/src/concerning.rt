@@ -65,11 +65,12 @@ fn alerts_at(
     view.sound();
     let feeds = view.plans().feeds();
     let active = all_active(alloc, query.at, query.plan, feeds, view.feeds())?;
-    if active.is_empty() {
+    let found = active.as_slice();
+    if found.is_empty() {
         return Ok(Vec::new(alloc));
     }
     let subjects = subjects(alloc, view, query)?;
-    let rows = concerned(alloc, plan, stop, subjects.as_slice(), active.as_slice())?;
+    let rows = concerned(alloc, plan, stop, subjects.as_slice(), found)?;
     Ok(rows)
 }
 

@@ -150,7 +150,7 @@ fn push_some<'a>(
     found: Option<ActiveAlert<'a>>,
     out: &mut Vec<ActiveAlert<'a>>,
 ) -> Result<(), NoMemory>
-    ensures { OnOk result (out.new.items ≡ out.old.items ++ listed found) }
+    ensures { OnOk result (out.new.items ≡ out.old.items ++ listed found.entry) }
 {
     match found {
         Some(found) => {

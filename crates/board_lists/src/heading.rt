@@ -1,7 +1,7 @@
 //! The row of an alert.
 
 ghost use Rattle.std.specs.Prelude.{◌≡◌, unwrap_or, find as first_that, IfOk};
-ghost use Rattle.std.specs.Option.{option_map, is_none};
+ghost use Rattle.std.specs.Option.{option_copied, option_map, is_none};
 ghost use Rattle.feed_defs.specs.Enums as enums;
 ghost use Rattle.alert_defs.specs.Alerts as rule;
 
@@ -50,10 +50,17 @@ fn text_among(all: &[Translation]) -> &str
 fn plain_or<'a>(first: &'a Translation, all: &'a [Translation]) -> &'a str
     ensures { result.now ≡ (unwrap_or (first_that (λ one. is_none one.language) all.now) first.now).text }
 {
-    match all.iter().find(|one| one.language.is_none()) {
+    match plain_among(all) {
         Some(plain) => plain.text.as_str(),
         None => first.text.as_str(),
     }
+}
+
+/// The first translation that tells no language.
+fn plain_among(all: &[Translation]) -> Option<&Translation>
+    ensures { option_copied result ≡ first_that (λ one. is_none one.language) all.entry.now }
+{
+    all.iter().find(|one| one.language.is_none())
 }
 
 /// The number of a cause (GTFS Realtime 2.0, Alert, `cause`).
