@@ -26,6 +26,19 @@ const STRANGER: &[u8] =
 const STRANGER_TOLD: &str =
     "accepted 1\nunmatched 36\nfeed\tid\tkind\treason\na\tu\ttrip\tnotrip\n\nunmatched none\nstatus 63\nentries\t1\nfeed\taccepted\tlast\tentities\na\t1\t1743314000\t1\nb\t0\t0\t0\n\n";
 
+/// The same alert, asked for as JSON on a connection.
+const LIFT_OUT_SERVED: &[u8] =
+    b"M a 52\n\x0a\x09\x0a\x032.0\x10\x00\x18\x05\x12'\x0a\x01w*\"\x0a\x0c\x08\xd0\xb8\xa3\xbf\x06\x10\xb8\xc0\xa3\xbf\x06*\x04*\x02S3R\x0c\x0a\x0a\x0a\x08Lift out\nQ 1743314999 44\nGET /alerts/city/S3?format=json HTTP/1.1\r\n\r\n\nE\n";
+
+const LIFT_OUT_SERVED_TOLD: &str =
+    "accepted 1\nconnection 233 ended\nHTTP/1.1 200 OK\r\nContent-Type: application/json\r\nContent-Length: 93\r\nX-Hub-Sequence: 1\r\nX-Hub-Moment: 1743314999\r\nConnection: keep-alive\r\n\r\n{\"alerts\":[{\"cause\":null,\"effect\":null,\"feed\":\"a\",\"header\":\"Lift out\",\"id\":\"w\"}],\"stop\":\"S3\"}\n";
+
+#[test]
+fn alerts_are_served_as_json(rt: HostRuntime) -> Result<(), Fail> {
+    assert!(rt; plays(rt.alloc(), LIFT_OUT_SERVED, LIFT_OUT_SERVED_TOLD)?);
+    Ok(())
+}
+
 #[test]
 fn alerts_are_listed_while_they_are_active(rt: HostRuntime) -> Result<(), Fail> {
     assert!(rt; plays(rt.alloc(), LIFT_OUT, LIFT_OUT_TOLD)?);
