@@ -297,10 +297,12 @@ fn runs_at(alloc: Global, view: &HubView, stop: &str) -> Result<usize, RowsFault
         limit: 50,
     };
     let subjects = subjects(alloc, view, &query)?;
-    Ok(subjects
-        .iter()
-        .filter(|subject| matches!(subject, Subject::Row(_, _)))
-        .count())
+    Ok(
+        subjects
+            .iter()
+            .filter(|subject| matches!(subject, Subject::Row(_, _)))
+            .count(),
+    )
 }
 
 /// What a test wants of a row.

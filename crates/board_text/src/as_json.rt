@@ -87,7 +87,7 @@ fn put_row(row: &Row, writer: &mut Writer) -> Result<(), NoMemory>
 }
 
 /// Writes a member of an object whose value is a text.
-fn put_text(name: &str, text: &str, writer: &mut Writer) -> Result<(), NoMemory>
+pub(crate) fn put_text(name: &str, text: &str, writer: &mut Writer) -> Result<(), NoMemory>
     ensures tokens { OnOk result
         (writer.new.tokens ≡ writer.old.tokens ++ text_member name.now text.now) }
     ensures before { writer.new.before ≡ writer.old.before }
@@ -97,7 +97,7 @@ fn put_text(name: &str, text: &str, writer: &mut Writer) -> Result<(), NoMemory>
 }
 
 /// Writes a member whose value is a number, or null where it is absent.
-fn put_number(name: &str, number: Option<i64>, writer: &mut Writer) -> Result<(), NoMemory>
+pub(crate) fn put_number(name: &str, number: Option<i64>, writer: &mut Writer) -> Result<(), NoMemory>
     ensures tokens { OnOk result
         (writer.new.tokens ≡ writer.old.tokens ++ number_member name.now number) }
     ensures before { writer.new.before ≡ writer.old.before }

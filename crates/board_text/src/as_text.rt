@@ -2,11 +2,12 @@
 
 ghost use Rattle.std.specs.Prelude.{◌≡◌, [], ◌∷◌, ◌++◌, OnOk, OnErr, codes};
 ghost use Rattle.std.specs.List.{flat_map};
-ghost use Rattle.board_text_defs.specs.Lines.{line_of_fields, number_or_dash};
+ghost use Rattle.board_text_defs.specs.Lines.{line_of_fields};
 ghost use Rattle.board_text_defs.specs.BoardText.{board_text, board_columns, row_line};
 ghost use Rattle.board_text.specs.Fields.{worded};
 
 use crate::NoMemory;
+use crate::cells::number_text;
 use crate::lines::push_line;
 use crate::words::word_of;
 use board_defs::Row;
@@ -114,14 +115,4 @@ fn push_cells<'a>(
         ],
         out,
     )
-}
-
-/// The number in decimal digits, or `-` where it is absent.
-fn number_text(number: Option<i64>, buffer: &mut Buffer) -> &str
-    ensures { result.now ≡ number_or_dash number }
-{
-    match number {
-        Some(number) => buffer.format(number),
-        None => "-",
-    }
 }

@@ -1,1 +1,2 @@
 mod CityAnswers
+mod CityLists

@@ -9,8 +9,14 @@ use Rattle.board_defs.specs.declared.row.Row.{Row}
 use Rattle.board_defs.specs.Feed.{combined_feed}
 use Rattle.board_defs.specs.Fold.{FeedFold}
 use Rattle.board_defs.specs.Rows.{rows, timetable_in}
+use Rattle.alert_defs.specs.declared.rows.AlertRow.{AlertRow}
+use Rattle.alert_defs.specs.Alerts.{alerts}
+use Rattle.alert_defs.specs.Unmatched.{unmatched}
+use Rattle.board_text_defs.specs.Alerts.{alerts_text, alerts_json}
 use Rattle.board_text_defs.specs.BoardJson.{board_json}
 use Rattle.board_text_defs.specs.BoardText.{board_text}
+use Rattle.board_text_defs.specs.Status.{status_text}
+use Rattle.board_text_defs.specs.UnmatchedText.{unmatched_text}
 
 -- the number of the schedule of that name
 unfoldable pub schedule_number : Schedules → List ℕ → Option ℕ
@@ -75,14 +81,49 @@ unfoldable pub feed_answer : Schedules → List FeedFold → List ℕ → Option
 feed_answer schedules folds name =
     option_map (λ plan. combined_feed schedules plan folds) (schedule_number schedules name)
 
+-- ---- lists beside a board
+
+-- the rows of a list of alerts in the form that is asked for
+abbrev pub alert_bytes : Schedules → Bool → List ℕ → List AlertRow → List ℕ
+alert_bytes schedules true stop found = alerts_json schedules.feeds stop found
+alert_bytes schedules false stop found = alerts_text schedules.feeds found
+
+-- the alerts of a schedule of a number; none where it has no such stop
+abbrev pub alerts_in_plan : Schedules → List FeedFold → BoardAsked → ℕ → Option (List ℕ)
+alerts_in_plan schedules folds asked plan =
+    option_map (alert_bytes schedules asked.json asked.stop)
+    (alerts schedules folds (query_of asked plan))
+
+-- the alerts beside the board that is asked for; none where there is no such schedule or stop
+unfoldable pub alerts_answer : Schedules → List FeedFold → BoardAsked → Option (List ℕ)
+alerts_answer schedules folds asked =
+    option_and_then (alerts_in_plan schedules folds asked)
+    (schedule_number schedules asked.schedule)
+
+abbrev pub unmatched_bytes : Schedules → List FeedFold → ℕ → List ℕ
+unmatched_bytes schedules folds plan =
+    unmatched_text schedules.feeds (unmatched schedules folds plan)
+
+-- what the schedule of that name has no run for; none where there is no such schedule
+unfoldable pub unmatched_answer : Schedules → List FeedFold → List ℕ → Option (List ℕ)
+unmatched_answer schedules folds name =
+    option_map (unmatched_bytes schedules folds) (schedule_number schedules name)
+
 -- ---- questions
 
--- what a hub can be asked: the combined feed of a schedule, or a board
+-- what a hub can be asked: the combined feed of a schedule, a board, the alerts beside a board, what a
+-- schedule has no run for, or its status
 pub data Question : Type 0 where
   FeedOf : List ℕ → Question
   BoardOf : BoardAsked → Question
+  AlertsOf : BoardAsked → Question
+  UnmatchedOf : List ℕ → Question
+  StatusOf : Question
 
 -- the bytes of the answer, of what all feeds say; none where what is asked for isn't there
 abbrev pub answer_to : Schedules → List FeedFold → Question → Option (List ℕ)
 answer_to schedules folds (FeedOf schedule) = feed_answer schedules folds schedule
 answer_to schedules folds (BoardOf asked) = board_answer schedules folds asked
+answer_to schedules folds (AlertsOf asked) = alerts_answer schedules folds asked
+answer_to schedules folds (UnmatchedOf schedule) = unmatched_answer schedules folds schedule
+answer_to schedules folds StatusOf = Some (status_text schedules.feeds folds)

@@ -8,7 +8,7 @@ ghost use Rattle.serve_defs.specs.Answers.{kind_of, refusal_code};
 use http_defs::{BodyKind, Query};
 use view_answers::Question;
 
-/// The question of a query at a moment; none where it is refused or isn't answered.
+/// The question of a query at a moment; none where it is refused.
 pub(crate) fn question_of<'a>(query: &'a Query, moment: u64) -> Option<Question<'a>>
     ensures { option_map question_seen result ≡ question_of query.now moment }
 {
@@ -30,11 +30,29 @@ pub(crate) fn question_of<'a>(query: &'a Query, moment: u64) -> Option<Question<
         Query::Feed { schedule } => Some(Question::Feed {
             schedule: schedule.as_str(),
         }),
-        Query::Alerts { .. } | Query::Unmatched { .. } | Query::Status | Query::Refused(_) => None,
+        Query::Alerts {
+            schedule,
+            stop,
+            span,
+            limit,
+            json,
+        } => Some(Question::Alerts {
+            schedule: schedule.as_str(),
+            stop: stop.as_str(),
+            at: moment,
+            span: *span,
+            limit: *limit,
+            json: *json,
+        }),
+        Query::Unmatched { schedule } => Some(Question::Unmatched {
+            schedule: schedule.as_str(),
+        }),
+        Query::Status => Some(Question::Status),
+        Query::Refused(_) => None,
     }
 }
 
-/// The status of a query that has no question: that of its refusal, or 404.
+/// The status of a query that has no question: that of its refusal; for any other 404.
 pub(crate) fn refusal_code(query: &Query) -> u16
     ensures { result ≡ refusal_code query.now }
 {
@@ -54,7 +72,10 @@ pub(crate) fn kind_of(question: &Question<'_>) -> BodyKind
 {
     match *question {
         Question::Feed { .. } => BodyKind::Feed,
-        Question::Board { json: true, .. } => BodyKind::Json,
-        Question::Board { json: false, .. } => BodyKind::Text,
+        Question::Board { json: true, .. } | Question::Alerts { json: true, .. } => BodyKind::Json,
+        Question::Board { json: false, .. }
+        | Question::Alerts { json: false, .. }
+        | Question::Unmatched { .. }
+        | Question::Status => BodyKind::Text,
     }
 }

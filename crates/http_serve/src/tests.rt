@@ -23,6 +23,13 @@ const FEED: &[u8] =
 const THOUSANDTH: &[u8] =
     b"HTTP/1.1 200 OK\r\nContent-Type: application/x-protobuf\r\nContent-Length: 11\r\nX-Hub-Sequence: 0\r\nX-Hub-Moment: 7\r\nConnection: close\r\n\r\n\x0a\x09\x0a\x032.0\x10\x00\x18\x00";
 
+/// The status, and what the schedule has no run for.
+const STATUS: &[u8] =
+    b"HTTP/1.1 200 OK\r\nContent-Type: text/plain; charset=utf-8\r\nContent-Length: 46\r\nX-Hub-Sequence: 0\r\nX-Hub-Moment: 7\r\nConnection: keep-alive\r\n\r\nentries\t0\nfeed\taccepted\tlast\tentities\na\t0\t0\t0\n";
+
+const STRANGERS: &[u8] =
+    b"HTTP/1.1 200 OK\r\nContent-Type: text/plain; charset=utf-8\r\nContent-Length: 20\r\nX-Hub-Sequence: 0\r\nX-Hub-Moment: 7\r\nConnection: keep-alive\r\n\r\nfeed\tid\tkind\treason\n";
+
 /// Refusals.
 const MALFORMED: &[u8] =
     b"HTTP/1.1 400 Bad Request\r\nContent-Type: text/plain; charset=utf-8\r\nContent-Length: 12\r\nX-Hub-Sequence: 0\r\nX-Hub-Moment: 7\r\nConnection: close\r\n\r\nbad request\n";
@@ -124,6 +131,16 @@ fn requests_are_answered(rt: HostRuntime) -> Result<(), Fail> {
 }
 
 #[test]
+fn lists_are_answered(rt: HostRuntime) -> Result<(), Fail> {
+    let alloc = rt.alloc();
+    let status = b"GET /status HTTP/1.1\r\n\r\n".to_vec(alloc)?;
+    assert!(rt; is_served(alloc, status, End::Ended, 0, STATUS)?);
+    let strangers = b"GET /unmatched/city HTTP/1.1\r\n\r\n".to_vec(alloc)?;
+    assert!(rt; is_served(alloc, strangers, End::Ended, 0, STRANGERS)?);
+    Ok(())
+}
+
+#[test]
 fn heads_have_8192_bytes_at_most(rt: HostRuntime) -> Result<(), Fail> {
     let alloc = rt.alloc();
     assert!(rt; is_served(alloc, head_of(alloc, 8192)?, End::Ended, 0, FEED)?);
@@ -146,6 +163,10 @@ fn refusals_keep_the_connection(rt: HostRuntime) -> Result<(), Fail> {
     assert!(rt; is_served(alloc, stop, End::Ended, 0, NOT_FOUND)?);
     let schedule = b"GET /board/town/S3 HTTP/1.1\r\n\r\n".to_vec(alloc)?;
     assert!(rt; is_served(alloc, schedule, End::Ended, 0, NOT_FOUND)?);
+    let alerts = b"GET /alerts/city/NO HTTP/1.1\r\n\r\n".to_vec(alloc)?;
+    assert!(rt; is_served(alloc, alerts, End::Ended, 0, NOT_FOUND)?);
+    let strangers = b"GET /unmatched/town HTTP/1.1\r\n\r\n".to_vec(alloc)?;
+    assert!(rt; is_served(alloc, strangers, End::Ended, 0, NOT_FOUND)?);
     let range = b"GET /board/city/S3?limit=0 HTTP/1.1\r\n\r\n".to_vec(alloc)?;
     assert!(rt; is_served(alloc, range, End::Ended, 0, OUT_OF_RANGE)?);
     Ok(())

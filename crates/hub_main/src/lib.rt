@@ -30,6 +30,8 @@ mod connection_tests;
 #[cfg(test)]
 mod hostile_tests;
 #[cfg(test)]
+mod list_tests;
+#[cfg(test)]
 mod row_tests;
 #[cfg(test)]
 mod tests;

@@ -1,13 +1,13 @@
 -- What the parts of a record's line are.
-use Rattle.std.specs.Prelude.{◌≡◌, ℕ, ◌≤◌, List, Option, Some, None, Result, Ok, Err, ⊤}
+use Rattle.std.specs.Prelude.{◌≡◌, ℕ, ◌≤◌, false, List, Option, Some, None, Result, Ok, Err, ⊤}
 use Rattle.std.specs.Global.{Vec}
 use Rattle.script_defs.specs.Lines.{Head as ScriptHead}
 use Rattle.script_defs.specs.Lines.Head.{Feed as FeedLine, Message as MessageLine, Ask as AskLine, Connection as ConnectionLine, End as EndLine}
-use Rattle.board_text_defs.specs.Answers.Question.{FeedOf, BoardOf}
+use Rattle.board_text_defs.specs.Answers.Question.{FeedOf, BoardOf, AlertsOf, UnmatchedOf, StatusOf}
 use Rattle.text_defs.specs.Moments.{last_moment}
 use Rattle.view_answers.specs.Questions.{IsAsked}
 use Rattle.hub_replay.specs.declared.lines.Line.{Line}
-use Rattle.hub_replay.specs.declared.lines.Line.TheVariants.{Feed, Message, Combined, Board, Connection, End}
+use Rattle.hub_replay.specs.declared.lines.Line.TheVariants.{Feed, Message, Combined, Board, Alerts, Unmatched, Status, Connection, End}
 use Rattle.hub_replay.specs.declared.lines.LineFault.{LineFault}
 use Rattle.hub_replay.specs.declared.lines.LineFault.TheVariants.{NotALine, NoMemory}
 
@@ -24,6 +24,16 @@ head_seen (Board schedule stop moment span limit json) = AskLine (BoardOf (recor
   limit = limit;
   json = json;
 }))
+head_seen (Alerts schedule stop moment span limit) = AskLine (AlertsOf (record {
+  schedule = schedule;
+  stop = stop;
+  at = moment;
+  span = span;
+  limit = limit;
+  json = false;
+}))
+head_seen (Unmatched schedule) = AskLine (UnmatchedOf schedule)
+head_seen Status = AskLine StatusOf
 head_seen (Connection moment n) = ConnectionLine moment n
 head_seen End = EndLine
 
@@ -32,7 +42,7 @@ abbrev pub Lacks : {A : Type 0} → Option A → LineFault → Type 0
 Lacks defined NotALine = defined ≡ None
 Lacks defined NoMemory = ⊤
 
--- what a line asks may be asked: of a board the moment, the span and the number of rows are in
+-- what a line asks may be asked: of a board or of alerts the moment, the span and the number of rows are in
 -- range, and of a connection the moment
 abbrev pub MayAsk : ScriptHead → Type 0
 MayAsk (AskLine question) = IsAsked question

@@ -1,7 +1,7 @@
 //! A record's line, and what it says.
 ghost use Rattle.std.specs.Prelude.{◌≡◌, ◌==◌, position, ◌+◌, ◌<◌, ◌≤◌, map, length, take, drop, MatchOption, IfOk, IfSome, Some, None};
 ghost use Rattle.text_defs.specs.Numbers.{number};
-ghost use Rattle.script_defs.specs.Lines.{longest_line, line_within, words_of, text_of_word, texts_of, script_digits, length_in, input_length_in, is_json_in, feed_head, message_head, combined_head, board_head, connection_head, end_head, head_by_letter, head_of_words, head_of};
+ghost use Rattle.script_defs.specs.Lines.{longest_line, line_within, words_of, text_of_word, texts_of, script_digits, length_in, input_length_in, is_json_in, feed_head, message_head, combined_head, board_head, alerts_head, unmatched_head, status_head, connection_head, end_head, head_by_letter, head_of_words, head_of};
 ghost use Rattle.hub_replay.specs.Lines.{TextIs, TextsAre, SaysHead};
 
 use crate::NoMemory;
@@ -64,6 +64,26 @@ pub enum Line {
         /// Whether as JSON; else as text.
         json: bool,
     },
+    /// `A schedule stop moment span limit`: the alerts beside a board, as text.
+    Alerts {
+        /// The name of the schedule.
+        schedule: Text,
+        /// The id of the stop.
+        stop: Text,
+        /// When, in seconds since 1970, up to 253402300799.
+        moment: u64,
+        /// For how many seconds the board goes, 1 to 86400.
+        span: u32,
+        /// The most rows of the board, 1 to 1000.
+        limit: u32,
+    },
+    /// `U schedule`: what the feeds of that schedule say of trips that it has no run for.
+    Unmatched {
+        /// The name of the schedule.
+        schedule: Text,
+    },
+    /// `S`: the status of the hub.
+    Status,
     /// `Q moment n`: a connection whose input is so many bytes, served at that moment.
     Connection {
         /// When, in seconds since 1970, up to 253402300799.
@@ -184,6 +204,12 @@ fn line_of(letter: &str, words: &[Text]) -> Result<Line, LineFault>
         combined_line(words)
     } else if letter == "B" {
         board_line(words)
+    } else if letter == "A" {
+        alerts_line(words)
+    } else if letter == "U" {
+        unmatched_line(words)
+    } else if letter == "S" {
+        status_line(words)
     } else if letter == "Q" {
         connection_line(words)
     } else if letter == "E" {
@@ -254,6 +280,52 @@ fn board_line(words: &[Text]) -> Result<Line, LineFault>
                 json,
             })
         }
+        _ => Err(LineFault::NotALine),
+    }
+}
+
+fn alerts_line(words: &[Text]) -> Result<Line, LineFault>
+    ensures { SaysHead (alerts_head words.now) result }
+{
+    match words {
+        [schedule, stop, moment, span, limit] => {
+            let Some(moment) = number_in(moment, 0, LAST_MOMENT) else {
+                return Err(LineFault::NotALine);
+            };
+            let Some(span) = number_in(span, 1, LONGEST_SPAN) else {
+                return Err(LineFault::NotALine);
+            };
+            let Some(limit) = number_in(limit, 1, MOST_ROWS) else {
+                return Err(LineFault::NotALine);
+            };
+            Ok(Line::Alerts {
+                schedule: schedule.copy()?,
+                stop: stop.copy()?,
+                moment,
+                span: span as u32,
+                limit: limit as u32,
+            })
+        }
+        _ => Err(LineFault::NotALine),
+    }
+}
+
+fn unmatched_line(words: &[Text]) -> Result<Line, LineFault>
+    ensures { SaysHead (unmatched_head words.now) result }
+{
+    match words {
+        [schedule] => Ok(Line::Unmatched {
+            schedule: schedule.copy()?,
+        }),
+        _ => Err(LineFault::NotALine),
+    }
+}
+
+fn status_line(words: &[Text]) -> Result<Line, LineFault>
+    ensures { SaysHead (status_head words.now) result }
+{
+    match words {
+        [] => Ok(Line::Status),
         _ => Err(LineFault::NotALine),
     }
 }

@@ -97,6 +97,30 @@ fn do_line(
             };
             do_question(alloc, hub, &question, bytes, behind, said)
         }
+        Line::Alerts {
+            schedule,
+            stop,
+            moment,
+            span,
+            limit,
+        } => {
+            let question = Question::Alerts {
+                schedule: schedule.as_str(),
+                stop: stop.as_str(),
+                at: *moment,
+                span: *span,
+                limit: *limit,
+                json: false,
+            };
+            do_question(alloc, hub, &question, bytes, behind, said)
+        }
+        Line::Unmatched { schedule } => {
+            let question = Question::Unmatched {
+                schedule: schedule.as_str(),
+            };
+            do_question(alloc, hub, &question, bytes, behind, said)
+        }
+        Line::Status => do_question(alloc, hub, &Question::Status, bytes, behind, said),
         Line::Connection { moment, n } => {
             do_connection(alloc, hub, *moment, *n, bytes, behind, said)
         }
@@ -174,7 +198,7 @@ pub(crate) fn byte_at(bytes: &[u8], place: usize) -> Option<u8>
     bytes.get(place).copied()
 }
 
-/// `O` and `B`: prints what the question is answered.
+/// `O`, `B`, `A`, `U` and `S`: prints what the question is answered.
 fn do_question(
     alloc: Global,
     hub: &mut ScriptHub,
@@ -221,6 +245,9 @@ fn question_word(question: &Question<'_>) -> &'static str
     match question {
         Question::Feed { .. } => "feed",
         Question::Board { .. } => "board",
+        Question::Alerts { .. } => "alerts",
+        Question::Unmatched { .. } => "unmatched",
+        Question::Status => "status",
     }
 }
 

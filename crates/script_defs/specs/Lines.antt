@@ -7,7 +7,7 @@ use Rattle.answer_defs.specs.Choices.{only_if}
 use Rattle.text_defs.specs.Moments.{last_moment}
 use Rattle.text_defs.specs.Numbers.{number}
 use Rattle.board_text_defs.specs.Answers.{BoardAsked, Question}
-use Rattle.board_text_defs.specs.Answers.Question.{FeedOf, BoardOf}
+use Rattle.board_text_defs.specs.Answers.Question.{FeedOf, BoardOf, AlertsOf, UnmatchedOf, StatusOf}
 use Rattle.script_defs.specs.Optional.{◌>>=◌}
 
 -- the most bytes of a line, its LF included
@@ -105,6 +105,33 @@ combined_head _ = None
 abbrev pub board_head : List (List ℕ) → Option Head
 board_head words = board_in_words script_digits words >>= λ asked. Some (Ask (BoardOf asked))
 
+-- the alerts that words ask for, as text: schedule, stop, moment, span and limit
+abbrev pub alerts_in_words : List (List ℕ) → Option BoardAsked
+alerts_in_words (schedule ∷ stop ∷ moment ∷ span ∷ limit ∷ []) =
+    number script_digits 0 last_moment moment >>= λ at.
+    number script_digits 1 86400 span >>= λ seconds.
+    number script_digits 1 1000 limit >>= λ rows.
+    Some (record {
+      schedule = schedule;
+      stop = stop;
+      at = at;
+      span = seconds;
+      limit = rows;
+      json = false;
+    })
+alerts_in_words _ = None
+
+abbrev pub alerts_head : List (List ℕ) → Option Head
+alerts_head words = alerts_in_words words >>= λ asked. Some (Ask (AlertsOf asked))
+
+abbrev pub unmatched_head : List (List ℕ) → Option Head
+unmatched_head (schedule ∷ []) = Some (Ask (UnmatchedOf schedule))
+unmatched_head _ = None
+
+abbrev pub status_head : List (List ℕ) → Option Head
+status_head [] = Some (Ask StatusOf)
+status_head _ = None
+
 abbrev pub connection_head : List (List ℕ) → Option Head
 connection_head (moment ∷ size ∷ []) =
     number script_digits 0 last_moment moment >>= λ at.
@@ -122,8 +149,11 @@ head_by_letter letter words =
     else (if bytes_eq letter (codes "M") then message_head words
     else (if bytes_eq letter (codes "O") then combined_head words
     else (if bytes_eq letter (codes "B") then board_head words
+    else (if bytes_eq letter (codes "A") then alerts_head words
+    else (if bytes_eq letter (codes "U") then unmatched_head words
+    else (if bytes_eq letter (codes "S") then status_head words
     else (if bytes_eq letter (codes "Q") then connection_head words
-    else (if bytes_eq letter (codes "E") then end_head words else None)))))
+    else (if bytes_eq letter (codes "E") then end_head words else None))))))))
 
 abbrev pub head_of_words : List (List ℕ) → Option Head
 head_of_words [] = None

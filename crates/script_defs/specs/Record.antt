@@ -14,7 +14,7 @@ use Rattle.sched_types.specs.Schedules.{Schedules}
 use Rattle.sched_types.specs.Timetable.{no_timetable}
 use Rattle.board_defs.specs.Fold.{FeedFold, fold_of}
 use Rattle.board_text_defs.specs.Answers.{Question, answer_to, feed_number}
-use Rattle.board_text_defs.specs.Answers.Question.{FeedOf, BoardOf}
+use Rattle.board_text_defs.specs.Answers.Question.{FeedOf, BoardOf, AlertsOf, UnmatchedOf, StatusOf}
 use Rattle.http_defs.specs.Requests.{Finish, ended, closed, bad}
 use Rattle.serve_defs.specs.Connections.{Served, connection_bytes}
 use Rattle.script_defs.specs.Texts.{refusal_words}
@@ -75,6 +75,9 @@ reply_line (Err refusal) = refusal_words refusal ++ line_feed
 abbrev pub question_word : Question → List ℕ
 question_word (FeedOf schedule) = codes "feed"
 question_word (BoardOf asked) = codes "board"
+question_word (AlertsOf asked) = codes "alerts"
+question_word (UnmatchedOf schedule) = codes "unmatched"
+question_word StatusOf = codes "status"
 
 -- what a question is answered: how many bytes follow, and these with an LF behind them; or that what
 -- it asks for isn't there

@@ -14,7 +14,12 @@ use Rattle.board_defs.specs.Fold.{fold_of}
 use Rattle.board_defs.specs.Rows.{all_runs, run_rows, board_at, board}
 use Rattle.board_text_defs.specs.Lines.{tab, between_tabs}
 use Rattle.board_text_defs.specs.BoardText.{board_text}
-use Rattle.board_text_defs.specs.Answers.{board_answer, feed_answer, schedule_number}
+use Rattle.board_text_defs.specs.Alerts.{alerts_text}
+use Rattle.board_text_defs.specs.Status.{status_text, status_lines}
+use Rattle.board_text_defs.specs.UnmatchedText.{unmatched_text}
+use Rattle.board_text_defs.specs.Answers.{board_answer, feed_answer, alerts_answer, unmatched_answer, schedule_number}
+use Rattle.alert_defs.specs.Alerts.{over_feeds, alerts}
+use Rattle.alert_defs.specs.Unmatched.{unmatched}
 use Rattle.http_defs.specs.declared.request.Item.{Item}
 use Rattle.http_defs.specs.declared.request.Item.TheVariants.{Asked, Malformed}
 use Rattle.http_defs.specs.Responses.{crlf, refusal}
@@ -71,16 +76,28 @@ board_is_answered :
 unfolding http_on_literals fold_of messages_of since_full changes_by_id entities_of updates_from chosen match_of by_near date_in is_day date_plus next_day states all_runs run_rows board_at board inserted ordered digits between_tabs board_text schedule_number board_answer answer closes_behind
 board_is_answered = (refl, refl)
 
--- a stop and a schedule that aren't there, and what isn't answered yet
+-- what isn't there: a stop, a schedule
 nothing_is_found :
     (answered (get (codes "/board/city/NO")) false
     ≡ head (codes "404 Not Found") 10 (codes "keep-alive") ++ codes "not found" ++ line_feed)
     × (answered (get (codes "/board/town/S3")) false ≡ refusal 404 0 1743314000 false)
     × (answered (get (codes "/feed/town")) false ≡ refusal 404 0 1743314000 false)
-    × (answered (get (codes "/status")) false ≡ refusal 404 0 1743314000 false)
-    × (answered (get (codes "/unmatched/city")) true ≡ refusal 404 0 1743314000 true)
-unfolding http_on_literals fold_of messages_of since_full changes_by_id entities_of updates_from chosen match_of by_near date_in is_day date_plus next_day states all_runs run_rows board_at board inserted ordered digits schedule_number board_answer feed_answer answer closes_behind
+    × (answered (get (codes "/unmatched/town")) true ≡ refusal 404 0 1743314000 true)
+    × (answered (get (codes "/alerts/city/NO")) false ≡ refusal 404 0 1743314000 false)
+unfolding http_on_literals fold_of messages_of since_full changes_by_id entities_of updates_from chosen match_of by_near date_in is_day date_plus next_day states all_runs run_rows board_at board inserted ordered digits schedule_number board_answer feed_answer unmatched_answer alerts_answer alerts answer closes_behind
 nothing_is_found = (refl, refl, refl, refl, refl)
+
+-- the lists beside a board, of feeds that said nothing
+lists_are_answered :
+    (answered (get (codes "/status")) false
+    ≡ head (codes "200 OK") 54 (codes "keep-alive")
+    ++ codes "entries\t0\nfeed\taccepted\tlast\tentities\na\t0\t0\t0\nb\t0\t0\t0\n")
+    × (answered (get (codes "/unmatched/city")) false
+    ≡ head (codes "200 OK") 20 (codes "keep-alive") ++ codes "feed\tid\tkind\treason\n")
+    × (answered (get (codes "/alerts/city/S3")) false
+    ≡ head (codes "200 OK") 28 (codes "keep-alive") ++ codes "feed\tid\tcause\teffect\theader\n")
+unfolding http_on_literals fold_of messages_of since_full changes_by_id entities_of updates_from chosen match_of by_near date_in is_day date_plus next_day states all_runs run_rows board_at board inserted ordered digits between_tabs schedule_number status_text status_lines unmatched_answer unmatched_text unmatched over_feeds alerts_answer alerts_text alerts answer closes_behind
+lists_are_answered = (refl, refl, refl)
 
 -- refusals, by the rule that applies first
 what_is_wrong_is_refused :

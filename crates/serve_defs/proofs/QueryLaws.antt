@@ -81,12 +81,12 @@ board_askable (Some a) None choices each = refl
 board_askable (Some a) (Some b) None each = refl
 board_askable (Some a) (Some b) (Some c) each = each
 
-alerts_askable : (schedule stop : Option (List ℕ)) (choices : Option Choices)
+alerts_askable : (schedule stop : Option (List ℕ)) (choices : Option Choices) → Each IsChoice choices
     → IsAskable (or_bad (option_and_then (λ a. option_and_then (λ b. option_map (λ c. Alerts a b c.span c.limit c.json) choices) stop) schedule))
-alerts_askable None stop choices = refl
-alerts_askable (Some a) None choices = refl
-alerts_askable (Some a) (Some b) None = refl
-alerts_askable (Some a) (Some b) (Some c) = tt
+alerts_askable None stop choices each = refl
+alerts_askable (Some a) None choices each = refl
+alerts_askable (Some a) (Some b) None each = refl
+alerts_askable (Some a) (Some b) (Some c) each = each
 
 feed_askable : (schedule : Option (List ℕ)) → IsAskable (or_bad (option_map (λ a. Feed a) schedule))
 feed_askable None = refl
@@ -101,7 +101,7 @@ route_askable None path form = refl
 route_askable (Some BoardRoute) path form =
     board_askable (text_at path 2) (text_at path 3) (choices_in form) (choices_range form)
 route_askable (Some AlertsRoute) path form =
-    alerts_askable (text_at path 2) (text_at path 3) (choices_in form)
+    alerts_askable (text_at path 2) (text_at path 3) (choices_in form) (choices_range form)
 route_askable (Some FeedRoute) path form = feed_askable (text_at path 2)
 route_askable (Some UnmatchedRoute) path form = unmatched_askable (text_at path 2)
 route_askable (Some StatusRoute) path form = tt

@@ -4,7 +4,7 @@ use Rattle.std.specs.Option.{option_map}
 use Rattle.sched_types.specs.Schedules.{Schedules}
 use Rattle.board_defs.specs.Fold.{FeedFold}
 use Rattle.board_text_defs.specs.Answers.{Question, answer_to}
-use Rattle.board_text_defs.specs.Answers.Question.{FeedOf, BoardOf}
+use Rattle.board_text_defs.specs.Answers.Question.{FeedOf, BoardOf, AlertsOf, UnmatchedOf, StatusOf}
 use Rattle.http_defs.specs.declared.request.Item.{Item}
 use Rattle.http_defs.specs.declared.request.Item.TheVariants.{Asked, Malformed}
 use Rattle.http_defs.specs.declared.asked.Query.{Query}
@@ -29,6 +29,9 @@ refused code = record { status = code; kind = Lines; body = refusal_text (status
 abbrev pub kind_of : Question → BodyKind
 kind_of (FeedOf schedule) = Message
 kind_of (BoardOf asked) = if asked.json then Json else Lines
+kind_of (AlertsOf asked) = if asked.json then Json else Lines
+kind_of (UnmatchedOf schedule) = Lines
+kind_of StatusOf = Lines
 
 -- a body that is there, or the refusal where what is asked for isn't there
 abbrev pub found : BodyKind → Option (List ℕ) → Answered
@@ -40,7 +43,7 @@ abbrev pub question_answered : Schedules → List FeedFold → Question → Answ
 question_answered schedules folds question =
     found (kind_of question) (answer_to schedules folds question)
 
--- the status of a query that asks no question: its refusal's, or that nothing is found
+-- the status of a query that asks no question: its refusal's; for any other, that nothing is found
 abbrev pub refusal_code : Query → ℕ
 refusal_code (Refused code) = code
 refusal_code (Board schedule stop span limit json) = 404

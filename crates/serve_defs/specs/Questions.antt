@@ -3,10 +3,9 @@ use Rattle.std.specs.Prelude.{◌≡◌, ℕ, ◌≤◌, Bool, true, ◌==◌, �
 use Rattle.http_defs.specs.declared.asked.Query.{Query}
 use Rattle.http_defs.specs.declared.asked.Query.TheVariants.{Board, Alerts, Feed, Unmatched, Status, Refused}
 use Rattle.board_text_defs.specs.Answers.{Question}
-use Rattle.board_text_defs.specs.Answers.Question.{FeedOf, BoardOf}
+use Rattle.board_text_defs.specs.Answers.Question.{FeedOf, BoardOf, AlertsOf, UnmatchedOf, StatusOf}
 
--- The question of a query that is asked at a moment; a refused one asks nothing. Alerts, the list
--- of unmatched updates and the status of the feeds aren't answered yet: they have no question.
+-- the question of a query that is asked at a moment; only a refused one asks nothing
 abbrev pub question_of : Query → ℕ → Option Question
 question_of (Board schedule stop span limit json) moment = Some (BoardOf (record {
   schedule = schedule;
@@ -17,9 +16,16 @@ question_of (Board schedule stop span limit json) moment = Some (BoardOf (record
   json = json;
 }))
 question_of (Feed schedule) moment = Some (FeedOf schedule)
-question_of (Alerts schedule stop span limit json) moment = None
-question_of (Unmatched schedule) moment = None
-question_of Status moment = None
+question_of (Alerts schedule stop span limit json) moment = Some (AlertsOf (record {
+  schedule = schedule;
+  stop = stop;
+  at = moment;
+  span = span;
+  limit = limit;
+  json = json;
+}))
+question_of (Unmatched schedule) moment = Some (UnmatchedOf schedule)
+question_of Status moment = Some StatusOf
 question_of (Refused code) moment = None
 
 -- a status of a response
@@ -37,11 +43,11 @@ pub record AreChoices (span limit : ℕ) : Type 0 where
   pub some_rows : 1 ≤ limit
   pub thousand_at_most : limit ≤ 1000
 
--- what requests ask: boards within their ranges, and refusals by their statuses
+-- what requests ask: boards and alerts within their ranges, and refusals by their statuses
 abbrev pub IsAskable : Query → Type 0
 IsAskable (Board schedule stop span limit json) = AreChoices span limit
 IsAskable (Feed schedule) = ⊤
-IsAskable (Alerts schedule stop span limit json) = ⊤
+IsAskable (Alerts schedule stop span limit json) = AreChoices span limit
 IsAskable (Unmatched schedule) = ⊤
 IsAskable Status = ⊤
 IsAskable (Refused code) = is_refusal code ≡ true

@@ -1,11 +1,11 @@
 -- Questions as the definitions have them, and what may be asked.
-use Rattle.std.specs.Prelude.{ℕ, ◌≤◌, List, ⊤}
+use Rattle.std.specs.Prelude.{ℕ, ◌≤◌, Bool, true, false, List, [], ⊤}
 use Rattle.text_defs.specs.Moments.{last_moment}
 use Rattle.board_text_defs.specs.Answers.{BoardAsked}
 use Rattle.board_text_defs.specs.Answers.{Question as Defined}
-use Rattle.board_text_defs.specs.Answers.Question.{FeedOf, BoardOf}
+use Rattle.board_text_defs.specs.Answers.Question.{FeedOf, BoardOf, AlertsOf, UnmatchedOf, StatusOf}
 use Rattle.view_answers.specs.declared.question.Question.{Question}
-use Rattle.view_answers.specs.declared.question.Question.TheVariants.{Feed, Board}
+use Rattle.view_answers.specs.declared.question.Question.TheVariants.{Feed, Board, Alerts, Unmatched, Status}
 
 abbrev pub question_seen : Question → Defined
 question_seen (Feed schedule) = FeedOf schedule.now
@@ -18,11 +18,33 @@ question_seen (Board schedule stop at span limit json) =
       limit = limit;
       json = json;
     })
+question_seen (Alerts schedule stop at span limit json) =
+    AlertsOf (record {
+      schedule = schedule.now;
+      stop = stop.now;
+      at = at;
+      span = span;
+      limit = limit;
+      json = json;
+    })
+question_seen (Unmatched schedule) = UnmatchedOf schedule.now
+question_seen Status = StatusOf
 
--- the name of the schedule that is asked for
+-- whether the status is asked for, and so no schedule
+abbrev pub is_status : Defined → Bool
+is_status (FeedOf schedule) = false
+is_status (BoardOf asked) = false
+is_status (AlertsOf asked) = false
+is_status (UnmatchedOf schedule) = false
+is_status StatusOf = true
+
+-- the name of the schedule that is asked for; empty where none is
 abbrev pub schedule_of : Defined → List ℕ
 schedule_of (FeedOf schedule) = schedule
 schedule_of (BoardOf asked) = asked.schedule
+schedule_of (AlertsOf asked) = asked.schedule
+schedule_of (UnmatchedOf schedule) = schedule
+schedule_of StatusOf = []
 
 -- which boards may be asked for: up to the end of the year 9999, of up to a day and up to 1000 rows
 pub record MayAsk (asked : BoardAsked) : Type 0 where
@@ -32,7 +54,10 @@ pub record MayAsk (asked : BoardAsked) : Type 0 where
   pub some_rows : 1 ≤ asked.limit
   pub thousand_at_most : asked.limit ≤ 1000
 
--- a question of those; any feed may be asked for
+-- a question of those; any feed, any list of unmatched trips and the status may be asked for
 abbrev pub IsAsked : Defined → Type 0
 IsAsked (FeedOf schedule) = ⊤
 IsAsked (BoardOf asked) = MayAsk asked
+IsAsked (AlertsOf asked) = MayAsk asked
+IsAsked (UnmatchedOf schedule) = ⊤
+IsAsked StatusOf = ⊤

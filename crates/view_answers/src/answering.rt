@@ -1,21 +1,25 @@
 //! What a view answers.
 
-ghost use Rattle.std.specs.Prelude.{◌≡◌, ◌<◌, ◌≤◌, ◌++◌, Some, Bool, List, length, OnOk, OnErr};
+ghost use Rattle.std.specs.Prelude.{◌≡◌, ◌<◌, ◌≤◌, ◌++◌, Some, Bool, List, length, IfOk, OnOk, OnErr};
 ghost use Rattle.text_defs.specs.Moments.{last_moment};
 ghost use Rattle.feed_defs.specs.declared.history.Entry.{Entry};
 ghost use Rattle.board_defs.specs.Feed.{combined_feed};
 ghost use Rattle.board_defs.specs.Fold.{fold_of};
 ghost use Rattle.board_defs.specs.Views.{StandsFor, folds_of};
-ghost use Rattle.board_text_defs.specs.Answers.{board_bytes};
+ghost use Rattle.board_text_defs.specs.Answers.{board_bytes, alert_bytes, unmatched_bytes};
 ghost use Rattle.view_answers.specs.Questions.{question_seen, schedule_of, IsAsked};
-ghost use Rattle.view_answers.specs.Replies.{Replies, Answers, answer_in, board_in};
+ghost use Rattle.view_answers.specs.Replies.{Replies, Answers, answer_in, board_in, alerts_in, status_in};
 
 use crate::lookup::{name_of, number_of};
-use crate::question::schedule_of;
+use crate::question::{is_status, schedule_of};
 use crate::{NoMemory, Question};
+use alert_defs::AlertRow;
 use board_core::{HubView, RowsFault, rows};
 use board_defs::{BoardQuery, Row};
-use board_text::{board_json, board_text};
+use board_lists::{alerts, unmatched};
+use board_text::{
+    alerts_json, alerts_text, board_json, board_text, status_text, unmatched_text,
+};
 use feed_out::combined;
 use rt_types::Text;
 use std::alloc::Global;
@@ -35,6 +39,9 @@ pub fn answer(
         → Answers view.now.plans (fold_of (length view.now.plans.feeds) h) (question_seen question.now)
         out.old.items out.new.items result }
 {
+    if is_status(question) {
+        return push_status(view, out);
+    }
     match number_of(view.plans(), schedule_of(question)) {
         Some(plan) => answer_of(alloc, view, plan, question, out),
         None => Ok(false),
@@ -64,17 +71,44 @@ fn answer_of(
             json,
             ..
         } => {
-            let stop = Text::new(alloc, stop)?;
-            let query = BoardQuery {
-                plan,
-                stop,
-                at,
-                span,
-                limit,
-            };
+            let query = query_of(alloc, plan, stop, at, span, limit)?;
             push_board(alloc, view, &query, json, out)
         }
+        Question::Alerts {
+            stop,
+            at,
+            span,
+            limit,
+            json,
+            ..
+        } => {
+            let query = query_of(alloc, plan, stop, at, span, limit)?;
+            push_alerts(alloc, view, &query, json, out)
+        }
+        Question::Unmatched { .. } => push_unmatched(alloc, view, plan, out),
+        Question::Status => push_status(view, out),
     }
+}
+
+/// The query of a board of the schedule of that number; or want of memory.
+fn query_of(
+    alloc: Global,
+    plan: u32,
+    stop: &str,
+    at: u64,
+    span: u32,
+    limit: u32,
+) -> Result<BoardQuery, NoMemory>
+    ensures { IfOk result (λ query. query
+        ≡ record { plan = plan; stop = stop.now; at = at; span = span; limit = limit }) }
+{
+    Ok(BoardQuery {
+        plan,
+        stop: Text::new(alloc, stop)?,
+        at,
+        span,
+        limit,
+    })
 }
 
 /// Appends the combined feed of the schedule of that number.
@@ -130,4 +164,71 @@ fn push_rows(
     } else {
         board_text(stop, name, rows, out)
     }
+}
+
+/// Appends the list of alerts, as JSON or as text; false where there is no such stop.
+fn push_alerts(
+    alloc: Global,
+    view: &HubView,
+    query: &BoardQuery,
+    json: bool,
+    out: &mut Vec<u8>,
+) -> Result<bool, NoMemory>
+    requires plan { query.now.plan < length view.now.plans.plans }
+    requires moment { query.now.at ≤ last_moment }
+    ensures { Replies (alerts_in view.now.plans (folds_of view.now) query.now json)
+        out.old.items out.new.items result }
+{
+    match alerts(alloc, view, query) {
+        Ok(rows) => {
+            push_found(view, query.stop.as_str(), rows.as_slice(), json, out)?;
+            Ok(true)
+        }
+        Err(RowsFault::NoStop) => Ok(false),
+        Err(RowsFault::NoMemory) => Err(NoMemory),
+    }
+}
+
+/// Appends the rows of alerts beside the board of the stop of that id, as JSON or as text.
+fn push_found(
+    view: &HubView,
+    stop: &str,
+    rows: &[AlertRow],
+    json: bool,
+    out: &mut Vec<u8>,
+) -> Result<(), NoMemory>
+    ensures written { OnOk result
+        (out.new.items ≡ out.old.items ++ alert_bytes view.now.plans json stop.now rows.now) }
+    ensures kept { OnErr result (out.new.items ≡ out.old.items) }
+{
+    if json {
+        alerts_json(view, stop, rows, out)
+    } else {
+        alerts_text(view, rows, out)
+    }
+}
+
+/// Appends what the schedule of that number has no run for.
+fn push_unmatched(
+    alloc: Global,
+    view: &HubView,
+    plan: u32,
+    out: &mut Vec<u8>,
+) -> Result<bool, NoMemory>
+    requires { plan < length view.now.plans.plans }
+    ensures { Replies (Some (unmatched_bytes view.now.plans (folds_of view.now) plan))
+        out.old.items out.new.items result }
+{
+    let rows = unmatched(alloc, view, plan)?;
+    unmatched_text(view, rows.as_slice(), out)?;
+    Ok(true)
+}
+
+/// Appends the status of the hub.
+fn push_status(view: &HubView, out: &mut Vec<u8>) -> Result<bool, NoMemory>
+    ensures { Replies (Some (status_in view.now.plans (folds_of view.now)))
+        out.old.items out.new.items result }
+{
+    status_text(view, out)?;
+    Ok(true)
 }

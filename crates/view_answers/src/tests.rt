@@ -84,3 +84,14 @@ fn a_board_of_no_stop(rt: HostRuntime) -> Result<(), Fail> {
     assert!(rt; is_absent(alloc, &board("town", "S", true))?);
     Ok(())
 }
+
+#[test]
+fn lists_of_a_bare_hub(rt: HostRuntime) -> Result<(), Fail> {
+    let alloc = rt.alloc();
+    let strangers = b"feed\tid\tkind\treason\n";
+    assert!(rt; answers(alloc, &Question::Unmatched { schedule: "city" }, strangers)?);
+    assert!(rt; is_absent(alloc, &Question::Unmatched { schedule: "town" })?);
+    let status = b"entries\t0\nfeed\taccepted\tlast\tentities\na\t0\t0\t0\n";
+    assert!(rt; answers(alloc, &Question::Status, status)?);
+    Ok(())
+}

@@ -1,0 +1,112 @@
+//! The status of a hub as text.
+
+ghost use Rattle.std.specs.Prelude.{◌≡◌, ◌≤◌, [], ◌∷◌, ◌++◌, length, map, codes, OnOk, OnErr};
+ghost use Rattle.std.specs.Arc.{arc_value};
+ghost use Rattle.std.specs.Fmt.{decimal};
+ghost use Rattle.board_defs.specs.Views.{folds_of};
+ghost use Rattle.board_text_defs.specs.Lines.{line_of_fields};
+ghost use Rattle.board_text_defs.specs.Status.{status_columns, status_line, status_lines, status_text};
+
+use crate::NoMemory;
+use crate::lines::push_line;
+use board_core::HubView;
+use feed_view::FeedView;
+use itoa::Buffer;
+use sched_types::NamedFeed;
+use std::sync::Arc;
+
+/// Appends the status of a hub: a line with how many messages it accepted, a line with the names of the columns,
+/// and a line for each feed with its name, how many of its messages were accepted, the stamp of the last, in
+/// seconds since 1970, and how many entities it holds. Want of memory leaves `out` as it was.
+pub fn status_text(view: &HubView, out: &mut Vec<u8>) -> Result<(), NoMemory>
+    ensures written { OnOk result
+        (out.new.items ≡ out.old.items ++ status_text view.now.plans.feeds (folds_of view.now)) }
+    ensures kept { OnErr result (out.new.items ≡ out.old.items) }
+{
+    // Made aside, since a line that fails leaves a part of itself.
+    let mut text = Vec::new(*out.allocator());
+    push_status(view, &mut text)?;
+    out.extend_from_slice(text.as_slice())
+}
+
+/// Appends the status, or as much of it as memory allows.
+#[tactic(auto, unfolding(board_text_defs::specs::Status::status_text))]
+fn push_status(view: &HubView, out: &mut Vec<u8>) -> Result<(), NoMemory>
+    ensures { OnOk result
+        (out.new.items ≡ out.old.items ++ status_text view.now.plans.feeds (folds_of view.now)) }
+{
+    view.sound();
+    push_entries(view.entries(), out)?;
+    push_columns(out)?;
+    push_feeds(view.plans().feeds(), view.feeds(), out)
+}
+
+/// Appends the line with how many messages were accepted.
+fn push_entries(entries: u64, out: &mut Vec<u8>) -> Result<(), NoMemory>
+    ensures { OnOk result (out.new.items ≡ out.old.items
+        ++ line_of_fields (codes "entries" ∷ decimal entries ∷ [])) }
+{
+    let mut buffer = Buffer::new();
+    push_pair(buffer.format(entries), out)
+}
+
+/// The same of a number that is spelled already.
+fn push_pair<'a>(entries: &'a str, out: &mut Vec<u8>) -> Result<(), NoMemory>
+    ensures { OnOk result (out.new.items ≡ out.old.items
+        ++ line_of_fields (codes "entries" ∷ entries.now ∷ [])) }
+{
+    push_line(&["entries", entries], out)
+}
+
+/// Appends the line with the names of the columns.
+fn push_columns(out: &mut Vec<u8>) -> Result<(), NoMemory>
+    ensures { OnOk result (out.new.items ≡ out.old.items ++ line_of_fields status_columns) }
+{
+    push_line(&["feed", "accepted", "last", "entities"], out)
+}
+
+/// Appends a line for each feed.
+#[tactic(auto, unfolding(board_text_defs::specs::Status::status_lines))]
+fn push_feeds(
+    feeds: &[NamedFeed],
+    views: &[Arc<FeedView>],
+    out: &mut Vec<u8>,
+) -> Result<(), NoMemory>
+    requires each { length views.now ≡ length feeds.now }
+    ensures { OnOk result (out.new.items ≡ out.old.items
+        ++ status_lines feeds.now (map (λ feed. feed.fold) (map arc_value views.now))) }
+{
+    for (i, feed) in feeds.iter().enumerate() {
+        push_feed(feed, &views[i], out)?;
+    }
+    Ok(())
+}
+
+/// Appends the line of a feed.
+fn push_feed(feed: &NamedFeed, view: &FeedView, out: &mut Vec<u8>) -> Result<(), NoMemory>
+    ensures { OnOk result
+        (out.new.items ≡ out.old.items ++ status_line feed.now view.now.fold) }
+{
+    let (mut count, mut stamp, mut entities) = (Buffer::new(), Buffer::new(), Buffer::new());
+    push_cells(
+        feed.name.as_str(),
+        count.format(view.count()),
+        stamp.format(view.stamp()),
+        entities.format(view.table().len()),
+        out,
+    )
+}
+
+/// The same of numbers that are spelled already.
+fn push_cells<'a>(
+    name: &'a str,
+    count: &'a str,
+    stamp: &'a str,
+    entities: &'a str,
+    out: &mut Vec<u8>,
+) -> Result<(), NoMemory>
+    ensures { OnOk result (out.new.items ≡ out.old.items
+        ++ line_of_fields (name.now ∷ count.now ∷ stamp.now ∷ entities.now ∷ [])) }
+{
+    push_line(&[name, count, stamp, entities], out)
+}
