@@ -13,14 +13,14 @@ use texts::LAST_MOMENT;
 /// Whether a row says what was seen.
 fn is_seen(row: &Row, seen: &Seen) -> bool {
     row.expected == seen.key.expected
-        && row.scheduled == Some(seen.scheduled)
+        && row.scheduled == seen.scheduled
         && row.delay == seen.delay
         && row.state == seen.state
-        && TRIPS.get(seen.key.trip as usize).copied() == Some(row.trip.as_str())
-        && DATES.get(seen.key.day as usize).copied() == Some(row.date.as_str())
+        && row.trip.as_str() == TRIPS.get(seen.key.trip as usize).copied().unwrap_or("T9")
+        && row.date.as_str() == DATES.get(seen.key.day as usize).copied().unwrap_or("20250401")
         && STOPS.get(seen.stop as usize).copied() == Some(row.platform.as_str())
-        && row.route.as_str() == "7"
-        && row.headsign.as_str() == "Hill"
+        && row.route.as_str() == if seen.key.is_added { "" } else { "7" }
+        && row.headsign.as_str() == if seen.key.is_added { "" } else { "Hill" }
 }
 
 /// The board of a stop.
@@ -75,6 +75,7 @@ struct Count {
     live: u32,
     skipped: u32,
     canceled: u32,
+    added: u32,
 }
 
 impl Count {
@@ -96,7 +97,10 @@ impl Count {
                 canceled: self.canceled.saturating_add(1),
                 ..self
             },
-            RowState::Added => self,
+            RowState::Added => Count {
+                added: self.added.saturating_add(1),
+                ..self
+            },
         }
     }
 }
@@ -132,6 +136,7 @@ fn boards_are_what_a_scan_sees(rt: HostRuntime) -> Result<(), Fail> {
         live: 0,
         skipped: 0,
         canceled: 0,
+        added: 0,
     };
     for number in 0..200u32 {
         let world = made_world(alloc, &mut dice)?;
@@ -141,6 +146,6 @@ fn boards_are_what_a_scan_sees(rt: HostRuntime) -> Result<(), Fail> {
         }
     }
     assert!(rt; count.scheduled > 500 && count.live > 100, "{count:?}");
-    assert!(rt; count.skipped > 5 && count.canceled > 50, "{count:?}");
+    assert!(rt; count.skipped > 5 && count.canceled > 50 && count.added > 20, "{count:?}");
     Ok(())
 }
