@@ -70,12 +70,13 @@ module _ (t : Timetable) where
         (ap (λ xs. rows_by t query stop trip date route (enumerate_from i xs)) (drop_more calls i none h) ∙ cons_is row rest)
 
     -- one candidate more
-    pub goes_candidate : (sorted all : List Update) (i : ℕ) (none : Update) (old mid new : List AddedRow) (whole : List BoardRow) → i < length all
-        → IsLeft old mid (flat_map (rows_unless t query stop sorted) (drop i all)) whole → Adds t mid new (rows_unless t query stop sorted (get_or all i none))
+    pub goes_candidate : (sorted all : List Update) (i : ℕ) (u : Update) (old mid new : List AddedRow) (whole : List BoardRow) → i < length all → u ≡ get_or all i u
+        → IsLeft old mid (flat_map (rows_unless t query stop sorted) (drop i all)) whole → Adds t mid new (rows_unless t query stop sorted u)
         → IsLeft old new (flat_map (rows_unless t query stop sorted) (drop (i + 1) all)) whole
-    goes_candidate sorted all i none old mid new whole h left more =
-        goes_on old mid new (rows_unless t query stop sorted (get_or all i none)) (flat_map (rows_unless t query stop sorted) (drop (i + 1) all)) whole (flat_map (rows_unless t query stop sorted) (drop i all)) left more
-        (ap (flat_map (rows_unless t query stop sorted)) (drop_more all i none h))
+    goes_candidate sorted all i u old mid new whole h at left more =
+        let rest = flat_map (rows_unless t query stop sorted) (drop (i + 1) all) in
+        goes_on old mid new (rows_unless t query stop sorted u) rest whole (flat_map (rows_unless t query stop sorted) (drop i all)) left more
+        (ap (flat_map (rows_unless t query stop sorted)) (drop_more all i u h) ∙ ap (λ x. rows_unless t query stop sorted x ++ rest) (sym at))
 
     -- ---- all rows
 
@@ -123,6 +124,9 @@ module _ (t : Timetable) where
       counted_are order =
           filter_flat within (λ u. not (is_outdone all u)) (added_trip_rows t stop) (rows_unless t query stop sorted) all (unless_is order)
           ∙ ap (λ xs. filter within (flat_map (added_trip_rows t stop) (filter (λ u. not (is_outdone xs u)) xs))) are
+
+      pub in_order_of : (copies : List Update) → copies ≡ all → IsInOrder copies sorted → IsInOrder all sorted
+      in_order_of copies same order = let P : List Update → Type 0 = λ xs. IsInOrder xs sorted in subst P same order
 
       pub all_counted : {X E : Type 0} (r : Result X E) (f : X → List AddedRow) (one two : List Update) → one ≡ all → two ≡ sorted → IsInOrder all sorted
           → IfOk r (λ rows. Adds t [] (f rows) (flat_map (rows_unless t query stop two) one)) → IfOk r (λ rows. AreRows t (f rows) (filter within (added_rows t stop updates)))

@@ -2,13 +2,16 @@
 use Rattle.std.proofs.Common.{◌≡◌, ℕ, zero, suc, ◌+◌, ◌-◌, ◌<◌, ◌≤◌, Bool, true, false, ◌&&◌, ◌||◌, Option, Some, None, List, [], ◌∷◌, length, get_or, slice_get, take, refl, sym, ap, ◌∙◌, Less, Equal, Greater, arith}
 use Rattle.std.specs.Cmp.{IsTotalOrder}
 use Rattle.std.specs.List.{list_any}
-use Rattle.std.specs.List.Sorted.{IsSorted, IsSortedByKey, IsPermutation}
-use Rattle.std.specs.Ordering.{is_eq, is_gt, is_le, is_lt, ordering_then}
+use Rattle.std.specs.List.Sorted.{IsSorted, IsSortedByKey, IsPartitionedBy, IsPartitionPoint, IsPermutation}
+use Rattle.std.specs.Cmp.Lexicographic.{slice_cmp}
+use Rattle.std.specs.Str.{bytes_eq}
+use Rattle.std.specs.Ordering.{nat_cmp, is_eq, is_gt, is_le, is_lt, ordering_then}
 use Rattle.std.specs.declared.cmp.Ordering.{Ordering}
 use Rattle.std.proofs.lemmas.Cmp.{nat_cmp_total, nat_list_cmp_total, on_total, then_total, back_total, upto}
 use Rattle.std.proofs.lemmas.List.Sorted.{list_any-IsPermutation}
 use Rattle.std.proofs.lemmas.Map.Text.{is_eq-slice_cmp}
 use Rattle.rt_types.specs.declared.descriptor.TripRef.{TripRef}
+use Rattle.sched_types.proofs.DepartureOrder.{up_to_last}
 use Rattle.order.proofs.Laws.{IsRising, rising_from_sorted, rising_take}
 use Rattle.board_defs.specs.Choice.{Update, text_or_none, choice_cmp, is_same_trip, is_outdone}
 use Rattle.board_added.specs.Added.{key_cmp, full_cmp, IsInOrder}
@@ -41,9 +44,9 @@ same_key u other =
     let date = text_or_none other.update.trip.start_date in
     let its_trip = text_or_none u.update.trip.trip_id in
     let its_date = text_or_none u.update.trip.start_date in
-    ap (λ b. b && _) (sym (is_eq-slice_cmp trip its_trip))
-    ∙ ap (λ b. _ && b) (sym (is_eq-slice_cmp date its_date))
-    ∙ sym (equal_then _ _)
+    ap (λ b. b && bytes_eq date its_date) (sym (is_eq-slice_cmp trip its_trip))
+    ∙ ap (λ b. is_eq (slice_cmp nat_cmp trip its_trip) && b) (sym (is_eq-slice_cmp date its_date))
+    ∙ sym (equal_then (slice_cmp nat_cmp trip its_trip) (slice_cmp nat_cmp date its_date))
 
 tests_are : (key choice : Ordering) → (is_eq key && is_gt choice) ≡ (is_le key && is_gt (ordering_then key choice))
 tests_are Less choice = refl
@@ -121,6 +124,21 @@ not_below Greater choice e = refl
 pub sorted_by_trip : (sorted : List Update) → IsSorted full_cmp sorted → IsSortedByKey (λ u. u.update.trip) key_cmp sorted
 sorted_by_trip sorted up = λ k d h l.
     not_below (key_cmp (get_or sorted (k + 1) d).update.trip (get_or sorted k d).update.trip) (choice_cmp (get_or sorted (k + 1) d) (get_or sorted k d)) (up k d h l)
+
+module _ (u : Update) (sorted : List Update) (up : IsSorted full_cmp sorted) where
+  -- whether one goes up to this trip
+  abbrev pub goes_up_to : Update → Bool
+  goes_up_to other = is_le (key_cmp other.update.trip u.update.trip)
+
+  pub partitioned : IsPartitionedBy goes_up_to sorted
+  partitioned = up_to_last key_cmp key_total (λ x. x.update.trip) u.update.trip sorted (sorted_by_trip sorted up) 0 sorted refl
+
+  -- the last that was found tells
+  pub last_tells : (n : ℕ) → IsPartitionPoint (λ x. goes_up_to x ≡ true) (λ x. goes_up_to x ≡ false) sorted n
+      → (last : Option Update) → last ≡ slice_get (take n sorted) (length (take n sorted) - 1) → last_is u last ≡ is_outdone sorted u
+  last_tells n part last is =
+      ap (last_is u) is
+      ∙ sym (outdone_is u sorted n up (λ k d h l. part.0 k d (omega arith) h) (λ k d h l. part.1 k d h l))
 
 -- among the same candidates in order the same are outdone
 pub outdone_same : (u : Update) (all sorted : List Update) → IsInOrder all sorted → is_outdone sorted u ≡ is_outdone all u

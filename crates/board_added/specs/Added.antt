@@ -1,5 +1,5 @@
 -- Updates of added trips, and the rows that they give before their texts are made.
-use Rattle.std.specs.Prelude.{◌≡◌, ℕ, ◌+◌, ◌<◌, Bool, true, false, ◌&&◌, ◌==◌, if◌then◌else◌, List, [], ◌++◌, length, map, Option, Some, None, IfSome}
+use Rattle.std.specs.Prelude.{◌≡◌, ℕ, ◌+◌, ◌<◌, Bool, true, false, ◌&&◌, ◌==◌, if◌then◌else◌, List, [], ◌∷◌, ◌++◌, length, map, Option, Some, None, IfSome}
 use Rattle.std.specs.Cmp.Lexicographic.{slice_cmp}
 use Rattle.std.specs.List.{All, filter_map}
 use Rattle.std.specs.List.Sorted.{IsSorted, IsPermutation}
@@ -68,9 +68,9 @@ abbrev pub full_cmp : Update → Update → Ordering
 full_cmp a b = ordering_then (key_cmp a.update.trip b.update.trip) (choice_cmp a b)
 
 -- the same updates in order
-pub record IsInOrder (all sorted : List Update) : Type 0 where
-  pub sorted : IsSorted full_cmp sorted
-  pub same : IsPermutation all sorted
+pub record IsInOrder (all order : List Update) : Type 0 where
+  pub sorted : IsSorted full_cmp order
+  pub same : IsPermutation all order
 
 -- ---- their rows
 
@@ -112,9 +112,9 @@ rows_unless t query stop updates u =
     if is_outdone updates u then [] else rows_of t query stop u.update
 
 -- rows of the timetable that become those
-pub record AreRows (t : Timetable) (rows : List AddedRow) (become : List BoardRow) : Type 0 where
-  pub become : map (as_row t) rows ≡ become
-  pub there : All (IsThere t) rows
+pub record AreRows (t : Timetable) (added : List AddedRow) (rows : List BoardRow) : Type 0 where
+  pub become : map (as_row t) added ≡ rows
+  pub there : All (IsThere t) added
 
 -- rows that were appended, and those that they become
 pub record Adds (t : Timetable) (old new : List AddedRow) (rows : List BoardRow) : Type 0 where

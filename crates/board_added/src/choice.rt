@@ -10,7 +10,7 @@ use crate::candidates::Candidate;
 
 /// Candidates in order of their trips, those of one trip by how they count; or want of memory.
 pub(crate) fn in_order<'a>(all: Vec<Candidate<'a>>) -> Result<Vec<Candidate<'a>>, NoMemory>
-    ensures { IfOk result (λ sorted. IsInOrder all.items sorted.items) }
+    ensures { IfOk result (λ sorted. IsInOrder all.entry.items sorted.items) }
 {
     let mut sorted = all;
     sorted.sort_by(|a, b| a.order(b))?;

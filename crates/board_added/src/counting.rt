@@ -48,7 +48,7 @@ fn push_calls<'a>(
     requires moment { query.now.at ≤ last_moment }
     ensures { OnOk result
         (Adds plan.now out.old.items out.new.items
-        (rows_by plan.now query.now stop key.trip.now key.date.now key.route
+        (rows_by plan.now query.now stop key.entry.trip.now key.entry.date.now key.entry.route
         (departing_calls calls.now))) }
 {
     // Nobody boards at the last call.
@@ -124,7 +124,8 @@ fn counted<'a>(
 /// The rows of added trips on the board of a stop, by its number, in the order of the feeds and their ids: for
 /// each added trip those of the update that counts. The texts are those of the updates; or want of memory.
 ///
-/// It looks once for what each update is about. Where none is of an added trip, it takes no memory.
+/// Of the updates it looks for what those are about whose relation is ADDED. Where none is of an added trip, it
+/// takes no memory.
 pub fn added_rows<'a>(
     alloc: Global,
     plan: &Plan,
