@@ -21,6 +21,7 @@ mod choice;
 mod departure;
 mod fault;
 mod known;
+mod line;
 mod oracle;
 mod row_texts;
 mod runs;
