@@ -15,7 +15,6 @@ use Rattle.sched_types.specs.Schedules.{Schedules}
 use Rattle.match_defs.specs.Matching.{match_of, by_near}
 use Rattle.delay_defs.specs.Delays.{states}
 use Rattle.order.specs.Order.{inserted, ordered}
-use Rattle.board_defs.specs.declared.query.BoardQuery.{BoardQuery}
 use Rattle.board_defs.specs.declared.row.Row.{Row}
 use Rattle.board_defs.specs.declared.row.RowState.TheVariants as state
 use Rattle.board_defs.specs.Choice.{chosen, updates_from, added_updates}

@@ -1,5 +1,5 @@
 -- The rows of those that count are those that are defined.
-use Rattle.std.proofs.Common.{◌≡◌, [], ap, map, sym, ◌∙◌, arith}
+use Rattle.std.proofs.Common.{◌≡◌, [], map, ◌∙◌, arith}
 use Rattle.std.proofs.lemmas.Grind.{common_steps}
 use Rattle.std.specs.Arc.{arc_value}
 use Rattle.board_defs.specs.Choice.{updates_at}
