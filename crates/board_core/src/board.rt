@@ -126,11 +126,13 @@ fn subjects_at<'a>(
 
 /// The rows of the asked board, of what the hub's feeds hold: the places, but the last of a trip, at which
 /// passengers may board at the stop or at a stop that names it as `parent_station`, of all runs of the
-/// timetable, by the expected instant, the trip_id, the date and the place.
+/// timetable, and the calls there, but the last of a trip, of added trips, by the expected instant, the trip_id,
+/// the date, runs before added trips, and the place.
 ///
 /// It goes once over all places of the timetable, looks once for the run of each update, and goes, for each day
-/// of the window, over the trips with a place at the stop; a run whose update counts is walked once. Texts are
-/// made for the rows that are shown.
+/// of the window, over the trips with a place at the stop; a run whose update counts is walked once. It goes over
+/// the updates again for those whose relation is ADDED; where none is of an added trip, that takes no memory.
+/// Texts are made for the rows that are shown.
 pub fn rows(alloc: Global, view: &HubView, query: &BoardQuery) -> Result<Vec<Row>, RowsFault>
     requires plan { query.now.plan < length view.now.plans.plans }
     requires moment { query.now.at ≤ last_moment }

@@ -4,7 +4,7 @@ use crate::dice::Dice;
 use crate::hub::hub;
 use crate::scan::{Question, Seen, scan};
 use crate::world::{BASES, DATES, STOPS, TRIPS, World, made_world};
-use board_core::{BoardQuery, HubView, Row, RowState, RowsFault, rows};
+use board_core::{BoardQuery, HubView, Row, RowState, RowsFault, Subject, rows, subjects};
 use rt_types::Text;
 use std::alloc::Global;
 use std::test::Fail;
@@ -43,6 +43,49 @@ fn board(
     rows(alloc, view, &query)
 }
 
+/// Whether a row of the board is about what was seen. The numbers of stops and trips go by their ids.
+fn is_about(subject: &Subject<'_>, seen: &Seen) -> bool {
+    match *subject {
+        Subject::Row(run, stop) => {
+            !seen.key.is_added
+                && run.trip == seen.key.trip
+                && run.day == seen.key.day
+                && stop == seen.stop
+        }
+        Subject::AddedRow(key, stop) => {
+            seen.key.is_added
+                && key.trip == TRIPS.get(seen.key.trip as usize).copied().unwrap_or("T9")
+                && key.date == DATES.get(seen.key.day as usize).copied().unwrap_or("20250401")
+                && key.route.is_none()
+                && stop == seen.stop
+        }
+        Subject::Stop(_) => false,
+    }
+}
+
+/// Whether the rows of the board of a stop are about what a scan of the world sees there.
+fn are_about(
+    alloc: Global,
+    view: &HubView,
+    seen: &[Seen],
+    stop: &str,
+    question: Question,
+) -> Result<bool, RowsFault> {
+    if view.plans().plans().is_empty() || question.at > LAST_MOMENT {
+        return Err(RowsFault::NoMemory);
+    }
+    let query = BoardQuery {
+        plan: 0,
+        stop: Text::new(alloc, stop)?,
+        at: question.at,
+        span: question.span,
+        limit: question.limit,
+    };
+    let subjects = subjects(alloc, view, &query)?;
+    Ok(subjects.len() == seen.len()
+        && subjects.iter().zip(seen).all(|(subject, one)| is_about(subject, one)))
+}
+
 /// Whether the board of a stop is what a scan of the world sees there.
 fn agrees(
     alloc: Global,
@@ -52,7 +95,9 @@ fn agrees(
 ) -> Result<bool, RowsFault> {
     let stop = STOPS.get(question.stop as usize).copied().unwrap_or("X");
     let rows = board(alloc, view, stop, question)?;
-    Ok(rows.len() == seen.len() && rows.iter().zip(seen).all(|(row, one)| is_seen(row, one)))
+    let is_same = rows.len() == seen.len()
+        && rows.iter().zip(seen).all(|(row, one)| is_seen(row, one));
+    Ok(is_same && are_about(alloc, view, seen, stop, question)?)
 }
 
 /// A question for some stop, from some moment of the morning of some day on.

@@ -117,7 +117,7 @@ fn trip(alloc: Global, dice: &mut Dice) -> Result<MadeTrip, AllocError> {
 /// A call in the morning of a day, rarely at a stop that isn't there; a time may be absent or no moment.
 fn call(dice: &mut Dice, day: u32) -> MadeCall {
     let base = BASES.get(day as usize).copied().unwrap_or(1_743_285_600);
-    let time = base.wrapping_add(i64::from(28_800 + 300 * dice.below(12)));
+    let time = base.wrapping_add(i64::from(28_800 + 300 * dice.below(8)));
     MadeCall {
         stop: if dice.one_in(9) { 4 } else { dice.below(4) },
         arrives: if dice.one_in(3) { None } else { Some(time) },
@@ -148,12 +148,12 @@ fn stop(dice: &mut Dice, call: Option<MadeCall>) -> MadeStop {
 
 /// What an update says of its trip.
 fn relation(dice: &mut Dice) -> Option<TripRelation> {
-    match dice.below(11) {
+    match dice.below(14) {
         0 | 1 => Some(TripRelation::Canceled),
         2 => Some(TripRelation::Deleted),
-        3 | 4 => Some(TripRelation::Added),
-        5 => Some(TripRelation::Unscheduled),
-        6 => Some(TripRelation::Scheduled),
+        3 | 4 | 5 => Some(TripRelation::Added),
+        6 => Some(TripRelation::Unscheduled),
+        7 => Some(TripRelation::Scheduled),
         _ => None,
     }
 }
@@ -171,7 +171,7 @@ fn update(
     let is_added = relation == Some(TripRelation::Added);
     let day = if dice.one_in(9) { 3 } else { dice.below(3) };
     let mut stops = Vec::new(alloc);
-    for _ in 0..dice.below(5) {
+    for _ in 0..1 + dice.below(4) {
         let call = if is_added { Some(call(dice, day)) } else { None };
         stops.push(stop(dice, call))?;
     }
