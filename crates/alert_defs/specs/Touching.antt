@@ -1,17 +1,15 @@
 -- What a selector of an alert is about (GTFS Realtime, EntitySelector): all that it gives must hold.
 -- A text that is given and empty is given.
-use Rattle.std.specs.Prelude.{ℕ, Bool, true, false, not, ◌&&◌, ◌||◌, ◌==◌, List, [], slice_get, Option, Some, None, unwrap_or, ℤ, pos}
+use Rattle.std.specs.Prelude.{ℕ, Bool, true, false, not, ◌&&◌, ◌||◌, ◌==◌, List, slice_get, Option, Some, None, ℤ, pos}
 use Rattle.std.specs.Option.{option_and_then, option_map, is_some}
 use Rattle.std.specs.Ordering.{int_eq}
-use Rattle.std.specs.Str.{bytes_eq}
 use Rattle.rt_types.specs.declared.alert.Selector.{Selector}
 use Rattle.rt_types.specs.declared.descriptor.TripRef.{TripRef}
 use Rattle.sched_types.specs.declared.rows.Route.{Route}
 use Rattle.sched_types.specs.Timetable.{Timetable, number_of, is_given, names_parent}
 use Rattle.match_defs.specs.declared.found.Found.{Found}
-use Rattle.match_defs.specs.declared.found.Found.TheVariants as found
 use Rattle.match_defs.specs.Matching.{match_of}
-use Rattle.board_defs.specs.Choice.{is_run_found}
+use Rattle.board_defs.specs.Choice.{is_run_found, is_added_found, is_added_trip}
 use Rattle.board_defs.specs.Rows.{Subject}
 use Rattle.board_defs.specs.Rows.Subject.{RunOf, AddedTrip}
 
@@ -76,24 +74,10 @@ abbrev pub has_kind : ℤ → Option Route → Bool
 has_kind kind None = false
 has_kind kind (Some route) = int_eq (pos route.kind) kind
 
--- a text, empty where it is absent
-abbrev pub text_or_none : Option (List ℕ) → List ℕ
-text_or_none text = unwrap_or text []
-
--- the descriptor has this trip_id and this start_date
-abbrev pub is_added_trip : List ℕ → List ℕ → TripRef → Bool
-is_added_trip trip date named =
-    bytes_eq (text_or_none named.trip_id) trip && bytes_eq (text_or_none named.start_date) date
-
-abbrev pub is_added : Found → Bool
-is_added (found.Run run) = false
-is_added found.Added = true
-is_added (found.NoMatch why) = false
-
 -- what a trip descriptor is about is the row's run or added trip
 abbrev pub is_trip : Subject → TripRef → Found → Bool
 is_trip (RunOf run) named found = is_run_found run found
-is_trip (AddedTrip trip date route) named found = is_added found && is_added_trip trip date named
+is_trip (AddedTrip trip date route) named found = is_added_found found && is_added_trip trip date named
 
 -- ---- selectors
 

@@ -4,6 +4,7 @@ ghost use Rattle.std.specs.Prelude.{◌≡◌, ◌<◌, Bool, ◌||◌, ◌&&◌
 ghost use Rattle.std.specs.Option.{is_some, is_none, option_and_then, option_map};
 ghost use Rattle.sched_types.specs.Timetable.{is_given, names_parent};
 ghost use Rattle.match_defs.specs.Matching.{match_of};
+ghost use Rattle.board_defs.specs.Choice as choosing;
 ghost use Rattle.board_defs.specs.Choice.{is_run_found};
 ghost use Rattle.board_defs.specs.Rows.Subject.{RunOf, AddedTrip};
 ghost use Rattle.alert_defs.specs.Touching as rule;
@@ -209,7 +210,7 @@ pub(crate) fn added_holds(plan: &Plan, aim: &Aim<'_>, key: &AddedKey<'_>) -> boo
 
 /// Whether what was found is an added trip.
 fn is_added(found: Found) -> bool
-    ensures { result ≡ rule.is_added found }
+    ensures { result ≡ choosing.is_added_found found }
 {
     match found {
         Found::Added => true,
@@ -219,14 +220,14 @@ fn is_added(found: Found) -> bool
 
 /// Whether the descriptor has that trip_id and that start_date; an absent text is empty.
 fn is_added_trip(named: &TripRef, trip: &str, date: &str) -> bool
-    ensures { result ≡ rule.is_added_trip trip.now date.now named.now }
+    ensures { result ≡ choosing.is_added_trip trip.now date.now named.now }
 {
     text_of(&named.trip_id) == trip && text_of(&named.start_date) == date
 }
 
 /// The text; empty where it is absent.
 fn text_of(text: &Option<Text>) -> &str
-    ensures { result.now ≡ rule.text_or_none text.now }
+    ensures { result.now ≡ choosing.text_or_none text.now }
 {
     match text {
         Some(text) => text.as_str(),

@@ -1,5 +1,5 @@
 -- The rows that the code goes over are those that are defined.
-use Rattle.std.proofs.Common.{◌≡◌, ℕ, zero, suc, ◌+◌, ◌-◌, Bool, true, false, ◌&&◌, ◌||◌, cond, Option, Some, None, List, [], ◌∷◌, ◌++◌, length, map, filter, take, refl, sym, ap, ◌∙◌, append-nil}
+use Rattle.std.proofs.Common.{◌≡◌, ℕ, zero, suc, ◌+◌, ◌-◌, Bool, true, false, ◌&&◌, ◌||◌, cond, Option, Some, None, List, [], ◌∷◌, ◌++◌, length, map, filter, take, slice_get, refl, sym, ap, ◌∙◌, append-nil, append_assoc}
 use Rattle.std.specs.Prelude.{if◌then◌else◌}
 use Rattle.std.specs.List.{filter_map, cons_option, flat_map, list_any, enumerate_from, range_with_len}
 use Rattle.std.specs.Option.{option_map, option_and_then}
@@ -15,27 +15,9 @@ use Rattle.board_core.specs.Told.{Told, update_for, AreChoices}
 use Rattle.board_core.specs.Departures.{shown_with, in_window, row_by, rows_at, rows_of_run, run_on, rows_on_day, counts_at, calls_at, rows_there}
 use Rattle.board_core.specs.declared.departure.Asked.{Asked}
 use Rattle.board_core.proofs.Choices.{choice_is}
+use Rattle.board_added.proofs.Lists.{kept, filter_each, filter_flat}
 
 -- ---- lists
-
--- what passes, if it is there
-abbrev kept : {X : Type 0} → (X → Bool) → Option X → Option X
-kept p None = None
-kept p (Some x) = if p x then Some x else None
-
-filter_cons : {X : Type 0} (p : X → Bool) (o : Option X) (xs : List X) → filter p (cons_option o xs) ≡ cons_option (kept p o) (filter p xs)
-filter_cons p None xs = refl
-filter_cons p (Some x) xs = by_test (p x) where
-  by_test : (b : Bool) → cond b (x ∷ filter p xs) (filter p xs) ≡ cons_option (if b then Some x else None) (filter p xs)
-  by_test true = refl
-  by_test false = refl
-
-filter_each : {X Y : Type 0} (p : Y → Bool) (f g : X → Option Y) (xs : List X) → ((x : X) → g x ≡ kept p (f x)) → filter_map g xs ≡ filter p (filter_map f xs)
-filter_each p f g [] same = refl
-filter_each p f g (x ∷ xs) same =
-    ap (λ o. cons_option o (filter_map g xs)) (same x)
-    ∙ ap (cons_option (kept p (f x))) (filter_each p f g xs same)
-    ∙ sym (filter_cons p (f x) (filter_map f xs))
 
 flat_same : {X Y : Type 0} (f g : X → List Y) (xs : List X) → ((x : X) → f x ≡ g x) → flat_map f xs ≡ flat_map g xs
 flat_same f g [] same = refl
@@ -48,16 +30,6 @@ flat_filter f p (x ∷ xs) none = by_test (p x) refl (flat_filter f p xs none) w
   by_test : (b : Bool) → p x ≡ b → flat_map f (filter p xs) ≡ flat_map f xs → flat_map f (cond b (x ∷ filter p xs) (filter p xs)) ≡ f x ++ flat_map f xs
   by_test true e rest = ap (λ ys. f x ++ ys) rest
   by_test false e rest = rest ∙ sym (ap (λ ys. ys ++ flat_map f xs) (none x e))
-
--- a filter of what comes of the items that pass
-filter_flat : {X Y : Type 0} (q : Y → Bool) (p : X → Bool) (f g : X → List Y) (xs : List X) → ((x : X) → g x ≡ (if p x then filter q (f x) else [])) → flat_map g xs ≡ filter q (flat_map f (filter p xs))
-filter_flat q p f g [] same = refl
-filter_flat q p f g (x ∷ xs) same =
-    ap (λ ys. ys ++ flat_map g xs) (same x) ∙ by_test (p x) (filter_flat q p f g xs same)
-  where
-    by_test : (b : Bool) → flat_map g xs ≡ filter q (flat_map f (filter p xs)) → (if b then filter q (f x) else []) ++ flat_map g xs ≡ filter q (flat_map f (cond b (x ∷ filter p xs) (filter p xs)))
-    by_test true rest = ap (λ ys. filter q (f x) ++ ys) rest ∙ sym (filter-append q (f x) (flat_map f (filter p xs)))
-    by_test false rest = rest
 
 module _ (t : Timetable) (asked : Asked) where
   abbrev within : BoardRow → Bool
@@ -131,7 +103,7 @@ module _ (t : Timetable) (asked : Asked) where
         ∙ ap (λ rows. rows ++ flat_map F (flat_map (λ day. map (run_on day) trips) days)) (flat_map-map F (run_on day) trips)
         ∙ ap (λ rows. flat_map (λ trip. F (run_on day trip)) trips ++ rows) (days_flat F trips days)
 
-    pub rows_are : rows_there t asked told ≡ filter within (all_rows t asked.stop updates)
+    pub rows_are : rows_there t asked told ≡ filter within (flat_map (run_rows t asked.stop updates) (all_runs t))
     unfolding all_runs
     rows_are =
         let trips = range_with_len 0 (length t.trips) in
@@ -140,4 +112,3 @@ module _ (t : Timetable) (asked : Asked) where
         (λ day. flat_filter (λ trip. rows_of_run t asked told (run_on day trip)) (calls_at t asked.stop) trips (λ trip none. no_calls (run_on day trip) none))
         ∙ sym (days_flat (rows_of_run t asked told) trips days)
         ∙ filter_flat within (is_run t) (run_rows t asked.stop updates) (rows_of_run t asked told) (flat_map (λ day. map (run_on day) trips) days) run_is
-        ∙ ap (filter within) (sym (append-nil (flat_map (run_rows t asked.stop updates) (filter (is_run t) (flat_map (λ day. map (run_on day) trips) days)))))

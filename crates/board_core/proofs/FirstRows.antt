@@ -1,9 +1,10 @@
 -- The first rows in order are those of the board, and the board is that of the asked stop.
-use Rattle.std.proofs.Common.{◌≡◌, ℕ, zero, suc, ◌<◌, Option, Some, None, List, [], ◌∷◌, length, map, take, get_or, refl, sym, ap, subst, ◌∙◌}
+use Rattle.std.proofs.Common.{◌≡◌, ℕ, zero, suc, ◌<◌, Bool, append-nil, Option, Some, None, List, [], ◌∷◌, ◌++◌, length, map, take, filter, get_or, slice_get, refl, sym, ap, subst, ◌∙◌}
 use Rattle.std.specs.Prelude.{Result, Ok, Err, IfOk}
-use Rattle.std.specs.List.{All, AllByRecursion}
+use Rattle.std.specs.List.{All, AllByRecursion, flat_map}
 use Rattle.std.specs.Option.{option_map}
-use Rattle.std.proofs.lemmas.List.Elements.{All-from_recursion, recursion_from_All, All-take}
+use Rattle.std.proofs.lemmas.List.{map-append}
+use Rattle.std.proofs.lemmas.List.Elements.{All-from_recursion, recursion_from_All, All-take, filter-append}
 use Rattle.std.proofs.lemmas.Option.{slice_get-get_or}
 use Rattle.feed_defs.specs.declared.history.Entry.{Entry}
 use Rattle.sched_types.specs.declared.plans.NamedFeed.{NamedFeed}
@@ -14,19 +15,25 @@ use Rattle.order.specs.Order.{ordered}
 use Rattle.board_defs.specs.declared.query.BoardQuery.{BoardQuery}
 use Rattle.board_defs.specs.declared.row.Row.{Row}
 use Rattle.board_defs.specs.Choice.{Update, updates_at}
-use Rattle.board_defs.specs.Fold.{fold_of}
-use Rattle.board_defs.specs.Rows.{BoardRow, row_cmp, board_at, board_in, board_of, board, timetable_in, rows}
+use Rattle.board_defs.specs.Fold.{FeedFold, fold_of}
+use Rattle.board_defs.specs.Rows.{BoardRow, row_cmp, all_runs, run_rows, added_rows, is_within, board_at, board_in, board_of, board, timetable_in, rows}
 use Rattle.board_defs.specs.Views.{FeedKept, HubKept, StandsFor, folds_of}
 use Rattle.alert_defs.specs.Alerts.{touched_as}
 use Rattle.alert_select.specs.declared.subject.Subject.{Subject}
 use Rattle.alert_select.specs.Subjects.{touched_by, IsWithin}
 use Rattle.board_core.specs.declared.departure.Departure.{Departure}
 use Rattle.board_core.specs.Answers.{AreAbout, AreOfBoard}
-use Rattle.board_core.specs.Departures.{as_row, subject_of, IsThere, departure_cmp, rows_there, Adds, Become}
+use Rattle.board_added.specs.declared.row.AddedRow.{AddedRow}
+use Rattle.board_added.specs.Added as others
+use Rattle.board_core.specs.declared.departure.Asked.{Asked}
+use Rattle.board_core.specs.declared.line.Line.{Line}
+use Rattle.board_core.specs.declared.line.Line.TheVariants as line
+use Rattle.board_core.specs.Departures.{as_row, IsThere, departure_cmp, rows_there, Adds}
+use Rattle.board_core.specs.Lines.{line_row, line_cmp, date_texts, subject_of, IsInPlan, Become}
 use Rattle.board_core.specs.Told.{Told, AreChoices}
 use Rattle.board_core.proofs.AllRows.{rows_are}
 use Rattle.board_core.proofs.OrderedMap.{each_ordered, map_ordered}
-use Rattle.board_core.proofs.RowOrder.{rows_order}
+use Rattle.board_core.proofs.RowOrder.{rows_order, lines_order}
 
 -- an answer that is one list is another that is equal
 pub if_ok_same : {X Y E : Type 0} (r : Result X E) (f : X → Y) (a b : Y) → a ≡ b → IfOk r (λ x. f x ≡ a) → IfOk r (λ x. f x ≡ b)
@@ -42,60 +49,121 @@ map_first f zero xs = refl
 map_first f (suc n) [] = refl
 map_first f (suc n) (x ∷ xs) = ap (λ ys. f x ∷ ys) (map_first f n xs)
 
-module _ (t : Timetable) (all first : List Departure) (limit : ℕ) (become : List BoardRow) (adds : Adds t [] all become) (is : first ≡ take limit (ordered departure_cmp all)) where
+module _ (t : Timetable) (all : List Departure) (become : List BoardRow) (adds : Adds t [] all become) where
   all_there : All (IsThere t) all
   all_there = let P : List Departure → Type 0 = λ ds. All (IsThere t) ds in subst P (sym adds.whole) adds.there
 
   all_become : map (as_row t) all ≡ become
   all_become = ap (map (as_row t)) adds.whole ∙ adds.become
 
-  -- all that are left are of the timetable
-  pub first_there : All (IsThere t) first
-  first_there =
-      let P : List Departure → Type 0 = λ ds. All (IsThere t) ds in
-      subst P (sym is)
-      (All-take (IsThere t) limit (ordered departure_cmp all)
-      (All-from_recursion (IsThere t) (ordered departure_cmp all)
-      (each_ordered (as_row t) departure_cmp row_cmp (IsThere t) all (recursion_from_All (IsThere t) all all_there))))
+  -- they are of the timetable, and become the rows that are there
+  pub runs_there : All (IsThere t) all
+  runs_there = all_there
 
-  -- and they become the first rows in order
-  pub first_become : IsTimetable t → Become t first (take limit (ordered row_cmp become))
-  first_become sound = record {
-    there = first_there;
-    become =
-        ap (map (as_row t)) is
-        ∙ map_first (as_row t) limit (ordered departure_cmp all)
-        ∙ ap (take limit)
-        (map_ordered (as_row t) departure_cmp row_cmp (IsThere t) (rows_order t sound) all (recursion_from_All (IsThere t) all all_there)
-        ∙ ap (ordered row_cmp) all_become);
-  }
+  pub runs_become : map (as_row t) all ≡ become
+  runs_become = all_become
 
--- an answer that is the first departures in order
-pub first_answered : {X E : Type 0} (r : Result X E) (f : X → List Departure) (t : Timetable) (all : List Departure) (limit : ℕ) (become : List BoardRow) → Adds t [] all become → IsTimetable t
-    → IfOk r (λ x. f x ≡ take limit (ordered departure_cmp all)) → IfOk r (λ x. Become t (f x) (take limit (ordered row_cmp become)))
-first_answered (Ok x) f t all limit become adds sound is = first_become t all (f x) limit become adds is sound
-first_answered (Err e) f t all limit become adds sound is = tt
+module _ (t : Timetable) (sound : IsTimetable t) (runs : List Departure) (limit : ℕ) (there : All (IsThere t) runs) where
+  abbrev all_recursive : AllByRecursion (IsThere t) runs
+  all_recursive = recursion_from_All (IsThere t) runs there
+
+  -- without added trips they are put in order by numbers
+  module _ (first slice : List Departure) (lines : List Line) (added : List AddedRow) (none : added ≡ []) (is : first ≡ take limit (ordered departure_cmp runs)) (same : slice ≡ first) (as_lines : lines ≡ map line.Run slice) where
+    first_there : AllByRecursion (IsThere t) (take limit (ordered departure_cmp runs))
+    first_there =
+        recursion_from_All (IsThere t) (take limit (ordered departure_cmp runs))
+        (All-take (IsThere t) limit (ordered departure_cmp runs)
+        (All-from_recursion (IsThere t) (ordered departure_cmp runs) (each_ordered (as_row t) departure_cmp row_cmp (IsThere t) runs all_recursive)))
+
+    pub runs_first : Become t lines (take limit (ordered row_cmp (map (as_row t) runs ++ map (others.as_row t) added)))
+    runs_first = record {
+      become =
+          ap (map (line_row t)) as_lines
+          ∙ sym (map_twice line.Run (line_row t) slice)
+          ∙ ap (map (as_row t)) (same ∙ is)
+          ∙ map_first (as_row t) limit (ordered departure_cmp runs)
+          ∙ ap (take limit)
+          (map_ordered (as_row t) departure_cmp row_cmp (IsThere t) (rows_order t sound) runs all_recursive
+          ∙ ap (ordered row_cmp) (sym (append-nil (map (as_row t) runs)) ∙ ap (λ xs. map (as_row t) runs ++ map (others.as_row t) xs) (sym none)));
+      there =
+          let P : List Line → Type 0 = λ xs. All (IsInPlan t) xs in
+          subst P (sym (as_lines ∙ ap (map line.Run) (same ∙ is)))
+          (All-from_recursion (IsInPlan t) (map line.Run (take limit (ordered departure_cmp runs))) (run_lines (take limit (ordered departure_cmp runs)) first_there));
+    } where
+      run_lines : (ds : List Departure) → AllByRecursion (IsThere t) ds → AllByRecursion (IsInPlan t) (map line.Run ds)
+      run_lines [] all = tt
+      run_lines (d ∷ ds) all = (all.0, run_lines ds all.1)
+
+  -- and with them by texts
+  module _ (added : List AddedRow) (of_plan : All (others.IsThere t) added) (lines : List Line) (both : lines ≡ map line.Run runs ++ map line.Added added) where
+    lines_there : AllByRecursion (IsInPlan t) lines
+    lines_there = let P : List Line → Type 0 = λ xs. AllByRecursion (IsInPlan t) xs in
+        subst P (sym both) (by_runs runs all_recursive)
+      where
+        by_added : (rs : List AddedRow) → AllByRecursion (others.IsThere t) rs → AllByRecursion (IsInPlan t) (map line.Added rs)
+        by_added [] all = tt
+        by_added (r ∷ rs) all = (all.0, by_added rs all.1)
+
+        by_runs : (ds : List Departure) → AllByRecursion (IsThere t) ds → AllByRecursion (IsInPlan t) (map line.Run ds ++ map line.Added added)
+        by_runs [] all = by_added added (recursion_from_All (others.IsThere t) added of_plan)
+        by_runs (d ∷ ds) all = (all.0, by_runs ds all.1)
+
+    lines_become : map (line_row t) lines ≡ map (as_row t) runs ++ map (others.as_row t) added
+    lines_become =
+        ap (map (line_row t)) both
+        ∙ map-append (line_row t) (map line.Run runs) (map line.Added added)
+        ∙ ap (λ xs. xs ++ map (line_row t) (map line.Added added)) (sym (map_twice line.Run (line_row t) runs))
+        ∙ ap (λ xs. map (as_row t) runs ++ xs) (sym (map_twice line.Added (line_row t) added))
+
+    both_first : (first : List Line) → first ≡ take limit (ordered (line_cmp t (date_texts t)) lines) → Become t first (take limit (ordered row_cmp (map (as_row t) runs ++ map (others.as_row t) added)))
+    both_first first is = record {
+      become =
+          ap (map (line_row t)) is
+          ∙ map_first (line_row t) limit (ordered (line_cmp t (date_texts t)) lines)
+          ∙ ap (take limit)
+          (map_ordered (line_row t) (line_cmp t (date_texts t)) row_cmp (IsInPlan t) (lines_order t sound) lines lines_there
+          ∙ ap (ordered row_cmp) lines_become);
+      there =
+          let P : List Line → Type 0 = λ xs. All (IsInPlan t) xs in
+          subst P (sym is)
+          (All-take (IsInPlan t) limit (ordered (line_cmp t (date_texts t)) lines)
+          (All-from_recursion (IsInPlan t) (ordered (line_cmp t (date_texts t)) lines)
+          (each_ordered (line_row t) (line_cmp t (date_texts t)) row_cmp (IsInPlan t) lines lines_there)));
+    }
+
+    pub both_answered : {X E : Type 0} (r : Result X E) (f : X → List Line) → IfOk r (λ x. f x ≡ take limit (ordered (line_cmp t (date_texts t)) lines))
+        → IfOk r (λ x. Become t (f x) (take limit (ordered row_cmp (map (as_row t) runs ++ map (others.as_row t) added))))
+    both_answered (Ok x) f is = both_first (f x) is
+    both_answered (Err e) f is = tt
+
+  pub runs_answered : {X E : Type 0} (r : Result X E) (f : X → List Line) (first slice : List Departure) (added : List AddedRow) → added ≡ [] → first ≡ take limit (ordered departure_cmp runs) → slice ≡ first
+      → IfOk r (λ x. f x ≡ map line.Run slice) → IfOk r (λ x. Become t (f x) (take limit (ordered row_cmp (map (as_row t) runs ++ map (others.as_row t) added))))
+  runs_answered (Ok x) f first slice added none is same as_lines = runs_first first slice (f x) added none is same as_lines
+  runs_answered (Err e) f first slice added none is same as_lines = tt
 
 -- the same of rows that are equal
-pub become_same : {X E : Type 0} (r : Result X E) (f : X → List Departure) (t : Timetable) (a b : List BoardRow) → a ≡ b → IfOk r (λ x. Become t (f x) a) → IfOk r (λ x. Become t (f x) b)
+pub become_same : {X E : Type 0} (r : Result X E) (f : X → List Line) (t : Timetable) (a b : List BoardRow) → a ≡ b → IfOk r (λ x. Become t (f x) a) → IfOk r (λ x. Become t (f x) b)
 become_same (Ok x) f t a b e is = record { become = is.become ∙ e; there = is.there }
 become_same (Err e) f t a b same is = tt
 
-module _ (t : Timetable) (slice first : List Departure) (rows : List BoardRow) (same : slice ≡ first) (are : Become t first rows) where
-  -- departures of the timetable are given on
-  pub there_given : All (IsThere t) slice
-  there_given = let P : List Departure → Type 0 = λ ds. All (IsThere t) ds in subst P (sym same) are.there
+module _ (t : Timetable) (slice first : List Line) (rows : List BoardRow) (same : slice ≡ first) (are : Become t first rows) where
+  -- lines of the timetable are given on
+  pub there_given : All (IsInPlan t) slice
+  there_given = let P : List Line → Type 0 = λ ls. All (IsInPlan t) ls in subst P (sym same) are.there
 
   -- their rows are those that they become
-  pub rows_become : map (λ d. (as_row t d).row) slice ≡ map (λ b. b.row) rows
-  rows_become = ap (map (λ d. (as_row t d).row)) same ∙ map_twice (as_row t) (λ b. b.row) first ∙ ap (map (λ b. b.row)) are.become
+  pub rows_become : map (λ l. (line_row t l).row) slice ≡ map (λ b. b.row) rows
+  rows_become = ap (map (λ l. (line_row t l).row)) same ∙ map_twice (line_row t) (λ b. b.row) first ∙ ap (map (λ b. b.row)) are.become
 
-  subjects_touched : map touched_by (map subject_of first) ≡ map touched_as rows
-  subjects_touched = sym (map_twice subject_of touched_by first) ∙ map_twice (as_row t) touched_as first ∙ ap (map touched_as) are.become
+  subjects_touched : (ls : List Line) → map touched_by (map subject_of ls) ≡ map touched_as (map (line_row t) ls)
+  subjects_touched [] = refl
+  subjects_touched (line.Run d ∷ ls) = ap (λ xs. touched_as (as_row t d) ∷ xs) (subjects_touched ls)
+  subjects_touched (line.Added r ∷ ls) = ap (λ xs. touched_as (others.as_row t r) ∷ xs) (subjects_touched ls)
 
-  subjects_within : (ds : List Departure) → AllByRecursion (IsThere t) ds → AllByRecursion (IsWithin t) (map subject_of ds)
+  subjects_within : (ls : List Line) → AllByRecursion (IsInPlan t) ls → AllByRecursion (IsWithin t) (map subject_of ls)
   subjects_within [] all = tt
-  subjects_within (d ∷ ds) all = ((all.0.trip, all.0.stop), subjects_within ds all.1)
+  subjects_within (line.Run d ∷ ls) all = ((all.0.trip, all.0.stop), subjects_within ls all.1)
+  subjects_within (line.Added r ∷ ls) all = ((all.0.route, all.0.stop), subjects_within ls all.1)
 
   -- and so is what they are about
   pub subjects_are : (subjects : List Subject) → subjects ≡ map subject_of slice → AreAbout t rows subjects
@@ -103,23 +171,34 @@ module _ (t : Timetable) (slice first : List Departure) (rows : List BoardRow) (
       let e : subjects ≡ map subject_of first = is ∙ ap (map subject_of) same in
       let P : List Subject → Type 0 = λ xs. All (IsWithin t) xs in
       record {
-        touched = ap (map touched_by) e ∙ subjects_touched;
-        within = subst P (sym e) (All-from_recursion (IsWithin t) (map subject_of first) (subjects_within first (recursion_from_All (IsThere t) first are.there)));
+        touched = ap (map touched_by) e ∙ subjects_touched first ∙ ap (map touched_as) are.become;
+        within = subst P (sym e) (All-from_recursion (IsWithin t) (map subject_of first) (subjects_within first (recursion_from_All (IsInPlan t) first are.there)));
       }
 
 -- an answer that is what they are about
-pub subjects_answered : {X E : Type 0} (r : Result X E) (f : X → List Subject) (t : Timetable) (slice first : List Departure) (rows : List BoardRow) → slice ≡ first → Become t first rows
+pub subjects_answered : {X E : Type 0} (r : Result X E) (f : X → List Subject) (t : Timetable) (slice first : List Line) (rows : List BoardRow) → slice ≡ first → Become t first rows
     → IfOk r (λ x. f x ≡ map subject_of slice) → IfOk r (λ x. AreAbout t rows (f x))
 subjects_answered (Ok x) f t slice first rows same are is = subjects_are t slice first rows same are (f x) is
 subjects_answered (Err e) f t slice first rows same are is = tt
 
+-- rows of added trips are given on
+pub rows_same : (t : Timetable) (slice added : List AddedRow) (rows : List BoardRow) → slice ≡ added → others.AreRows t added rows → others.AreRows t slice rows
+rows_same t slice added rows same are = let P : List AddedRow → Type 0 = λ xs. others.AreRows t xs rows in subst P (sym same) are
+
 -- the first rows in order are those of the board
-pub board_is : (t : Timetable) (stop : ℕ) (query : BoardQuery) (updates : List Update) (slice told : List Told) → slice ≡ told → AreChoices t updates told
-    → take query.limit (ordered row_cmp (rows_there t (record { stop = stop; at = query.at; span = query.span }) slice)) ≡ board_at t stop updates query
+pub board_is : (t : Timetable) (stop : ℕ) (query : BoardQuery) (updates : List Update) (slice told : List Told) (runs : List Departure) (added : List AddedRow) → slice ≡ told → AreChoices t updates told
+    → Adds t [] runs (rows_there t (record { stop = stop; at = query.at; span = query.span }) slice)
+    → others.AreRows t added (filter (is_within query.at query.span) (added_rows t stop updates))
+    → take query.limit (ordered row_cmp (map (as_row t) runs ++ map (others.as_row t) added)) ≡ board_at t stop updates query
 unfolding board_at
-board_is t stop query updates slice told same choices =
-    ap (λ xs. take query.limit (ordered row_cmp (rows_there t (record { stop = stop; at = query.at; span = query.span }) xs))) same
-    ∙ ap (λ xs. take query.limit (ordered row_cmp xs)) (rows_are t (record { stop = stop; at = query.at; span = query.span }) updates told choices)
+board_is t stop query updates slice told runs added same choices adds are =
+    let asked : Asked = record { stop = stop; at = query.at; span = query.span } in
+    let within : BoardRow → Bool = λ row. is_within query.at query.span row in
+    let its : map (as_row t) runs ≡ filter within (flat_map (run_rows t stop updates) (all_runs t)) =
+    runs_become t runs (rows_there t asked slice) adds ∙ ap (rows_there t asked) same ∙ rows_are t asked updates told choices in
+    ap (λ xs. take query.limit (ordered row_cmp (xs ++ map (others.as_row t) added))) its
+    ∙ ap (λ xs. take query.limit (ordered row_cmp (filter within (flat_map (run_rows t stop updates) (all_runs t)) ++ xs))) are.become
+    ∙ ap (λ xs. take query.limit (ordered row_cmp xs)) (sym (filter-append within (flat_map (run_rows t stop updates) (all_runs t)) (added_rows t stop updates)))
 
 module _ (kept : HubKept) (query : BoardQuery) (schedules : Schedules) (plans : List NamedPlan) (none : NamedPlan) (text : List ℕ)
     (whole : schedules ≡ kept.plans) (its_plans : plans ≡ schedules.plans) (within : query.plan < length kept.plans.plans) (asked : text ≡ query.stop) where

@@ -1,8 +1,8 @@
 //! The rows of a board, and what they are about.
 
-ghost use Rattle.std.specs.Prelude.{◌≡◌, ◌<◌, ◌≤◌, List, length, map, take, IfOk};
+ghost use Rattle.std.specs.Prelude.{◌≡◌, ◌<◌, ◌≤◌, ◌++◌, List, length, map, take, IfOk};
 ghost use Rattle.std.specs.Arc.{arc_value};
-ghost use Rattle.std.specs.List.Sorted.{IsSortedByKey};
+ghost use Rattle.std.specs.List.{All};
 ghost use Rattle.text_defs.specs.Moments.{last_moment};
 ghost use Rattle.feed_defs.specs.declared.history.Entry.{Entry};
 ghost use Rattle.order.specs.Order.{ordered};
@@ -11,56 +11,64 @@ ghost use Rattle.board_defs.specs.Fold.{fold_of};
 ghost use Rattle.board_defs.specs.Rows.{row_cmp, board_at};
 ghost use Rattle.board_defs.specs.Views.{StandsFor, folds_of};
 ghost use Rattle.board_core.specs.Answers.{IsAnswer, AreAbout, AreSubjects};
-ghost use Rattle.board_core.specs.Departures.{rows_there, Become};
-ghost use Rattle.board_core.specs.Told.{key_told, run_cmp};
+ghost use Rattle.board_core.specs.Departures.{as_row, IsThere};
+ghost use Rattle.board_core.specs.Lines.{Become};
+ghost use Rattle.board_added.specs.Added as others;
 
-use crate::candidates::{Candidate, choices};
+use crate::candidates::choices;
 use crate::departure::{Asked, Departure};
-use crate::row_texts::{rows_of, subjects_of};
+use crate::line::{Line, lines_of, push_added, rows_of, subjects_of};
 use crate::runs::departures;
-use crate::sorting::first_of;
+use crate::sorting::{first_lines, first_of};
 use crate::{HubView, NoMemory, RowsFault};
 use alert_select::Subject;
+use board_added::{AddedRow, added_rows};
 use board_defs::{BoardQuery, Row};
 use feed_view::FeedView;
 use sched_types::{NamedFeed, Plan};
 use std::alloc::Global;
 use std::sync::Arc;
 
-/// The first departures of a board, of candidates in order of their runs; or want of memory.
-fn first_departures(
+/// The first lines of a board, of departures of runs and of rows of added trips; or want of memory.
+fn first_of_both<'a>(
     alloc: Global,
     plan: &Plan,
-    asked: Asked,
-    choices: &[Candidate<'_>],
+    runs: Vec<Departure>,
+    added: &[AddedRow<'a>],
     limit: u32,
-) -> Result<Vec<Departure>, NoMemory>
-    requires sorted { IsSortedByKey key_told run_cmp choices.now }
-    requires moment { asked.at ≤ last_moment }
+) -> Result<Vec<Line<'a>>, NoMemory>
+    requires runs { All (IsThere plan.now) runs.items }
+    requires added { All (others.IsThere plan.now) added.now }
     ensures { IfOk result (λ first. Become plan.now first.items
-        (take limit (ordered row_cmp (rows_there plan.now asked choices.entry.now)))) }
+        (take limit (ordered row_cmp
+        (map (as_row plan.now) runs.items ++ map (others.as_row plan.now) added.entry.now)))) }
 {
     plan.sound();
-    let all = departures(alloc, plan, asked, choices)?;
-    first_of(all, limit)
+    if added.is_empty() {
+        let first = first_of(runs, limit)?;
+        return lines_of(alloc, first.as_slice());
+    }
+    let mut lines = lines_of(alloc, runs.as_slice())?;
+    push_added(&mut lines, added)?;
+    first_lines(alloc, plan, lines, limit)
 }
 
-/// The departures at the stop of that number; or want of memory.
-fn departures_at(
+/// The lines at the stop of that number; or want of memory.
+fn lines_at<'a>(
     alloc: Global,
     plan: &Plan,
     feeds: &[NamedFeed],
-    views: &[Arc<FeedView>],
+    views: &'a [Arc<FeedView>],
     query: &BoardQuery,
     stop: u32,
-) -> Result<Vec<Departure>, NoMemory>
+) -> Result<Vec<Line<'a>>, NoMemory>
     requires each { length views.now ≡ length feeds.now }
     requires few { length feeds.now ≤ 64 }
     requires moment { query.now.at ≤ last_moment }
     ensures { IfOk result (λ first. Become plan.now first.items
         (board_at plan.now stop
         (updates_at query.now.plan query.now.at feeds.now
-        (map (λ feed. feed.fold) (map arc_value views.now))) query.now)) }
+        (map (λ feed. feed.fold) (map arc_value views.entry.now))) query.now)) }
 {
     let choices = choices(alloc, query.plan, plan, feeds, views)?;
     let asked = Asked {
@@ -68,7 +76,9 @@ fn departures_at(
         at: query.at,
         span: query.span,
     };
-    first_departures(alloc, plan, asked, choices.as_slice(), query.limit)
+    let runs = departures(alloc, plan, asked, choices.as_slice())?;
+    let added = added_rows(alloc, plan, feeds, views, query, stop)?;
+    first_of_both(alloc, plan, runs, added.as_slice(), query.limit)
 }
 
 /// The rows at the stop of that number; or want of memory.
@@ -89,7 +99,7 @@ fn rows_at(
         (updates_at query.now.plan query.now.at feeds.now
         (map (λ feed. feed.fold) (map arc_value views.now))) query.now)) }
 {
-    let first = departures_at(alloc, plan, feeds, views, query, stop)?;
+    let first = lines_at(alloc, plan, feeds, views, query, stop)?;
     rows_of(alloc, plan, first.as_slice())
 }
 
@@ -110,17 +120,19 @@ fn subjects_at<'a>(
         (updates_at query.now.plan query.now.at feeds.now
         (map (λ feed. feed.fold) (map arc_value views.now))) query.now) subjects.items) }
 {
-    let first = departures_at(alloc, plan, feeds, views, query, stop)?;
+    let first = lines_at(alloc, plan, feeds, views, query, stop)?;
     subjects_of(alloc, first.as_slice())
 }
 
 /// The rows of the asked board, of what the hub's feeds hold: the places, but the last of a trip, at which
 /// passengers may board at the stop or at a stop that names it as `parent_station`, of all runs of the
-/// timetable, by the expected instant, the trip_id, the date and the place.
+/// timetable, and the calls there, but the last of a trip, of added trips, by the expected instant, the trip_id,
+/// the date, runs before added trips, and the place.
 ///
 /// It goes once over all places of the timetable, looks once for the run of each update, and goes, for each day
-/// of the window, over the trips with a place at the stop; a run whose update counts is walked once. Texts are
-/// made for the rows that are shown.
+/// of the window, over the trips with a place at the stop; a run whose update counts is walked once. It goes over
+/// the updates again for those whose relation is ADDED; where none is of an added trip, that takes no memory.
+/// Texts are made for the rows that are shown.
 pub fn rows(alloc: Global, view: &HubView, query: &BoardQuery) -> Result<Vec<Row>, RowsFault>
     requires plan { query.now.plan < length view.now.plans.plans }
     requires moment { query.now.at ≤ last_moment }

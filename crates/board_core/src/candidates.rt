@@ -3,10 +3,11 @@
 ghost use Rattle.std.specs.Prelude.{◌≡◌, ℕ, ◌≤◌, ◌++◌, length, map, IfOk, OnOk};
 ghost use Rattle.std.specs.Arc.{arc_value};
 ghost use Rattle.std.specs.List.{filter_map};
-ghost use Rattle.board_defs.specs.Choice.{stamp_or, updates_at};
+ghost use Rattle.board_defs.specs.Choice.{updates_at};
 ghost use Rattle.board_core.specs.Told.{told_in, told_stored, told_feed, told_from, key_told, told_cmp, AreChoices};
 
 use crate::NoMemory;
+use board_added::stamp_of;
 use entity_table::{Stored, Table};
 use feed_view::FeedView;
 use match_defs::Found;
@@ -16,7 +17,6 @@ use std::alloc::Global;
 use std::cmp::Ordering;
 use std::marker::Model;
 use std::sync::Arc;
-use texts::LAST_MOMENT;
 use trip_match::find;
 
 /// What runs are ordered by: the day and then the trip, by their numbers.
@@ -79,16 +79,6 @@ impl<'a> Candidate<'a> {
         ensures { result.now ≡ self.entry.now.update.update }
     {
         self.update
-    }
-}
-
-/// An update's own stamp, where it is a moment, else its message's.
-fn stamp_of(message: u64, own: Option<u64>) -> u64
-    ensures { result ≡ stamp_or message own }
-{
-    match own {
-        Some(own) if 1 <= own && own <= LAST_MOMENT => own,
-        _ => message,
     }
 }
 

@@ -1,16 +1,17 @@
 //! The departures of a run at the asked stop, before their texts are made.
 
-ghost use Rattle.std.specs.Prelude.{◌≡◌, ◌+◌, ◌<◌, ◌≤◌, ◌&&◌, ◌++◌, Some, length, map, drop, take, ℤ, pos, ◌+ℤ◌, int_le, int_lt, unwrap_or, IfSome, OnOk, IsTrue};
+ghost use Rattle.std.specs.Prelude.{◌≡◌, ◌+◌, ◌<◌, ◌≤◌, ◌++◌, Some, length, map, drop, take, ℤ, pos, ◌+ℤ◌, unwrap_or, IfSome, OnOk, IsTrue};
 ghost use Rattle.std.specs.List.{All, cons_option};
 ghost use Rattle.std.specs.Option.{option_map, option_to_list};
 ghost use Rattle.text_defs.specs.Moments.{last_moment};
 ghost use Rattle.sched_types.specs.Timetable.{IsSmall, base_of, places_of, is_run};
 ghost use Rattle.delay_rule.specs.Near.{IsNear, IsNearState};
-ghost use Rattle.board_defs.specs.Rows.{is_asked, departures_of, row_of, RunOf};
+ghost use Rattle.board_defs.specs.Rows.{departures_of, row_of, RunOf};
 ghost use Rattle.board_core.specs.Departures.{as_row, as_shown, shown_by, in_window, row_by, rows_at, counts_at, IsThere, Adds};
 
 use crate::NoMemory;
 use crate::known::{Known, Sign, shown};
+use board_added::{is_asked, is_within};
 use board_defs::RowState;
 use sched_types::{Place, Plan, Run};
 
@@ -32,14 +33,6 @@ pub(crate) struct Departure {
     pub(crate) scheduled: i64,
     pub(crate) delay: Option<i64>,
     pub(crate) state: RowState,
-}
-
-/// Whether a stop is the asked one or names it as its parent.
-fn is_asked(plan: &Plan, asked: u32, stop: u32) -> bool
-    requires { stop < length plan.now.stops }
-    ensures { result ≡ is_asked plan.now asked stop }
-{
-    stop == asked || plan.stop(stop).parent == Some(asked)
 }
 
 /// Whether passengers may board at a place, and it is at the asked stop.
@@ -65,15 +58,6 @@ fn expected_at(base: i64, place: Place, delay: Option<i64>) -> i64
     ensures { result ≡ (base +ℤ pos place.departure) +ℤ unwrap_or delay (pos 0) }
 {
     base + i64::from(place.departure) + delay.unwrap_or(0)
-}
-
-/// Whether an instant lies in the window.
-fn is_within(asked: Asked, instant: i64) -> bool
-    requires { asked.at ≤ last_moment }
-    ensures { result
-        ≡ (int_le (pos asked.at) instant && int_lt instant (pos (asked.at + asked.span))) }
-{
-    asked.at as i64 <= instant && instant < (asked.at + u64::from(asked.span)) as i64
 }
 
 /// The departure from a place, if it lies in the window.
@@ -102,7 +86,7 @@ fn departing(
 {
     let base = plan.base(run.day);
     let expected = expected_at(base, place, sign.delay);
-    if is_within(asked, expected) {
+    if is_within(asked.at, asked.span, expected) {
         Some(Departure {
             expected,
             run,

@@ -8,11 +8,11 @@
 //! `rows` gives the rows of a board exactly as `board_defs` defines them, of what a view keeps and so of each
 //! history that it stands for, and `subjects` what these rows are about, as `alert_select` takes it.
 //! `candidates` has the updates with the runs that they are about, in order of the runs, `choice` the one that
-//! counts for a run, `known` what it tells, `departure` and `runs` the departures in numbers, `sorting` their
-//! order, and `row_texts` the texts of those that are shown.
+//! counts for a run, `known` what it tells, `departure` and `runs` the departures of runs in numbers, `line`
+//! these and the rows of added trips, `sorting` their order, and `row_texts` the texts of those that are shown.
 //!
-//! It stands on `feed_view`, on `trip_match` and `delay_rule` for the meaning of updates, and on the
-//! definitions of `board_defs`; for what rows are about on `alert_select`.
+//! It stands on `feed_view`, on `trip_match` and `delay_rule` for the meaning of updates, on `board_added` for
+//! the rows of added trips, and on the definitions of `board_defs`; for what rows are about on `alert_select`.
 #![tactic(auto)]
 
 mod board;
@@ -21,6 +21,7 @@ mod choice;
 mod departure;
 mod fault;
 mod known;
+mod line;
 mod oracle;
 mod row_texts;
 mod runs;

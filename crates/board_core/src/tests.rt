@@ -377,18 +377,11 @@ fn shows(
     Ok(are_wanted(rows.as_slice(), wanted))
 }
 
-fn delay(seconds: i32) -> Told {
+/// An update with that relation, late by so many seconds.
+fn said(relation: Option<TripRelation>, seconds: i32) -> Told {
     Told {
-        relation: None,
+        relation,
         delay: Some(seconds),
-        place: None,
-    }
-}
-
-fn related(relation: TripRelation) -> Told {
-    Told {
-        relation: Some(relation),
-        delay: Some(300),
         place: None,
     }
 }
@@ -399,7 +392,7 @@ fn a_hub_goes_on_from_one_view_to_the_next(rt: HostRuntime) -> Result<(), Fail> 
     let first = HubView::first(alloc, Arc::new(alloc, schedules(alloc)?)?)?;
     assert_eq!(rt; first.entries(), 0);
     assert_eq!(rt; first.feeds().len(), 2);
-    let next = after(alloc, &first, 1, delay(60))?;
+    let next = after(alloc, &first, 1, said(None, 60))?;
     assert_eq!(rt; next.entries(), 1);
     assert_eq!(rt; next.feeds().len(), 2);
     Ok(())
@@ -428,9 +421,9 @@ fn without_messages_all_is_as_scheduled(rt: HostRuntime) -> Result<(), Fail> {
 #[test]
 fn updates_change_the_rows(rt: HostRuntime) -> Result<(), Fail> {
     let alloc = rt.alloc();
-    assert!(rt; shows(alloc, delay(300), None, 2, &[late(1743314700), OTHER])?);
+    assert!(rt; shows(alloc, said(None, 300), None, 2, &[late(1743314700), OTHER])?);
     // Of two updates with one stamp that of the lower feed number counts.
-    assert!(rt; shows(alloc, delay(60), Some(delay(120)), 1, &[late(1743314460)])?);
+    assert!(rt; shows(alloc, said(None, 60), Some(said(None, 120)), 1, &[late(1743314460)])?);
     let skipped = Told {
         relation: None,
         delay: None,
@@ -445,7 +438,7 @@ fn updates_change_the_rows(rt: HostRuntime) -> Result<(), Fail> {
         state: RowState::Canceled,
         ..FIRST
     };
-    assert!(rt; shows(alloc, related(TripRelation::Canceled), None, 1, &[row])?);
-    assert!(rt; shows(alloc, related(TripRelation::Deleted), None, 50, &[OTHER])?);
+    assert!(rt; shows(alloc, said(Some(TripRelation::Canceled), 300), None, 1, &[row])?);
+    assert!(rt; shows(alloc, said(Some(TripRelation::Deleted), 300), None, 50, &[OTHER])?);
     Ok(())
 }

@@ -5,3 +5,4 @@ pub mod Feeds
 pub mod ViewLaws
 pub mod KeyOrder
 pub mod DateOrder
+pub mod CityAdded

@@ -1,9 +1,11 @@
 -- Which update counts for a run, where several feeds or several entities of one feed speak of it.
-use Rattle.std.specs.Prelude.{ℕ, ◌+◌, Bool, false, ◌&&◌, ◌==◌, if◌then◌else◌, List, [], ◌∷◌, ◌++◌, filter, Option, Some, None}
+use Rattle.std.specs.Prelude.{ℕ, ◌+◌, Bool, true, false, not, ◌&&◌, ◌==◌, if◌then◌else◌, List, [], ◌∷◌, ◌++◌, filter, Option, Some, None, unwrap_or}
 use Rattle.std.specs.Cmp.Lexicographic.{slice_cmp}
-use Rattle.std.specs.List.{filter_map}
-use Rattle.std.specs.Ordering.{nat_cmp, ordering_then}
+use Rattle.std.specs.List.{filter_map, list_any}
+use Rattle.std.specs.Ordering.{nat_cmp, is_gt, ordering_then}
+use Rattle.std.specs.Str.{bytes_eq}
 use Rattle.std.specs.declared.cmp.Ordering.{Ordering}
+use Rattle.rt_types.specs.declared.descriptor.TripRef.{TripRef}
 use Rattle.rt_types.specs.declared.trip_update.TripUpdate.{TripUpdate}
 use Rattle.feed_defs.specs.History.{Change}
 use Rattle.sched_types.specs.declared.plans.NamedFeed.{NamedFeed}
@@ -74,3 +76,40 @@ choice_cmp a b =
 -- the update that counts for a run, if there is one
 unfoldable pub chosen : Timetable → List Update → Run → Option Update
 chosen t updates run = greatest choice_cmp (filter (is_about t run) updates)
+
+-- ---- trips that were added to the timetable (GTFS Realtime, TripDescriptor, ADDED)
+
+-- what a trip descriptor is about is an added trip
+abbrev pub is_added_found : Found → Bool
+is_added_found (found.Run run) = false
+is_added_found found.Added = true
+is_added_found (found.NoMatch why) = false
+
+-- a text, empty where it is absent
+abbrev pub text_or_none : Option (List ℕ) → List ℕ
+text_or_none text = unwrap_or text []
+
+-- the descriptor has this trip_id and this start_date
+abbrev pub is_added_trip : List ℕ → List ℕ → TripRef → Bool
+is_added_trip trip date named =
+    bytes_eq (text_or_none named.trip_id) trip && bytes_eq (text_or_none named.start_date) date
+
+-- whether an update is about an added trip, by its stamp
+abbrev pub is_added_update : Timetable → Update → Bool
+is_added_update t u = is_added_found (match_of t u.update.trip u.stamp)
+
+-- two updates are of one added trip, where their trip_id and their start_date are the same
+abbrev pub is_same_trip : Update → Update → Bool
+is_same_trip u other =
+    is_added_trip (text_or_none u.update.trip.trip_id) (text_or_none u.update.trip.start_date)
+    other.update.trip
+
+-- another update of the same added trip counts more
+abbrev pub is_outdone : List Update → Update → Bool
+is_outdone updates u =
+    list_any (λ other. is_same_trip u other && is_gt (choice_cmp other u)) updates
+
+-- the updates that count for added trips, one for each, as they stood
+unfoldable pub added_updates : Timetable → List Update → List Update
+added_updates t updates = let added = filter (is_added_update t) updates in
+    filter (λ u. not (is_outdone added u)) added

@@ -3,12 +3,18 @@ use Rattle.std.specs.Prelude.{ℕ, ◌+◌, ◌-◌, Bool, true, false, not, ◌
 use Rattle.std.specs.Cmp.Lexicographic.{slice_cmp}
 use Rattle.std.specs.Fmt.{decimal}
 use Rattle.std.specs.List.{filter_map, flat_map, enumerate_from, range_with_len}
-use Rattle.std.specs.Option.{option_map}
+use Rattle.std.specs.Option.{option_map, option_and_then, option_or}
 use Rattle.std.specs.Ordering.{bool_cmp, int_cmp, nat_cmp, ordering_then}
 use Rattle.std.specs.Str.{bytes_eq}
 use Rattle.std.specs.declared.cmp.Ordering.{Ordering}
+use Rattle.rt_types.specs.declared.descriptor.TripRef.{TripRef}
+use Rattle.rt_types.specs.declared.enums.StopRelation.{StopRelation}
+use Rattle.rt_types.specs.declared.enums.StopRelation.TheVariants as served
 use Rattle.rt_types.specs.declared.enums.TripRelation.{TripRelation}
 use Rattle.rt_types.specs.declared.enums.TripRelation.TheVariants as relation
+use Rattle.rt_types.specs.declared.trip_update.Event.{Event}
+use Rattle.rt_types.specs.declared.trip_update.StopUpdate.{StopUpdate}
+use Rattle.rt_types.specs.declared.trip_update.TripUpdate.{TripUpdate}
 use Rattle.sched_types.specs.declared.rows.Place.{Place}
 use Rattle.sched_types.specs.declared.rows.Route.{Route}
 use Rattle.sched_types.specs.declared.rows.Run.{Run}
@@ -18,14 +24,17 @@ use Rattle.sched_types.specs.Schedules.{Schedules}
 use Rattle.sched_types.specs.Timetable.{Timetable, number_of, places_of, is_run, is_given, base_of, dates_of}
 use Rattle.delay_defs.specs.declared.state.StopState.{StopState}
 use Rattle.delay_defs.specs.Delays.{states}
+use Rattle.delay_defs.specs.Delays.{relation_of as served_as}
 use Rattle.match_defs.specs.Matching.{relation_of}
 use Rattle.order.specs.Order.{ordered}
+use Rattle.text_defs.specs.Moments.{last_moment}
+use Rattle.board_defs.specs.declared.call.Call.{Call}
 use Rattle.board_defs.specs.declared.query.BoardQuery.{BoardQuery}
 use Rattle.board_defs.specs.declared.row.Row.{Row}
 use Rattle.board_defs.specs.declared.row.RowState.{RowState}
 use Rattle.board_defs.specs.declared.row.RowState.TheVariants as state
 use Rattle.board_defs.specs.Fold.{FeedFold}
-use Rattle.board_defs.specs.Choice.{Update, updates_at, chosen}
+use Rattle.board_defs.specs.Choice.{Update, updates_at, chosen, text_or_none, added_updates}
 
 -- what a row is about: a run of the timetable, or an added trip by its trip_id, its start_date and its route
 pub data Subject : Type 0 where
@@ -159,9 +168,88 @@ unfoldable pub run_rows : Timetable → ℕ → List Update → Run → List Boa
 run_rows t asked updates run =
     filter_map (place_row t asked run (chosen t updates run)) (departures_of t run.trip)
 
--- the rows of trips that were added to the timetable: none are shown
+-- ---- the rows of added trips (GTFS Realtime, TripDescriptor, ADDED)
+
+-- an instant that is a moment
+abbrev pub is_moment : ℤ → Bool
+is_moment instant = int_le (pos 1) instant && int_le instant (pos last_moment)
+
+-- the time that an event tells, where it is a moment (StopTimeEvent, time)
+abbrev pub moment_of : Option Event → Option ℤ
+moment_of event =
+    option_and_then (λ time. if is_moment time then Some time else None)
+    (option_and_then (λ e. e.time) event)
+
+-- when a call leaves: the time of its departure, or else of its arrival
+abbrev pub leaves_at : StopUpdate → Option ℤ
+leaves_at u = option_or (moment_of u.departure) (moment_of u.arrival)
+
+abbrev pub call_at : Option ℕ → Option ℤ → Option Call
+call_at None leaves = None
+call_at (Some stop) None = None
+call_at (Some stop) (Some leaves) = Some (record { stop = stop; leaves = leaves })
+
+-- whether the vehicle stops there, and its times are told (StopTimeUpdate, schedule_relationship)
+abbrev pub is_served : StopRelation → Bool
+is_served served.Scheduled = true
+is_served served.Skipped = false
+is_served served.NoData = false
+is_served served.Unscheduled = false
+
+-- A stop time update is a call where the stop is served, its stop_id is in stops.txt, and a time is told. An
+-- added trip has no places in the timetable, so neither a stop_sequence nor a delay says anything.
+abbrev pub call_of : Timetable → StopUpdate → Option Call
+call_of t u =
+    if is_served (served_as u)
+    then call_at (option_and_then (number_of (λ stop. stop.id) t.stops) u.stop_id) (leaves_at u)
+    else None
+
+abbrev pub calls_of : Timetable → TripUpdate → List Call
+calls_of t update = filter_map (call_of t) update.stop_time_update
+
+-- all calls but the last, at which nobody boards, with their numbers
+abbrev pub departing_calls : List Call → List (ℕ × Call)
+departing_calls calls = enumerate_from 0 (take (length calls - 1) calls)
+
+-- the number of the route of a route_id
+abbrev pub route_named : Timetable → Option (List ℕ) → Option ℕ
+route_named t id = option_and_then (number_of (λ route. route.id) t.routes) id
+
+-- the row of a call of an added trip, which has no times in the timetable and so no delay
+abbrev pub added_row : Timetable → List ℕ → List ℕ → Option ℕ → ℕ → Call → BoardRow
+added_row t trip date route i call = record {
+  row = record {
+    expected = call.leaves;
+    scheduled = None;
+    delay = None;
+    state = state.Added;
+    route = route_name (option_and_then (slice_get t.routes) route);
+    headsign = [];
+    trip = trip;
+    date = date;
+    platform = stop_id_of t call.stop;
+  };
+  subject = AddedTrip trip date route;
+  place = i;
+  stop = call.stop;
+}
+
+abbrev pub added_row_at : Timetable → ℕ → TripRef → ℕ × Call → Option BoardRow
+added_row_at t asked trip (i, call) =
+    if is_asked t asked call.stop
+    then
+    Some
+    (added_row t (text_or_none trip.trip_id) (text_or_none trip.start_date)
+    (route_named t trip.route_id) i call)
+    else None
+
+-- the rows of an added trip at the asked stop, by the update that counts for it
+unfoldable pub added_trip_rows : Timetable → ℕ → Update → List BoardRow
+added_trip_rows t asked u =
+    filter_map (added_row_at t asked u.update.trip) (departing_calls (calls_of t u.update))
+
 abbrev pub added_rows : Timetable → ℕ → List Update → List BoardRow
-added_rows t asked updates = []
+added_rows t asked updates = flat_map (added_trip_rows t asked) (added_updates t updates)
 
 abbrev pub all_rows : Timetable → ℕ → List Update → List BoardRow
 all_rows t asked updates = flat_map (run_rows t asked updates) (all_runs t)

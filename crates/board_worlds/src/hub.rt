@@ -5,7 +5,7 @@ ghost use Rattle.feed_defs.specs.History.{stamp_of};
 ghost use Rattle.text_defs.specs.Moments.{is_stamp};
 
 use crate::files::folder;
-use crate::world::{DATES, MadeStop, MadeUpdate, TRIPS, World};
+use crate::world::{DATES, MadeStop, MadeUpdate, STOPS, TRIPS, World};
 use board_core::HubView;
 use delay_rule::Steps;
 use feed_view::FeedView;
@@ -63,34 +63,48 @@ fn no_bytes(alloc: Global) -> Bytes {
     Bytes::from_vec(Vec::new(alloc))
 }
 
-fn event(alloc: Global, delay: Option<i32>) -> Option<Event> {
-    match delay {
-        Some(seconds) => Some(Event {
-            delay: Some(seconds),
-            time: None,
-            uncertainty: None,
-            unknown: no_bytes(alloc),
-        }),
-        None => None,
+/// What is told of an arrival or a departure, if anything.
+fn event(alloc: Global, delay: Option<i32>, time: Option<i64>) -> Option<Event> {
+    if delay.is_none() && time.is_none() {
+        return None;
+    }
+    Some(Event {
+        delay,
+        time,
+        uncertainty: None,
+        unknown: no_bytes(alloc),
+    })
+}
+
+/// The stop_id of a call, if there is one.
+fn stop_id(alloc: Global, made: MadeStop) -> Result<Option<Text>, AllocError> {
+    match made.call {
+        Some(call) => {
+            let id = STOPS.get(call.stop as usize).copied().unwrap_or("Z");
+            Ok(Some(Text::new(alloc, id)?))
+        }
+        None => Ok(None),
     }
 }
 
-fn stop_update(alloc: Global, made: MadeStop) -> StopUpdate {
-    StopUpdate {
+fn stop_update(alloc: Global, made: MadeStop) -> Result<StopUpdate, AllocError> {
+    let arrives = made.call.and_then(|call| call.arrives);
+    let leaves = made.call.and_then(|call| call.leaves);
+    Ok(StopUpdate {
         stop_sequence: Some(made.sequence),
-        arrival: event(alloc, made.arrival),
-        departure: event(alloc, made.departure),
-        stop_id: None,
+        arrival: event(alloc, made.arrival, arrives),
+        departure: event(alloc, made.departure, leaves),
+        stop_id: stop_id(alloc, made)?,
         relation: made.relation,
         properties: None,
         unknown: no_bytes(alloc),
-    }
+    })
 }
 
 fn stop_updates(alloc: Global, made: &[MadeStop]) -> Result<StopUpdates, AllocError> {
     let mut stops = Vec::new(alloc);
     for stop in made {
-        stops.push(stop_update(alloc, *stop))?;
+        stops.push(stop_update(alloc, *stop)?)?;
     }
     Ok(StopUpdates::new(stops))
 }

@@ -21,6 +21,7 @@ pub(crate) struct Key {
     pub(crate) expected: i64,
     pub(crate) trip: u32,
     pub(crate) day: u32,
+    pub(crate) is_added: bool,
     pub(crate) place: u32,
 }
 
@@ -28,7 +29,7 @@ pub(crate) struct Key {
 #[derive(Clone, Copy)]
 pub(crate) struct Seen {
     pub(crate) key: Key,
-    pub(crate) scheduled: i64,
+    pub(crate) scheduled: Option<i64>,
     pub(crate) delay: Option<i64>,
     pub(crate) state: RowState,
     pub(crate) stop: u32,
@@ -181,9 +182,10 @@ fn row(place: MadePlace, trip: u32, day: u32, number: usize, sign: Sign) -> Seen
             expected: scheduled.wrapping_add(sign.delay.unwrap_or(0)),
             trip,
             day,
+            is_added: false,
             place: u32::try_from(number).unwrap_or(0),
         },
-        scheduled,
+        scheduled: Some(scheduled),
         delay: sign.delay,
         state: sign.state,
         stop: place.stop,
@@ -235,6 +237,102 @@ fn with_run(
     Ok(rows)
 }
 
+/// Whether an update is of an added trip.
+fn is_added(update: &MadeUpdate) -> bool {
+    update.relation == Some(TripRelation::Added)
+}
+
+/// Whether an update counts for its added trip: no other of the same name and day counts more.
+fn counts(world: &World, update: &MadeUpdate) -> bool {
+    for other in &world.updates {
+        let is_same = is_added(other) && other.trip == update.trip && other.day == update.day;
+        if is_same && counts_more(world, other, update) {
+            return false;
+        }
+    }
+    true
+}
+
+/// A time that is a moment.
+fn moment(time: Option<i64>) -> Option<i64> {
+    match time {
+        Some(time) if 1 <= time && time <= 253_402_300_799 => Some(time),
+        _ => None,
+    }
+}
+
+/// When an added trip leaves a stop, where that is told of one that is there.
+fn leaves(stop: &MadeStop) -> Option<i64> {
+    let is_served = match stop.relation {
+        Some(StopRelation::Scheduled) | None => true,
+        Some(_) => false,
+    };
+    match stop.call {
+        Some(call) if is_served && call.stop < 4 => moment(call.leaves).or(moment(call.arrives)),
+        _ => None,
+    }
+}
+
+/// A call of an added trip.
+#[derive(Clone, Copy)]
+struct Call {
+    stop: u32,
+    leaves: i64,
+}
+
+/// The calls of an added trip.
+fn calls(alloc: Global, update: &MadeUpdate) -> Result<Vec<Call>, AllocError> {
+    let mut calls = Vec::new(alloc);
+    for stop in &update.stops {
+        if let (Some(leaves), Some(call)) = (leaves(stop), stop.call) {
+            calls.push(Call {
+                stop: call.stop,
+                leaves,
+            })?;
+        }
+    }
+    Ok(calls)
+}
+
+/// The row of a call of an added trip.
+fn added_row(update: &MadeUpdate, call: Call, number: usize) -> Seen {
+    Seen {
+        key: Key {
+            expected: call.leaves,
+            trip: update.trip,
+            day: update.day,
+            is_added: true,
+            place: u32::try_from(number).unwrap_or(0),
+        },
+        scheduled: None,
+        delay: None,
+        state: RowState::Added,
+        stop: call.stop,
+    }
+}
+
+/// The rows with those of an added trip.
+fn with_added(
+    alloc: Global,
+    world: &World,
+    question: Question,
+    update: &MadeUpdate,
+    rows: Vec<Seen>,
+) -> Result<Vec<Seen>, AllocError> {
+    let mut rows = rows;
+    let calls = calls(alloc, update)?;
+    for (i, call) in calls.iter().enumerate() {
+        let is_last = calls.len() - i == 1;
+        if !is_last && is_asked(world, question.stop, call.stop) {
+            let row = added_row(update, *call, i);
+            if is_within(question, row.key.expected) {
+                rows = inserted(alloc, rows.as_slice(), row)?;
+            }
+        }
+    }
+    Ok(rows)
+}
+
 /// Whether a trip runs on a day.
 fn runs(world: &World, trip: u32, day: u32) -> bool {
     match world.trips.get(trip as usize) {
@@ -255,6 +353,11 @@ pub(crate) fn scan(
             if runs(world, trip, day) {
                 rows = with_run(alloc, world, question, trip, day, rows)?;
             }
+        }
+    }
+    for update in &world.updates {
+        if is_added(update) && counts(world, update) {
+            rows = with_added(alloc, world, question, update, rows)?;
         }
     }
     rows.truncate(question.limit as usize);

@@ -4,7 +4,7 @@ use crate::dice::Dice;
 use crate::hub::hub;
 use crate::scan::{Question, Seen, scan};
 use crate::world::{BASES, DATES, STOPS, TRIPS, World, made_world};
-use board_core::{BoardQuery, HubView, Row, RowState, RowsFault, rows};
+use board_core::{BoardQuery, HubView, Row, RowState, RowsFault, Subject, rows, subjects};
 use rt_types::Text;
 use std::alloc::Global;
 use std::test::Fail;
@@ -13,14 +13,14 @@ use texts::LAST_MOMENT;
 /// Whether a row says what was seen.
 fn is_seen(row: &Row, seen: &Seen) -> bool {
     row.expected == seen.key.expected
-        && row.scheduled == Some(seen.scheduled)
+        && row.scheduled == seen.scheduled
         && row.delay == seen.delay
         && row.state == seen.state
-        && TRIPS.get(seen.key.trip as usize).copied() == Some(row.trip.as_str())
-        && DATES.get(seen.key.day as usize).copied() == Some(row.date.as_str())
+        && row.trip.as_str() == TRIPS.get(seen.key.trip as usize).copied().unwrap_or("T9")
+        && row.date.as_str() == DATES.get(seen.key.day as usize).copied().unwrap_or("20250401")
         && STOPS.get(seen.stop as usize).copied() == Some(row.platform.as_str())
-        && row.route.as_str() == "7"
-        && row.headsign.as_str() == "Hill"
+        && row.route.as_str() == if seen.key.is_added { "" } else { "7" }
+        && row.headsign.as_str() == if seen.key.is_added { "" } else { "Hill" }
 }
 
 /// The board of a stop.
@@ -43,6 +43,49 @@ fn board(
     rows(alloc, view, &query)
 }
 
+/// Whether a row of the board is about what was seen. The numbers of stops and trips go by their ids.
+fn is_about(subject: &Subject<'_>, seen: &Seen) -> bool {
+    match *subject {
+        Subject::Row(run, stop) => {
+            !seen.key.is_added
+                && run.trip == seen.key.trip
+                && run.day == seen.key.day
+                && stop == seen.stop
+        }
+        Subject::AddedRow(key, stop) => {
+            seen.key.is_added
+                && key.trip == TRIPS.get(seen.key.trip as usize).copied().unwrap_or("T9")
+                && key.date == DATES.get(seen.key.day as usize).copied().unwrap_or("20250401")
+                && key.route.is_none()
+                && stop == seen.stop
+        }
+        Subject::Stop(_) => false,
+    }
+}
+
+/// Whether the rows of the board of a stop are about what a scan of the world sees there.
+fn are_about(
+    alloc: Global,
+    view: &HubView,
+    seen: &[Seen],
+    stop: &str,
+    question: Question,
+) -> Result<bool, RowsFault> {
+    if view.plans().plans().is_empty() || question.at > LAST_MOMENT {
+        return Err(RowsFault::NoMemory);
+    }
+    let query = BoardQuery {
+        plan: 0,
+        stop: Text::new(alloc, stop)?,
+        at: question.at,
+        span: question.span,
+        limit: question.limit,
+    };
+    let subjects = subjects(alloc, view, &query)?;
+    Ok(subjects.len() == seen.len()
+        && subjects.iter().zip(seen).all(|(subject, one)| is_about(subject, one)))
+}
+
 /// Whether the board of a stop is what a scan of the world sees there.
 fn agrees(
     alloc: Global,
@@ -52,7 +95,9 @@ fn agrees(
 ) -> Result<bool, RowsFault> {
     let stop = STOPS.get(question.stop as usize).copied().unwrap_or("X");
     let rows = board(alloc, view, stop, question)?;
-    Ok(rows.len() == seen.len() && rows.iter().zip(seen).all(|(row, one)| is_seen(row, one)))
+    let is_same = rows.len() == seen.len()
+        && rows.iter().zip(seen).all(|(row, one)| is_seen(row, one));
+    Ok(is_same && are_about(alloc, view, seen, stop, question)?)
 }
 
 /// A question for some stop, from some moment of the morning of some day on.
@@ -75,6 +120,7 @@ struct Count {
     live: u32,
     skipped: u32,
     canceled: u32,
+    added: u32,
 }
 
 impl Count {
@@ -96,7 +142,10 @@ impl Count {
                 canceled: self.canceled.saturating_add(1),
                 ..self
             },
-            RowState::Added => self,
+            RowState::Added => Count {
+                added: self.added.saturating_add(1),
+                ..self
+            },
         }
     }
 }
@@ -132,6 +181,7 @@ fn boards_are_what_a_scan_sees(rt: HostRuntime) -> Result<(), Fail> {
         live: 0,
         skipped: 0,
         canceled: 0,
+        added: 0,
     };
     for number in 0..200u32 {
         let world = made_world(alloc, &mut dice)?;
@@ -141,6 +191,6 @@ fn boards_are_what_a_scan_sees(rt: HostRuntime) -> Result<(), Fail> {
         }
     }
     assert!(rt; count.scheduled > 500 && count.live > 100, "{count:?}");
-    assert!(rt; count.skipped > 5 && count.canceled > 50, "{count:?}");
+    assert!(rt; count.skipped > 5 && count.canceled > 50 && count.added > 20, "{count:?}");
     Ok(())
 }

@@ -36,13 +36,22 @@ pub(crate) struct MadeTrip {
     pub(crate) places: Vec<MadePlace>,
 }
 
-/// What an update says of a place.
+/// At which stop an added trip calls, by its number in `STOPS` or past the last, and when.
+#[derive(Clone, Copy)]
+pub(crate) struct MadeCall {
+    pub(crate) stop: u32,
+    pub(crate) arrives: Option<i64>,
+    pub(crate) leaves: Option<i64>,
+}
+
+/// What an update says of a place; of an added trip's with the call there.
 #[derive(Clone, Copy)]
 pub(crate) struct MadeStop {
     pub(crate) sequence: u32,
     pub(crate) relation: Option<StopRelation>,
     pub(crate) arrival: Option<i32>,
     pub(crate) departure: Option<i32>,
+    pub(crate) call: Option<MadeCall>,
 }
 
 /// An update of a trip on a day, either of which the timetable may lack.
@@ -105,8 +114,23 @@ fn trip(alloc: Global, dice: &mut Dice) -> Result<MadeTrip, AllocError> {
     })
 }
 
-/// What an update says of some place.
-fn stop(dice: &mut Dice) -> MadeStop {
+/// A call in the morning of a day, rarely at a stop that isn't there; a time may be absent or no moment.
+fn call(dice: &mut Dice, day: u32) -> MadeCall {
+    let base = BASES.get(day as usize).copied().unwrap_or(1_743_285_600);
+    let time = base.wrapping_add(i64::from(28_800 + 300 * dice.below(8)));
+    MadeCall {
+        stop: if dice.one_in(9) { 4 } else { dice.below(4) },
+        arrives: if dice.one_in(3) { None } else { Some(time) },
+        leaves: match dice.below(6) {
+            0 => None,
+            1 => Some(0),
+            later => Some(time.wrapping_add(60 * i64::from(later))),
+        },
+    }
+}
+
+/// What an update says of some place, of an added trip with a call.
+fn stop(dice: &mut Dice, call: Option<MadeCall>) -> MadeStop {
     MadeStop {
         sequence: 10 + 10 * dice.below(4),
         relation: match dice.below(8) {
@@ -118,10 +142,24 @@ fn stop(dice: &mut Dice) -> MadeStop {
         },
         arrival: delay(dice),
         departure: delay(dice),
+        call,
     }
 }
 
-/// An update of one of so many trips, on some day; rarely of a trip or a day that isn't there.
+/// What an update says of its trip.
+fn relation(dice: &mut Dice) -> Option<TripRelation> {
+    match dice.below(14) {
+        0 | 1 => Some(TripRelation::Canceled),
+        2 => Some(TripRelation::Deleted),
+        3 | 4 | 5 => Some(TripRelation::Added),
+        6 => Some(TripRelation::Unscheduled),
+        7 => Some(TripRelation::Scheduled),
+        _ => None,
+    }
+}
+
+/// An update of one of so many trips, on some day, or of an added trip of such a name; rarely of a trip or a day
+/// that isn't there.
 fn update(
     alloc: Global,
     dice: &mut Dice,
@@ -129,9 +167,13 @@ fn update(
     feed: u32,
     id: &'static str,
 ) -> Result<MadeUpdate, AllocError> {
+    let relation = relation(dice);
+    let is_added = relation == Some(TripRelation::Added);
+    let day = if dice.one_in(9) { 3 } else { dice.below(3) };
     let mut stops = Vec::new(alloc);
-    for _ in 0..dice.below(4) {
-        stops.push(stop(dice))?;
+    for _ in 0..1 + dice.below(4) {
+        let call = if is_added { Some(call(dice, day)) } else { None };
+        stops.push(stop(dice, call))?;
     }
     Ok(MadeUpdate {
         feed,
@@ -141,15 +183,8 @@ fn update(
             late => Some(FIRST_STAMP + u64::from(late)),
         },
         trip: if dice.one_in(9) { 3 } else { dice.below(trips) },
-        day: if dice.one_in(9) { 3 } else { dice.below(3) },
-        relation: match dice.below(10) {
-            0 | 1 => Some(TripRelation::Canceled),
-            2 => Some(TripRelation::Deleted),
-            3 => Some(TripRelation::Added),
-            4 => Some(TripRelation::Unscheduled),
-            5 => Some(TripRelation::Scheduled),
-            _ => None,
-        },
+        day,
+        relation,
         delay: delay(dice),
         stops,
     })

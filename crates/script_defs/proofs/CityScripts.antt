@@ -17,7 +17,7 @@ use Rattle.sched_types.specs.Schedules.{Schedules}
 use Rattle.match_defs.specs.Matching.{match_of, by_near}
 use Rattle.delay_defs.specs.Delays.{states}
 use Rattle.order.specs.Order.{inserted, ordered}
-use Rattle.board_defs.specs.Choice.{chosen, updates_from}
+use Rattle.board_defs.specs.Choice.{chosen, updates_from, added_updates}
 use Rattle.board_defs.specs.Feed.{feed_bytes}
 use Rattle.board_defs.specs.Fold.{fold_of}
 use Rattle.board_defs.specs.Rows.{all_runs, run_rows, board_at, board}
@@ -49,7 +49,7 @@ questions_are_answered :
     ++ (line (codes "O city") ++ line (codes "E"))))
     ≡ done (line (codes "board " ++ decimal (length market)) ++ (line market
     ++ (line (codes "board none") ++ feed (header 0 0))))
-unfolding fold_of messages_of since_full changes_by_id entities_of updates_from chosen match_of by_near date_in is_day date_plus next_day states all_runs run_rows board_at board inserted ordered digits print_from escape_byte board_json board_text between_tabs schedule_number feed_number board_answer feed_answer feed_bytes fields_of_all value message_bytes merged_message values numbered_values read write groups varint payload_bytes field_bytes is_utf8 chars encode percent_decode texts_of head_of line_within payload_at turn run_within run replayed is_name number waits
+unfolding fold_of messages_of since_full changes_by_id entities_of updates_from chosen added_updates match_of by_near date_in is_day date_plus next_day states all_runs run_rows board_at board inserted ordered digits print_from escape_byte board_json board_text between_tabs schedule_number feed_number board_answer feed_answer feed_bytes fields_of_all value message_bytes merged_message values numbered_values read write groups varint payload_bytes field_bytes is_utf8 chars encode percent_decode texts_of head_of line_within payload_at turn run_within run replayed is_name number waits
 questions_are_answered = refl
 
 -- a line whose one word is E with its byte escaped ends a script

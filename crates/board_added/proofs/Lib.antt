@@ -1,0 +1,5 @@
+pub mod Lists
+pub mod Gathered
+pub mod Outdone
+pub mod Adding
+pub mod Relations

@@ -1,0 +1,24 @@
+//! Which stops and instants are those that a board asks for.
+
+ghost use Rattle.std.specs.Prelude.{◌≡◌, ◌+◌, ◌<◌, ◌≤◌, ◌&&◌, length, pos, int_le, int_lt};
+ghost use Rattle.text_defs.specs.Moments.{last_moment};
+ghost use Rattle.board_defs.specs.Rows.{is_asked};
+
+use sched_types::Plan;
+
+/// Whether a stop, by its number, is the asked one or names it as its parent_station.
+pub fn is_asked(plan: &Plan, asked: u32, stop: u32) -> bool
+    requires { stop < length plan.now.stops }
+    ensures { result ≡ is_asked plan.now asked stop }
+{
+    stop == asked || plan.stop(stop).parent == Some(asked)
+}
+
+/// Whether an instant lies in the window that begins at a moment and lasts so many seconds; both instants are
+/// in seconds since 1970.
+pub fn is_within(at: u64, span: u32, instant: i64) -> bool
+    requires { at ≤ last_moment }
+    ensures { result ≡ (int_le (pos at) instant && int_lt instant (pos (at + span))) }
+{
+    at as i64 <= instant && instant < (at + u64::from(span)) as i64
+}

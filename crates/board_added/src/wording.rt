@@ -1,0 +1,63 @@
+//! The texts of rows.
+
+ghost use Rattle.std.specs.Prelude.{◌≡◌, ◌<◌, Some, length, slice_get, IfOk, IfSome};
+ghost use Rattle.std.specs.Option.{option_and_then};
+ghost use Rattle.board_defs.specs.Rows as rule;
+ghost use Rattle.board_added.specs.Added.{as_row, IsThere};
+
+use crate::NoMemory;
+use crate::row::AddedRow;
+use board_defs::{Row, RowState};
+use rt_types::Text;
+use sched_types::{Plan, Route};
+use std::alloc::Global;
+
+/// The short name of a route, else its long name.
+pub fn route_name(route: &Route) -> &str
+    ensures { result.now ≡ rule.route_name (Some route.now) }
+{
+    let short = route.short.as_str();
+    if short == "" {
+        route.long.as_str()
+    } else {
+        short
+    }
+}
+
+/// The id of a stop.
+pub fn stop_id(plan: &Plan, stop: u32) -> &str
+    requires { stop < length plan.now.stops }
+    ensures { result.now ≡ rule.stop_id_of plan.now stop }
+{
+    plan.stop(stop).id.as_str()
+}
+
+/// The name of an added trip's route; empty where it has none.
+fn name_of(plan: &Plan, route: Option<u32>) -> &str
+    requires { IfSome route (λ route. route < length plan.now.routes) }
+    ensures { result.now
+        ≡ rule.route_name (option_and_then (slice_get plan.now.routes) route) }
+{
+    match route {
+        Some(route) => route_name(plan.route(route)),
+        None => "",
+    }
+}
+
+/// The row of an added trip, with its texts; or want of memory.
+pub fn row_text(alloc: Global, plan: &Plan, row: &AddedRow<'_>) -> Result<Row, NoMemory>
+    requires { IsThere plan.now row.now }
+    ensures { IfOk result (λ text. text ≡ (as_row plan.now row.now).row) }
+{
+    Ok(Row {
+        expected: row.expected,
+        scheduled: None,
+        delay: None,
+        state: RowState::Added,
+        route: Text::new(alloc, name_of(plan, row.key.route))?,
+        headsign: Text::new(alloc, "")?,
+        trip: Text::new(alloc, row.key.trip)?,
+        date: Text::new(alloc, row.key.date)?,
+        platform: Text::new(alloc, stop_id(plan, row.stop))?,
+    })
+}
