@@ -11,7 +11,7 @@ use Rattle.sched_types.specs.Schedules.{Schedules}
 use Rattle.match_defs.specs.Matching.{match_of, by_near}
 use Rattle.delay_defs.specs.Delays.{states}
 use Rattle.order.specs.Order.{inserted, ordered}
-use Rattle.board_defs.specs.Choice.{chosen, updates_from}
+use Rattle.board_defs.specs.Choice.{chosen, updates_from, added_updates}
 use Rattle.board_defs.specs.Fold.{fold_of}
 use Rattle.board_defs.specs.Rows.{all_runs, run_rows, board_at, board}
 use Rattle.alert_defs.specs.Alerts.{is_active, concerns, over_feeds, alerts}
@@ -117,7 +117,7 @@ alerts_told :
     ≡ Some (codes "feed\tid\tcause\teffect\theader\na\tw\t-\t-\tLift out\n"))
     × (told (lift_out ∷ []) (harbour (codes "city") 1743315000) ≡ Some (codes "feed\tid\tcause\teffect\theader\n"))
     × (told (lift_out ∷ []) (harbour (codes "town") 1743314999) ≡ None)
-unfolding alerts_answer alerts_text alerts over_feeds is_active concerns touches fold_of messages_of since_full changes_by_id entities_of updates_from chosen match_of by_near date_in is_day date_plus next_day states all_runs run_rows board_at board inserted ordered digits between_tabs schedule_number
+unfolding alerts_answer alerts_text alerts over_feeds is_active concerns touches fold_of messages_of since_full changes_by_id entities_of updates_from chosen added_updates match_of by_near date_in is_day date_plus next_day states all_runs run_rows board_at board inserted ordered digits between_tabs schedule_number
 alerts_told = (refl, refl, refl)
 
 -- one alert as JSON

@@ -96,7 +96,7 @@ lists_are_answered :
     ≡ head (codes "200 OK") 20 (codes "keep-alive") ++ codes "feed\tid\tkind\treason\n")
     × (answered (get (codes "/alerts/city/S3")) false
     ≡ head (codes "200 OK") 28 (codes "keep-alive") ++ codes "feed\tid\tcause\teffect\theader\n")
-unfolding http_on_literals fold_of messages_of since_full changes_by_id entities_of updates_from chosen match_of by_near date_in is_day date_plus next_day states all_runs run_rows board_at board inserted ordered digits between_tabs schedule_number status_text status_lines unmatched_answer unmatched_text unmatched over_feeds alerts_answer alerts_text alerts answer closes_behind
+unfolding http_on_literals fold_of messages_of since_full changes_by_id entities_of updates_from chosen added_updates match_of by_near date_in is_day date_plus next_day states all_runs run_rows board_at board inserted ordered digits between_tabs schedule_number status_text status_lines unmatched_answer unmatched_text unmatched over_feeds alerts_answer alerts_text alerts answer closes_behind
 lists_are_answered = (refl, refl, refl)
 
 -- refusals, by the rule that applies first
