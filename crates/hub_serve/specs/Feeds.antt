@@ -15,6 +15,13 @@ IngestsBy old new before after faults faults' report =
     Ingests old new before after faults faults'
     (tally_of report.accepted report.refused report.starved report.too_long) report.end
 
+-- what an ingester makes of a port, of its seat and of its report
+abbrev pub ingests_at : {P : Type 0} → PortWords P → ℕ → P → SeatSeen → PortReport → P → SeatSeen
+    → PortReport → Type 0
+ingests_at words place port seat report port' seat' report' =
+    IngestsBy seat seat' (words.ahead port) (words.ahead port') (words.faults port)
+    (words.faults port') report'
+
 -- what is told of a feed at the end: what became of its port's messages, and the last stamp
 pub record FeedTold : Type 0 where
   pub report : PortReport

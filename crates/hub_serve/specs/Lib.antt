@@ -3,3 +3,4 @@ pub mod Words
 pub mod Feeds
 pub mod Readers
 pub mod Runs
+pub mod Steps

@@ -7,7 +7,18 @@ use Rattle.hub_history.specs.Told.{Told, history_of}
 use Rattle.http_door.specs.declared.report.DoorReport.{DoorReport}
 use Rattle.http_door.specs.Doors.{ServesDoor}
 use Rattle.http_door.specs.Visits.{Ends, hub}
+use Rattle.snapshot_cell.specs.Seen.{PassSeen}
+use Rattle.hub_serve.specs.declared.readers.Post.{Post}
 use Rattle.hub_serve.specs.Words.{DoorWords}
+
+-- what serving a door makes of it, of a reader's pass and of its post
+abbrev pub serves_at : {D I O C : Type 0} → DoorWords D I O → Ends I O → (C → Option (List ℕ)) → ℕ
+    → D → PassSeen → Post C → D → PassSeen → Post C → Type 0
+serves_at words seen ahead place door pass post door' pass' post' =
+    ServesDoor seen (words.links door) (words.links door') (words.faults door) (words.faults door')
+    (hub (ahead post.clock) pass.shown.plans (history_of pass.line) pass.reads false)
+    (hub (ahead post'.clock) pass'.shown.plans (history_of pass'.line) pass'.reads false)
+    post'.report
 
 -- The connections of a door were served by a reader that knew nothing at first, at the readings of a
 -- clock; what it knew in the end begins the ended history.

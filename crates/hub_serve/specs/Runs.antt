@@ -1,7 +1,7 @@
 -- What a run of a hub does, writes and answers.
-use Rattle.std.specs.Prelude.{◌≡◌, ℕ, ◌+◌, ◌<◌, nat_lt, Bool, true, false, ◌||◌, if◌then◌else◌, List, [], ◌∷◌, ◌++◌, length, map, Option, Some, None, IfSome}
+use Rattle.std.specs.Prelude.{◌≡◌, ℕ, ◌+◌, ◌<◌, nat_lt, not, Bool, true, false, ◌||◌, if◌then◌else◌, List, [], ◌∷◌, ◌++◌, length, map, Option, Some, None, IfSome}
 use Rattle.std.specs.List.{list_any, sum_by}
-use Rattle.std.specs.Option.{is_none}
+use Rattle.std.specs.Option.{is_some}
 use Rattle.feed_defs.specs.History.{IsLegal}
 use Rattle.hub_outside.specs.Doors.{Links}
 use Rattle.hub_history.specs.Told.{Told, history_of}
@@ -10,6 +10,7 @@ use Rattle.sched_types.specs.Schedules.{Schedules}
 use Rattle.hub_shared.specs.Seats.{Ties, IsOf}
 use Rattle.hub_shared.specs.declared.report.PortEnd.{PortEnd}
 use Rattle.hub_shared.specs.declared.report.PortEnd.TheVariants.{Ended, PortFault, Spent, NoMemory}
+use Rattle.hub_shared.specs.declared.report.PortReport.{PortReport}
 use Rattle.http_door.specs.declared.report.DoorEnd.{DoorEnd}
 use Rattle.http_door.specs.declared.report.DoorEnd.TheVariants.{Ended as DoorEnded, Failed}
 use Rattle.http_door.specs.declared.report.DoorReport.{DoorReport}
@@ -72,20 +73,22 @@ abbrev pub has_failed : DoorEnd → Bool
 has_failed DoorEnded = false
 has_failed Failed = true
 
--- no ending was had, or an ingester had no memory for its buffer
-abbrev pub wants_memory : Option Told → List FeedTold → Bool
-wants_memory ending tolds = is_none ending || list_any (λ told. is_starved told.report.end) tolds
+-- a port that failed, or had a message that was too long
+abbrev pub is_ill : PortReport → Bool
+is_ill report = is_fault report.end || nat_lt 0 report.too_long
 
--- a port failed or had a message that was too long, or a door failed
-abbrev pub went_ill : List FeedTold → List DoorReport → Bool
-went_ill tolds reports =
-    list_any (λ told. is_fault told.report.end || nat_lt 0 told.report.too_long) tolds
-    || list_any (λ report. has_failed report.end) reports
+-- The output failed; or no ending was had, or an ingester had no memory for its buffer; or a port
+-- went ill, or a door failed; or all went well.
+abbrev pub status_by : Writing → Bool → List PortReport → List DoorReport → ℕ
+status_by Cut closed reports doors = 5
+status_by Whole closed reports doors =
+    if not closed || list_any (λ report. is_starved report.end) reports then 6
+    else if list_any is_ill reports || list_any (λ door. has_failed door.end) doors then 1
+    else 0
 
--- the output failed, or memory was wanting, or something went ill, or all went well
-abbrev pub status_of : Writing → Bool → Bool → ℕ
-status_of Cut wants ill = 5
-status_of Whole wants ill = if wants then 6 else if ill then 1 else 0
+abbrev pub status_of : Writing → Option Told → List FeedTold → List DoorReport → ℕ
+status_of writing ending tolds doors =
+    status_by writing (is_some ending) (map (λ told. told.report) tolds) doors
 
 -- ---- the run
 
@@ -106,7 +109,7 @@ pub record Ran {P D I O : Type 0}
   pub writing : Writing
   pub wrote : Wrote writing written written' (text_of schedules.feeds tolds reports)
   pub cause : HasCause Whole writing faults faults'
-  pub status_is : status ≡ status_of writing (wants_memory ending tolds) (went_ill tolds reports)
+  pub status_is : status ≡ status_of writing ending tolds reports
 
 -- no hub was had for want of memory: no port and no door was asked, and nothing was written
 pub record WasNotOpened {P D K : Type 0} (ps ps' : List P) (ds ds' : List D) (out out' : K)

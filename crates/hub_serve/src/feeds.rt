@@ -1,8 +1,5 @@
 //! Ingesters at their ports.
 
-ghost use Rattle.std.specs.Prelude.{◌≡◌};
-ghost use Rattle.hub_serve.specs.Feeds.{IngestsBy};
-
 use feed_port::FeedPort;
 use hub_outside::{Gate, GatePoint};
 use hub_shared::{FeedSeat, Hub, PortReport, ingest_port};
@@ -20,12 +17,12 @@ pub(crate) struct Ingesting<'a, R, G> {
 
 impl<'a, R: Wait, G: Gate, P: FeedPort> PlaceJob<P, FeedSeat, PortReport> for Ingesting<'a, R, G> {
     ghost use Rattle.std.specs.Prelude.{◌≡◌};
-    ghost use Rattle.hub_serve.specs.Feeds.{IngestsBy};
+    ghost use Rattle.hub_serve.specs.Feeds.{ingests_at};
+    ghost use Rattle.hub_serve.specs.Words.{port_words};
 
     ghost accepts = { λ job place port seat report. seat.ties ≡ job.hub.now };
 
-    ghost does = { λ job place port seat report port' seat' report'.
-        IngestsBy seat seat' (P.ahead port) (P.ahead port') (P.faults port) (P.faults port') report' };
+    ghost does = { λ job. ingests_at (port_words P.ahead P.faults) };
 
     /// Behind its last message the ingester passes the gate, if it brought one in.
     fn work(&self, place: usize, port: &mut P, seat: &mut FeedSeat, report: &mut PortReport) {

@@ -18,8 +18,13 @@
 //! the threads, and on `serve_lines` for the lines.
 #![tactic(auto)]
 
+mod closing;
 mod feeds;
 mod naming;
+mod opening;
 mod readers;
+mod running;
+mod telling;
 
+pub use running::run_serve;
 pub use std::alloc::AllocError as NoMemory;

@@ -1,6 +1,7 @@
 //! Readers at their doors.
 
 ghost use Rattle.std.specs.Prelude.{◌≡◌, false};
+ghost use mathlib.Core.List.{IsPrefix};
 ghost use Rattle.hub_history.specs.Told.{history_of};
 ghost use Rattle.hub_shared.specs.Seats.{IsOf};
 
@@ -9,7 +10,7 @@ use board_core::{HubView, Oracle};
 use http_door::{DoorReport, serve_door};
 use hub_outside::{Clock, Door, Gate};
 use place_jobs::PlaceJob;
-use snapshot_cell::{NoMemory, Pass};
+use snapshot_cell::{Ending, NoMemory, Pass};
 use std::alloc::Global;
 use std::marker::{Model, PhantomData};
 use std::sync::Wait;
@@ -43,6 +44,14 @@ impl<H: OfHub> HubPass<H> {
             of: PhantomData,
         }
     }
+
+    /// Knows the whole of the ended history.
+    pub(crate) fn finish(&mut self, ending: &Ending)
+        requires { IsOf ending.now H.ties }
+        ensures { IsPrefix self.old.line.log ending.now.log }
+    {
+        self.pass.finish(ending);
+    }
 }
 
 impl<H: OfHub> Oracle for HubPass<H> {
@@ -68,11 +77,11 @@ impl<H: OfHub> Oracle for HubPass<H> {
     }
 }
 
-/// A reader: its pass, and its clock.
+/// Where a reader stands: its clock, and what it made of its door.
 #[derive(Drop)]
-pub(crate) struct Reader<H: OfHub, C> {
-    pub(crate) pass: HubPass<H>,
+pub(crate) struct Post<C> {
     pub(crate) clock: C,
+    pub(crate) report: DoorReport,
 }
 
 /// Serves the connections of each door.
@@ -82,37 +91,25 @@ pub(crate) struct Serving<'a, R, G> {
     pub(crate) gate: &'a G,
 }
 
-impl<'a, R: Wait, G: Gate, H: OfHub, C: Clock, D: Door> PlaceJob<D, Reader<H, C>, DoorReport>
+impl<'a, R: Wait, G: Gate, H: OfHub, C: Clock, D: Door> PlaceJob<D, HubPass<H>, Post<C>>
     for Serving<'a, R, G>
 {
-    ghost use Rattle.std.specs.Prelude.{false};
-    ghost use Rattle.hub_history.specs.Told.{history_of};
-    ghost use Rattle.http_door.specs.Doors.{ServesDoor};
-    ghost use Rattle.http_door.specs.Visits.{ends, hub};
+    ghost use Rattle.http_door.specs.Visits.{ends};
+    ghost use Rattle.hub_serve.specs.Readers.{serves_at};
+    ghost use Rattle.hub_serve.specs.Words.{door_words};
 
-    ghost accepts = { λ job place door reader report. ⊤ };
+    ghost accepts = { λ job place door pass post. ⊤ };
 
-    ghost does = { λ job place door reader report door' reader' report'.
-        ServesDoor (ends D.In.left D.In.faults D.Out.written D.Out.faults)
-        (D.links door) (D.links door') (D.faults door) (D.faults door')
-        (hub (C.ahead reader.clock) reader.pass.shown.plans (history_of reader.pass.line)
-        reader.pass.reads false)
-        (hub (C.ahead reader'.clock) reader'.pass.shown.plans (history_of reader'.pass.line)
-        reader'.pass.reads false) report' };
+    ghost does = { λ job. serves_at (door_words D.links D.faults)
+        (ends D.In.left D.In.faults D.Out.written D.Out.faults) C.ahead };
 
-    fn work(
-        &self,
-        place: usize,
-        door: &mut D,
-        reader: &mut Reader<H, C>,
-        report: &mut DoorReport,
-    ) {
-        *report = serve_door(
+    fn work(&self, place: usize, door: &mut D, pass: &mut HubPass<H>, post: &mut Post<C>) {
+        post.report = serve_door(
             self.rt,
             self.alloc,
             door,
-            &mut reader.pass,
-            &mut reader.clock,
+            pass,
+            &mut post.clock,
             self.gate,
             place as u32,
         );

@@ -1,0 +1,116 @@
+//! The lines and the status of a run.
+
+ghost use Rattle.std.specs.Prelude.{◌≡◌, length, map};
+ghost use Rattle.serve_lines.specs.declared.pieces.Writing.TheVariants.{Whole};
+ghost use Rattle.serve_lines.specs.Wrote.{Puts, HasCause};
+ghost use Rattle.hub_serve.specs.Runs as run;
+ghost use Rattle.hub_serve.specs.Runs.{feed_lines, text_of};
+ghost use Rattle.hub_serve.specs.Steps.{tolds_of};
+
+use crate::readers::Post;
+use http_door::DoorEnd;
+use hub_outside::Sink;
+use hub_shared::{FeedSeat, PortEnd, PortReport};
+use sched_types::{NamedFeed, Plans};
+use serve_lines::{FeedNumbers, ReaderNumbers, Writing, write_feed, write_readers};
+
+/// Writes a line for each feed, and one for the readers. It takes no memory.
+pub(crate) fn write_lines<K: Sink, C>(
+    out: &mut K,
+    plans: &Plans,
+    seats: &[FeedSeat],
+    reports: &[PortReport],
+    posts: &[Post<C>],
+) -> Writing
+    requires seats { length seats.now ≡ length plans.now.feeds }
+    requires reports { length reports.now ≡ length plans.now.feeds }
+    ensures wrote { Puts Whole result (K.written out.old) (K.written out.new)
+        (text_of plans.now.feeds (tolds_of seats.now reports.now)
+        (map (λ post. post.report) posts.now)) }
+    ensures cause { HasCause Whole result (K.faults out.old) (K.faults out.new) }
+{
+    let mut writing = Writing::Whole;
+    write_feeds(out, &mut writing, plans.feeds(), seats, reports);
+    write_readers(out, &mut writing, sum_of(posts));
+    writing
+}
+
+/// The line of each feed.
+fn write_feeds<K: Sink>(
+    out: &mut K,
+    writing: &mut Writing,
+    feeds: &[NamedFeed],
+    seats: &[FeedSeat],
+    reports: &[PortReport],
+)
+    requires seats { length seats.now ≡ length feeds.now }
+    requires reports { length reports.now ≡ length feeds.now }
+    ensures wrote { Puts writing.old writing.new (K.written out.old) (K.written out.new)
+        (feed_lines feeds.now (tolds_of seats.now reports.now)) }
+    ensures cause { HasCause writing.old writing.new (K.faults out.old) (K.faults out.new) }
+{
+    for (i, feed) in feeds.iter().enumerate() {
+        let numbers = numbers_of(&seats[i], reports[i]);
+        write_feed(out, writing, feed.name.as_str(), numbers);
+    }
+}
+
+/// What is told of a feed.
+fn numbers_of(seat: &FeedSeat, report: PortReport) -> FeedNumbers
+    ensures { result ≡ run.numbers_of (record { report = report; last = seat.now.last }) }
+{
+    FeedNumbers {
+        accepted: report.accepted,
+        refused: report.refused,
+        starved: report.starved,
+        too_long: report.too_long,
+        last: seat.last(),
+    }
+}
+
+/// What all readers did.
+fn sum_of<C>(posts: &[Post<C>]) -> ReaderNumbers
+    ensures { result ≡ run.sum_of (map (λ post. post.report) posts.now) }
+{
+    let mut sum = ReaderNumbers {
+        readers: posts.len() as u64,
+        connections: 0,
+        responses: 0,
+        starved: 0,
+    };
+    for post in posts {
+        sum.connections = sum.connections.saturating_add(post.report.connections);
+        sum.responses = sum.responses.saturating_add(post.report.responses);
+        sum.starved = sum.starved.saturating_add(post.report.starved);
+    }
+    sum
+}
+
+/// The exit status of a run: 5 where the output failed, else 6 where memory was wanting to close the hub
+/// or for an ingester's buffer, else 1 where a port or a door failed or a message was too long, else 0.
+pub(crate) fn status_of<C>(
+    writing: Writing,
+    closed: bool,
+    reports: &[PortReport],
+    posts: &[Post<C>],
+) -> u8
+    ensures { result ≡ run.status_by writing closed reports.now
+        (map (λ post. post.report) posts.now) }
+{
+    if writing == Writing::Cut {
+        5
+    } else if !closed || reports.iter().any(|report| report.end == PortEnd::NoMemory) {
+        6
+    } else if reports.iter().any(is_ill) || posts.iter().any(|post| post.report.end == DoorEnd::Failed) {
+        1
+    } else {
+        0
+    }
+}
+
+/// Whether the port failed, or had a message that was too long.
+fn is_ill(report: &PortReport) -> bool
+    ensures { result ≡ run.is_ill report.now }
+{
+    report.end == PortEnd::PortFault || report.too_long > 0
+}
