@@ -1,9 +1,9 @@
 -- Going over what a feed holds: by its entities, and by the ids of its alerts.
-use Rattle.std.proofs.Common.{◌≡◌, ◌≤◌, ℕ, zero, suc, length, take, arith, Bool, true, false, cond, Option, Some, None, List, [], ◌∷◌, ◌++◌, map, drop, get_or, refl, sym, ap, ◌∙◌, append-nil}
-use Rattle.std.specs.Prelude.{◌&&◌, T, ⊤, if◌then◌else◌}
-use Rattle.std.specs.List.{flat_map, filter_map}
+use Rattle.std.proofs.Common.{◌≡◌, ◌≤◌, ℕ, zero, suc, length, take, arith, false, cond, Option, Some, None, List, [], ◌∷◌, ◌++◌, map, drop, get_or, refl, sym, ap, ◌∙◌, append-nil}
+use Rattle.std.specs.Prelude.{T, ⊤, if◌then◌else◌}
+use Rattle.std.specs.List.{flat_map}
 use Rattle.std.specs.Option.{is_some}
-use Rattle.std.specs.Ordering.{is_lt, is_eq, eq_by_cmp}
+use Rattle.std.specs.Ordering.{is_lt, is_eq}
 use Rattle.std.specs.declared.cmp.Ordering.{Ordering}
 use Rattle.std.specs.declared.cmp.Ordering.TheVariants.{Less, Equal, Greater}
 use Rattle.std.specs.FinMap.{find, is_sorted}
@@ -55,17 +55,19 @@ less_not_equal Greater p = absurd p
 
 behind : (e : Change) (es part : List Change) → T (below_all id_cmp e.0 part) → EachFound es part → EachFound (e ∷ es) part
 behind e es [] below found = tt
-behind e es (x ∷ part) below found =
-    (ap (λ b. cond b (Some e.1) (find id_cmp x.0 es))
-    ((eq_by_cmp_equiv nat_list_cmp_total).symm x.0 e.0 ∙ less_not_equal _ (left _ _ below))
-    ∙ found.0,
-    behind e es part (right _ _ below) found.1)
+behind e es (x ∷ part) below found = (
+  ap (λ b. cond b (Some e.1) (find id_cmp x.0 es))
+      ((eq_by_cmp_equiv nat_list_cmp_total).symm x.0 e.0 ∙ less_not_equal _ (left _ _ below))
+      ∙ found.0,
+  behind e es part (right _ _ below) found.1,
+)
 
 each_found : (es : List Change) → T (is_sorted id_cmp es) → EachFound es es
 each_found [] h = tt
-each_found (e ∷ es) h =
-    (ap (λ b. cond b (Some e.1) (find id_cmp e.0 es)) ((eq_by_cmp_equiv nat_list_cmp_total).refl e.0),
-    behind e es es (left _ _ h) (each_found es (right _ _ h)))
+each_found (e ∷ es) h = (
+  ap (λ b. cond b (Some e.1) (find id_cmp e.0 es)) ((eq_by_cmp_equiv nat_list_cmp_total).refl e.0),
+  behind e es es (left _ _ h) (each_found es (right _ _ h)),
+)
 
 each_keyed : (es : List Change) → map (λ s. (s.entity.id, s)) (map (λ change. change.1) es) ≡ es → EachKeyed es
 each_keyed [] same = tt

@@ -1,7 +1,7 @@
 -- The lists that are defined are made of those alerts that are active, and of all feeds.
-use Rattle.std.proofs.Common.{◌≡◌, ℕ, zero, suc, ◌+◌, ◌<◌, arith, take, Bool, true, false, ◌&&◌, nat_eq, Option, Some, None, List, [], ◌∷◌, ◌++◌, length, map, get_or, slice_get, refl, sym, ap, ◌∙◌, subst}
+use Rattle.std.proofs.Common.{◌≡◌, ℕ, zero, suc, ◌+◌, ◌<◌, arith, take, Bool, true, false, ◌&&◌, nat_eq, Option, Some, None, List, [], ◌∷◌, ◌++◌, length, map, get_or, refl, sym, ap, ◌∙◌, subst}
 use Rattle.std.specs.Prelude.{Result, Ok, Err, IfOk, if◌then◌else◌, ◌==◌}
-use Rattle.std.specs.List.{flat_map, filter_map, cons_option, All}
+use Rattle.std.specs.List.{flat_map, filter_map, cons_option}
 use Rattle.std.specs.Global.{Vec}
 use Rattle.std.specs.Prelude.{IsErrAnd}
 use Rattle.std.specs.Option.{option_map, option_and_then}
@@ -23,7 +23,7 @@ use Rattle.board_defs.specs.Views.{FeedKept, HubKept, StandsFor, folds_of}
 use Rattle.alert_defs.specs.declared.rows.AlertRow.{AlertRow}
 use Rattle.alert_defs.specs.declared.rows.Unmatched.{Unmatched}
 use Rattle.alert_defs.specs.Touching.{Touched}
-use Rattle.alert_defs.specs.Alerts.{is_active, concerns, alert_row, listed, over_feeds, row_of_alert, row_of_change, alerts_at, alerts_in, alerts_beside, alerts, touched_as}
+use Rattle.alert_defs.specs.Alerts.{is_active, concerns, alert_row, listed, over_feeds, row_of_alert, row_of_change, alerts_at, alerts_beside, alerts, touched_as}
 use Rattle.alert_defs.specs.Unmatched.{unmatched_in, unmatched_of, unmatched}
 use Rattle.alert_select.specs.declared.subject.Subject.{Subject}
 use Rattle.alert_select.specs.Subjects.{touched_by}

@@ -1,5 +1,5 @@
 -- What of a stored entity is about no run.
-use Rattle.std.specs.Prelude.{ℕ, List, ◌++◌, if◌then◌else◌, ◌==◌, []}
+use Rattle.std.specs.Prelude.{ℕ, List, if◌then◌else◌, ◌==◌, []}
 use Rattle.std.specs.List.{flat_map}
 use Rattle.feed_defs.specs.declared.history.Stored.{Stored}
 use Rattle.feed_defs.specs.History.{Change}

@@ -27,11 +27,7 @@ use std::alloc::Global;
 /// rows of its board, by feed and then by id.
 ///
 /// It looks at the alerts alone, and asks for the rows of the board only where one of them is active.
-pub fn alerts(
-    alloc: Global,
-    view: &HubView,
-    query: &BoardQuery,
-) -> Result<Vec<AlertRow>, RowsFault>
+pub fn alerts(alloc: Global, view: &HubView, query: &BoardQuery) -> Result<Vec<AlertRow>, RowsFault>
     requires plan { query.now.plan < length view.now.plans.plans }
     requires moment { query.now.at ≤ last_moment }
     ensures alerts { AreAlerts view.now.plans (folds_of view.now) query.now result }

@@ -18,7 +18,7 @@ mod tests;
 mod without_run;
 
 pub use alert_defs::{AlertRow, Unmatched};
-pub use concerning::alerts;
 pub use board_core::RowsFault;
+pub use concerning::alerts;
 pub use std::alloc::AllocError as NoMemory;
 pub use without_run::unmatched;

@@ -79,13 +79,7 @@ fn push_cells<'a>(
         ++ line_of_fields (feed.now ∷ row.now.id ∷ cause.now ∷ effect.now ∷ row.now.header ∷ [])) }
 {
     push_line(
-        &[
-            feed,
-            row.id.as_str(),
-            cause,
-            effect,
-            row.header.as_str(),
-        ],
+        &[feed, row.id.as_str(), cause, effect, row.header.as_str()],
         out,
     )
 }

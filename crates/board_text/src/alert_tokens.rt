@@ -70,11 +70,7 @@ fn put_alerts(
 }
 
 /// Writes the member with the rows.
-fn put_rows(
-    feeds: &[NamedFeed],
-    rows: &[AlertRow],
-    writer: &mut Writer,
-) -> Result<(), NoMemory>
+fn put_rows(feeds: &[NamedFeed], rows: &[AlertRow], writer: &mut Writer) -> Result<(), NoMemory>
     ensures tokens { OnOk result (writer.new.tokens ≡ writer.old.tokens
         ++ (key (codes "alerts") ∷ begin_array
         ∷ (flat_map (alert_tokens feeds.now) rows.now ++ end_array ∷ []))) }
@@ -87,11 +83,7 @@ fn put_rows(
 }
 
 /// Writes the rows, one object each.
-fn put_each(
-    feeds: &[NamedFeed],
-    rows: &[AlertRow],
-    writer: &mut Writer,
-) -> Result<(), NoMemory>
+fn put_each(feeds: &[NamedFeed], rows: &[AlertRow], writer: &mut Writer) -> Result<(), NoMemory>
     ensures tokens { OnOk result
         (writer.new.tokens ≡ writer.old.tokens ++ flat_map (alert_tokens feeds.now) rows.now) }
     ensures before { writer.new.before ≡ writer.old.before }

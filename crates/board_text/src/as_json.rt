@@ -97,7 +97,11 @@ pub(crate) fn put_text(name: &str, text: &str, writer: &mut Writer) -> Result<()
 }
 
 /// Writes a member whose value is a number, or null where it is absent.
-pub(crate) fn put_number(name: &str, number: Option<i64>, writer: &mut Writer) -> Result<(), NoMemory>
+pub(crate) fn put_number(
+    name: &str,
+    number: Option<i64>,
+    writer: &mut Writer,
+) -> Result<(), NoMemory>
     ensures tokens { OnOk result
         (writer.new.tokens ≡ writer.old.tokens ++ number_member name.now number) }
     ensures before { writer.new.before ≡ writer.old.before }

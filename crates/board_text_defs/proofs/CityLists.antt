@@ -1,5 +1,5 @@
 -- Lists of the small city: each line computes.
-use Rattle.std.specs.Prelude.{◌≡◌, ℕ, List, [], ◌∷◌, ◌++◌, Some, None, Option, true, false, refl, codes}
+use Rattle.std.specs.Prelude.{◌≡◌, ℕ, List, [], ◌∷◌, Some, None, Option, false, refl, codes}
 use Rattle.std.specs.Fmt.{digits}
 use Rattle.json.specs.Print.{escape_byte, print_from}
 use Rattle.rt_types.specs.declared.message.Entity.{Entity}
@@ -17,11 +17,11 @@ use Rattle.board_defs.specs.Rows.{all_runs, run_rows, board_at, board}
 use Rattle.alert_defs.specs.Alerts.{is_active, concerns, over_feeds, alerts}
 use Rattle.alert_defs.specs.Touching.{touches}
 use Rattle.alert_defs.specs.Unmatched.{unmatched}
-use Rattle.board_text_defs.specs.Lines.{tab, between_tabs}
+use Rattle.board_text_defs.specs.Lines.{between_tabs}
 use Rattle.board_text_defs.specs.Alerts.{alerts_text, alerts_json}
 use Rattle.board_text_defs.specs.Status.{status_text, status_lines}
 use Rattle.board_text_defs.specs.UnmatchedText.{unmatched_text}
-use Rattle.board_text_defs.specs.Answers.{BoardAsked, Question, answer_to, alerts_answer, unmatched_answer, schedule_number}
+use Rattle.board_text_defs.specs.Answers.{Question, answer_to, alerts_answer, unmatched_answer, schedule_number}
 use Rattle.board_text_defs.specs.Answers.Question.{AlertsOf, UnmatchedOf, StatusOf}
 
 -- the city with the feed a

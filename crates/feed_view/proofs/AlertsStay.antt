@@ -1,9 +1,8 @@
 -- A message without alerts that replaces none leaves the alerts of a feed as they were.
 use Rattle.std.proofs.Common.{◌≡◌, ℕ, List, [], ◌∷◌, map, Bool, true, false, cond, Option, Some, None, refl, sym, ap, ◌∙◌, subst}
 use Rattle.std.specs.Prelude.{◌&&◌, T, filter, fold, not, if◌then◌else◌, Result, Ok, Err, IfOk}
-use Rattle.std.specs.List.{filter_map, list_all}
+use Rattle.std.specs.List.{list_all}
 use Rattle.std.specs.Option.{is_some, is_none}
-use Rattle.std.specs.Str.{bytes_eq}
 use Rattle.std.specs.Ordering.{is_lt, is_eq, eq_by_cmp}
 use Rattle.std.specs.declared.cmp.Ordering.{Ordering}
 use Rattle.std.specs.declared.cmp.Ordering.TheVariants.{Less, Equal, Greater}
@@ -16,7 +15,7 @@ use Rattle.feed_defs.specs.declared.history.Stored.{Stored}
 use Rattle.feed_defs.specs.History.{Change, is_full, is_kept, stamp_of, changes_in, changes_with, changes_without, entities_after}
 use Rattle.feed_defs.proofs.Applied.{sorted_filter, sorted_changed, find-without}
 use Rattle.feed_defs.proofs.Kept.{id_cmp, left, right}
-use Rattle.alert_select.specs.Ids.{alert_id, alert_ids}
+use Rattle.alert_select.specs.Ids.{alert_ids}
 use Rattle.feed_view.specs.Quiet.{has_alert, is_quiet_at, bears_none, replaces_none, stays_quiet}
 
 less_not_equal : (o : Ordering) → T (is_lt o) → is_eq o ≡ false
@@ -116,10 +115,10 @@ fold_stays : (stamp : ℕ) (all : List Change) (items : List Entity) (es : List 
 fold_stays stamp all [] es whole h same bare free = same
 fold_stays stamp all (e ∷ items) es whole h same bare free =
     let none : only (find id_cmp e.id es) ≡ None =
-        sym (find_only e.id es h)
-        ∙ ap (find id_cmp e.id) same
-        ∙ find_only e.id all whole
-        ∙ quiet_none (find id_cmp e.id all) (first_of _ _ free) in
+    sym (find_only e.id es h)
+    ∙ ap (find id_cmp e.id) same
+    ∙ find_only e.id all whole
+    ∙ quiet_none (find id_cmp e.id all) (first_of _ _ free) in
     fold_stays stamp all items (changes_with es (change_by stamp e)) whole (sorted_changed es (change_by stamp e) h)
     (part_stays es (change_by stamp e) h (turned e.alert (first_of _ _ bare)) none ∙ same)
     (rest_of _ _ bare) (rest_of _ _ free)

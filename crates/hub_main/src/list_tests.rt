@@ -57,14 +57,15 @@ fn updates_of_unknown_trips_are_listed(rt: HostRuntime) -> Result<(), Fail> {
     Ok(())
 }
 
+/// The status behind one message without an entity.
+const STATUS_TOLD: &[u8] =
+    b"accepted 1\nstatus 46\nentries\t1\nfeed\taccepted\tlast\tentities\na\t1\t5\t0\n\n";
+
 #[test]
 fn the_status_counts_messages(rt: HostRuntime) -> Result<(), Fail> {
     let script = b"F a\nM a 11\n\x0a\x09\x0a\x032.0\x10\x00\x18\x05\nS\nE\n";
     let got = replayed(rt.alloc(), script)?;
     assert_eq!(rt; got.status, 0);
-    assert!(rt;
-        got.written.as_slice()
-            == b"accepted 1\nstatus 46\nentries\t1\nfeed\taccepted\tlast\tentities\na\t1\t5\t0\n\n"
-    );
+    assert!(rt; got.written.as_slice() == STATUS_TOLD);
     Ok(())
 }

@@ -17,9 +17,7 @@ use alert_defs::AlertRow;
 use board_core::{HubView, RowsFault, rows};
 use board_defs::{BoardQuery, Row};
 use board_lists::{alerts, unmatched};
-use board_text::{
-    alerts_json, alerts_text, board_json, board_text, status_text, unmatched_text,
-};
+use board_text::{alerts_json, alerts_text, board_json, board_text, status_text, unmatched_text};
 use feed_out::combined;
 use rt_types::Text;
 use std::alloc::Global;

@@ -1,7 +1,6 @@
 -- The rows are those of the active alerts that touch what is asked for.
-use Rattle.std.proofs.Common.{◌≡◌, List, ap, sym, ◌∙◌}
+use Rattle.std.proofs.Common.{sym, ◌∙◌}
 use Rattle.board_defs.specs.Views.{folds_of}
-use Rattle.board_lists.specs.Active.{Active, active_from}
 use Rattle.board_lists.proofs.Listing.{none_active, touching_are, refused_too, feeds_are, emptied}
 use Rattle.board_lists.proofs.concerning.alerts_at.Goals as goal
 

@@ -1,7 +1,4 @@
 -- All ids are gone over, and these are those of the alerts.
-use Rattle.std.proofs.Common.{◌++◌, sym, ap, ◌∙◌}
-use Rattle.std.specs.List.{flat_map}
-use Rattle.board_lists.specs.Active.{active_under}
 use Rattle.board_lists.proofs.Entities.{view_found}
 use Rattle.board_lists.proofs.feeds.push_view.Goals as goal
 

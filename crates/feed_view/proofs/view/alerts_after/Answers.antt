@@ -1,9 +1,6 @@
 -- A message that stays quiet leaves the alerts of the table, and so of the next one.
-use Rattle.std.proofs.Common.{◌≡◌, List, ℕ, sym, ap, ◌∙◌, subst}
-use Rattle.std.specs.Prelude.{Result, Ok, Err, IfOk}
-use Rattle.feed_defs.specs.History.{Change}
-use Rattle.alert_select.specs.Ids.{alert_ids}
-use Rattle.feed_view.proofs.AlertsStay.{alerts_stay, kept_then}
+use Rattle.std.proofs.Common.{sym, ◌∙◌}
+use Rattle.feed_view.proofs.AlertsStay.{kept_then}
 use Rattle.feed_view.proofs.view.alerts_after.Goals as goal
 
 pub returns-then-stays_quiet : goal.returns-then-stays_quiet
