@@ -77,7 +77,8 @@ has_kind kind (Some route) = int_eq (pos route.kind) kind
 -- what a trip descriptor is about is the row's run or added trip
 abbrev pub is_trip : Subject → TripRef → Found → Bool
 is_trip (RunOf run) named found = is_run_found run found
-is_trip (AddedTrip trip date route) named found = is_added_found found && is_added_trip trip date named
+is_trip (AddedTrip trip date route) named found =
+    is_added_found found && is_added_trip trip date named
 
 -- ---- selectors
 

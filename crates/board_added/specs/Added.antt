@@ -93,7 +93,8 @@ pub record IsThere (t : Timetable) (r : AddedRow) : Type 0 where
 abbrev pub row_by : Timetable → BoardQuery → ℕ → List ℕ → List ℕ → Option ℕ → ℕ × Call
     → Option BoardRow
 row_by t query stop trip date route (i, call) =
-    if is_asked t stop call.stop && is_within query.at query.span (added_row t trip date route i call)
+    if is_asked t stop call.stop
+    && is_within query.at query.span (added_row t trip date route i call)
     then Some (added_row t trip date route i call) else None
 
 abbrev pub rows_by : Timetable → BoardQuery → ℕ → List ℕ → List ℕ → Option ℕ → List (ℕ × Call)

@@ -74,7 +74,8 @@ pub(crate) fn row_at<'a>(
     requires route { IfSome key.route (λ route. route < length plan.now.routes) }
     requires moment { query.now.at ≤ last_moment }
     ensures value { option_map (as_row plan.now) result
-        ≡ row_by plan.now query.now stop key.entry.trip.now key.entry.date.now key.entry.route (place, call) }
+        ≡ row_by plan.now query.now stop key.entry.trip.now key.entry.date.now key.entry.route
+        (place, call) }
     ensures there { IfSome result (IsThere plan.now) }
 {
     if is_asked(plan, stop, call.stop) && is_within(query.at, query.span, call.leaves) {

@@ -1,16 +1,15 @@
 -- The rows that the code goes over are those that are defined.
-use Rattle.std.proofs.Common.{◌≡◌, ℕ, zero, suc, ◌+◌, ◌-◌, Bool, true, false, ◌&&◌, ◌||◌, cond, Option, Some, None, List, [], ◌∷◌, ◌++◌, length, map, filter, take, slice_get, refl, sym, ap, ◌∙◌, append-nil, append_assoc}
+use Rattle.std.proofs.Common.{◌≡◌, ℕ, zero, suc, ◌+◌, ◌-◌, Bool, true, false, ◌&&◌, ◌||◌, cond, Option, Some, None, List, [], ◌∷◌, ◌++◌, length, map, filter, take, refl, sym, ap, ◌∙◌}
 use Rattle.std.specs.Prelude.{if◌then◌else◌}
-use Rattle.std.specs.List.{filter_map, cons_option, flat_map, list_any, enumerate_from, range_with_len}
+use Rattle.std.specs.List.{cons_option, flat_map, list_any, enumerate_from, range_with_len}
 use Rattle.std.specs.Option.{option_map, option_and_then}
 use Rattle.std.proofs.lemmas.List.Concat.{flat_map-append}
-use Rattle.std.proofs.lemmas.List.Elements.{filter-append}
 use Rattle.std.proofs.lemmas.List.Folds.{flat_map-map}
 use Rattle.sched_types.specs.declared.rows.Place.{Place}
 use Rattle.sched_types.specs.declared.rows.Run.{Run}
 use Rattle.sched_types.specs.Timetable.{Timetable, is_run, places_of}
 use Rattle.board_defs.specs.Choice.{Update, chosen}
-use Rattle.board_defs.specs.Rows.{BoardRow, RunOf, Shown, all_runs, all_rows, run_rows, place_row, row_of, shown_at, departures_of, is_within, is_asked, may_board, stands_at}
+use Rattle.board_defs.specs.Rows.{BoardRow, RunOf, Shown, all_runs, run_rows, place_row, row_of, shown_at, departures_of, is_within, is_asked, may_board, stands_at}
 use Rattle.board_core.specs.Told.{Told, update_for, AreChoices}
 use Rattle.board_core.specs.Departures.{shown_with, in_window, row_by, rows_at, rows_of_run, run_on, rows_on_day, counts_at, calls_at, rows_there}
 use Rattle.board_core.specs.declared.departure.Asked.{Asked}

@@ -10,13 +10,12 @@ use Rattle.std.specs.declared.cmp.Ordering.{Ordering}
 use Rattle.std.proofs.lemmas.Bool.Decides.{nat_tests}
 use Rattle.std.proofs.lemmas.Cmp.{nat_cmp_total, on_total, then_total}
 use Rattle.std.proofs.lemmas.List.Elements.{filter_map-append}
-use Rattle.rt_types.specs.declared.trip_update.TripUpdate.{TripUpdate}
 use Rattle.feed_defs.specs.declared.history.Stored.{Stored}
 use Rattle.feed_defs.specs.History.{Change}
 use Rattle.sched_types.specs.declared.plans.NamedFeed.{NamedFeed}
 use Rattle.sched_types.specs.declared.rows.Run.{Run}
 use Rattle.sched_types.specs.Timetable.{Timetable}
-use Rattle.sched_types.proofs.DepartureOrder.{has, kept}
+use Rattle.sched_types.proofs.DepartureOrder.{kept}
 use Rattle.match_defs.specs.declared.found.Found.{Found}
 use Rattle.match_defs.specs.declared.found.Found.TheVariants as found
 use Rattle.match_defs.specs.Matching.{match_of}
@@ -24,7 +23,6 @@ use Rattle.order.specs.Order.{greatest}
 use Rattle.board_defs.specs.Fold.{FeedFold}
 use Rattle.board_defs.specs.Choice.{Update, update_in, updates_from, is_run_found, is_about, choice_cmp, chosen}
 use Rattle.board_core.specs.Told.{Told, told_by, told_of, told_in, told_stored, told_feed, told_from, run_cmp, key_of, key_told, tells, told_cmp, update_for, AreChoices}
-use Rattle.board_core.specs.declared.candidates.RunKey.{RunKey}
 use Rattle.board_core.proofs.OrderedMap.{map_greatest}
 
 pub run_total : IsTotalOrder run_cmp

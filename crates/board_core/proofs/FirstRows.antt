@@ -1,5 +1,5 @@
 -- The first rows in order are those of the board, and the board is that of the asked stop.
-use Rattle.std.proofs.Common.{◌≡◌, ℕ, zero, suc, ◌<◌, Bool, append-nil, Option, Some, None, List, [], ◌∷◌, ◌++◌, length, map, take, filter, get_or, slice_get, refl, sym, ap, subst, ◌∙◌}
+use Rattle.std.proofs.Common.{◌≡◌, ℕ, zero, suc, ◌<◌, Bool, append-nil, Option, Some, None, List, [], ◌∷◌, ◌++◌, length, map, take, filter, get_or, refl, sym, ap, subst, ◌∙◌}
 use Rattle.std.specs.Prelude.{Result, Ok, Err, IfOk}
 use Rattle.std.specs.List.{All, AllByRecursion, flat_map}
 use Rattle.std.specs.Option.{option_map}
@@ -15,7 +15,7 @@ use Rattle.order.specs.Order.{ordered}
 use Rattle.board_defs.specs.declared.query.BoardQuery.{BoardQuery}
 use Rattle.board_defs.specs.declared.row.Row.{Row}
 use Rattle.board_defs.specs.Choice.{Update, updates_at}
-use Rattle.board_defs.specs.Fold.{FeedFold, fold_of}
+use Rattle.board_defs.specs.Fold.{fold_of}
 use Rattle.board_defs.specs.Rows.{BoardRow, row_cmp, all_runs, run_rows, added_rows, is_within, board_at, board_in, board_of, board, timetable_in, rows}
 use Rattle.board_defs.specs.Views.{FeedKept, HubKept, StandsFor, folds_of}
 use Rattle.alert_defs.specs.Alerts.{touched_as}

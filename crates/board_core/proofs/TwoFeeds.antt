@@ -1,5 +1,5 @@
 -- One timetable with two feeds, for the tests.
-use Rattle.std.proofs.Common.{◌≡◌, ℕ, zero, suc, ◌<◌, Some, None, List, [], ◌∷◌, get_or, slice_get, codes, refl, sym, ap, subst, ◌∙◌, arith, IsTrue}
+use Rattle.std.proofs.Common.{◌≡◌, ℕ, zero, suc, ◌<◌, Some, List, [], ◌∷◌, get_or, slice_get, codes, refl, sym, ap, subst, ◌∙◌, arith, IsTrue}
 use Rattle.text_defs.specs.Names.{is_name}
 use Rattle.sched_types.specs.declared.plans.NamedPlan.{NamedPlan}
 use Rattle.sched_types.specs.declared.plans.NamedFeed.{NamedFeed}

@@ -31,10 +31,12 @@ pub record AreOfBoard (schedules : Schedules) (folds : List FeedFold) (query : B
   pub rows : List BoardRow
   pub defined : board schedules folds query ≡ Some rows
   pub touched : map touched_by subjects ≡ map touched_as rows
-  pub within : (t : Timetable) → timetable_in schedules query.plan ≡ Some t → All (IsWithin t) subjects
+  pub within : (t : Timetable) → timetable_in schedules query.plan ≡ Some t
+      → All (IsWithin t) subjects
 
 -- what the rows that are defined are about; else as the rows themselves are answered
-abbrev pub AreSubjects : Schedules → List FeedFold → BoardQuery → Result (Vec Subject) RowsFault → Type 0
+abbrev pub AreSubjects : Schedules → List FeedFold → BoardQuery
+    → Result (Vec Subject) RowsFault → Type 0
 AreSubjects schedules folds query (Ok answer) = AreOfBoard schedules folds query answer.items
 AreSubjects schedules folds query (Err NoStop) = board schedules folds query ≡ None
 AreSubjects schedules folds query (Err NoMemory) = ⊤

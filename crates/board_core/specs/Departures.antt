@@ -1,5 +1,5 @@
 -- The rows of a board before their texts are made.
-use Rattle.std.specs.Prelude.{◌≡◌, ℕ, ◌<◌, ◌&&◌, Bool, if◌then◌else◌, List, [], ◌++◌, length, map, take, filter, slice_get, Option, Some, None, unwrap_or, IfSome}
+use Rattle.std.specs.Prelude.{◌≡◌, ℕ, ◌<◌, ◌&&◌, Bool, if◌then◌else◌, List, [], ◌++◌, length, map, filter, slice_get, Option, Some, None, unwrap_or, IfSome}
 use Rattle.std.specs.List.{All, filter_map, flat_map, list_any, range_with_len}
 use Rattle.std.specs.Option.{option_map, option_and_then}
 use Rattle.std.specs.Ordering.{int_cmp, nat_cmp, ordering_then}
@@ -9,9 +9,8 @@ use Rattle.sched_types.specs.declared.rows.Place.{Place}
 use Rattle.sched_types.specs.declared.rows.Run.{Run}
 use Rattle.sched_types.specs.Timetable.{Timetable, is_run, places_of}
 use Rattle.delay_defs.specs.Delays.{states}
-use Rattle.delay_rule.specs.Near.{IsNear, IsNearState}
+use Rattle.delay_rule.specs.Near.{IsNearState}
 use Rattle.match_defs.specs.Matching.{relation_of}
-use Rattle.order.specs.Order.{ordered}
 use Rattle.board_defs.specs.Rows.{BoardRow, RunOf, Shown, as_scheduled, by_relation, is_within, is_asked, may_board, stands_at, departures_of, row_of, route_text, stop_id_of, date_text}
 use Rattle.board_core.specs.Told.{Told, update_for}
 use Rattle.board_core.specs.declared.departure.Asked.{Asked}

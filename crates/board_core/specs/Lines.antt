@@ -9,7 +9,6 @@ use Rattle.sched_types.specs.Timetable.{Timetable}
 use Rattle.board_defs.specs.Rows.{BoardRow, date_text}
 use Rattle.alert_select.specs.declared.subject.Subject.{Subject}
 use Rattle.alert_select.specs.declared.subject.Subject.TheVariants as about
-use Rattle.board_added.specs.declared.row.AddedRow.{AddedRow}
 use Rattle.board_added.specs.Added as added
 use Rattle.board_core.specs.declared.line.Line.{Line}
 use Rattle.board_core.specs.declared.line.Line.TheVariants as line
@@ -66,7 +65,8 @@ date_texts t = map (date_text t) (range_with_len 0 (length t.bases))
 abbrev pub later_cmp : List (List ℕ) → Line → Line → Ordering
 later_cmp dates a b =
     ordering_then (slice_cmp nat_cmp (date_of dates a) (date_of dates b))
-    (ordering_then (bool_cmp (is_added_line a) (is_added_line b)) (nat_cmp (place_of a) (place_of b)))
+    (ordering_then (bool_cmp (is_added_line a) (is_added_line b))
+    (nat_cmp (place_of a) (place_of b)))
 
 abbrev pub line_cmp : Timetable → List (List ℕ) → Line → Line → Ordering
 line_cmp t dates a b =

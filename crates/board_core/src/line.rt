@@ -120,11 +120,7 @@ fn row(alloc: Global, plan: &Plan, line: &Line<'_>) -> Result<Row, NoMemory>
 }
 
 /// The rows of some lines, in their order; or want of memory.
-pub(crate) fn rows_of(
-    alloc: Global,
-    plan: &Plan,
-    lines: &[Line<'_>],
-) -> Result<Vec<Row>, NoMemory>
+pub(crate) fn rows_of(alloc: Global, plan: &Plan, lines: &[Line<'_>]) -> Result<Vec<Row>, NoMemory>
     requires { All (IsInPlan plan.now) lines.now }
     ensures { IfOk result (λ rows. rows.items ≡ map (λ l. (line_row plan.now l).row) lines.now) }
 {

@@ -423,7 +423,15 @@ fn updates_change_the_rows(rt: HostRuntime) -> Result<(), Fail> {
     let alloc = rt.alloc();
     assert!(rt; shows(alloc, said(None, 300), None, 2, &[late(1743314700), OTHER])?);
     // Of two updates with one stamp that of the lower feed number counts.
-    assert!(rt; shows(alloc, said(None, 60), Some(said(None, 120)), 1, &[late(1743314460)])?);
+    assert!(rt;
+        shows(
+            alloc,
+            said(None, 60),
+            Some(said(None, 120)),
+            1,
+            &[late(1743314460)]
+        )?
+    );
     let skipped = Told {
         relation: None,
         delay: None,
@@ -438,7 +446,23 @@ fn updates_change_the_rows(rt: HostRuntime) -> Result<(), Fail> {
         state: RowState::Canceled,
         ..FIRST
     };
-    assert!(rt; shows(alloc, said(Some(TripRelation::Canceled), 300), None, 1, &[row])?);
-    assert!(rt; shows(alloc, said(Some(TripRelation::Deleted), 300), None, 50, &[OTHER])?);
+    assert!(rt;
+        shows(
+            alloc,
+            said(Some(TripRelation::Canceled), 300),
+            None,
+            1,
+            &[row]
+        )?
+    );
+    assert!(rt;
+        shows(
+            alloc,
+            said(Some(TripRelation::Deleted), 300),
+            None,
+            50,
+            &[OTHER]
+        )?
+    );
     Ok(())
 }

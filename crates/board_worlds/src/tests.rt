@@ -17,7 +17,11 @@ fn is_seen(row: &Row, seen: &Seen) -> bool {
         && row.delay == seen.delay
         && row.state == seen.state
         && row.trip.as_str() == TRIPS.get(seen.key.trip as usize).copied().unwrap_or("T9")
-        && row.date.as_str() == DATES.get(seen.key.day as usize).copied().unwrap_or("20250401")
+        && row.date.as_str()
+            == DATES
+                .get(seen.key.day as usize)
+                .copied()
+                .unwrap_or("20250401")
         && STOPS.get(seen.stop as usize).copied() == Some(row.platform.as_str())
         && row.route.as_str() == if seen.key.is_added { "" } else { "7" }
         && row.headsign.as_str() == if seen.key.is_added { "" } else { "Hill" }
@@ -55,7 +59,11 @@ fn is_about(subject: &Subject<'_>, seen: &Seen) -> bool {
         Subject::AddedRow(key, stop) => {
             seen.key.is_added
                 && key.trip == TRIPS.get(seen.key.trip as usize).copied().unwrap_or("T9")
-                && key.date == DATES.get(seen.key.day as usize).copied().unwrap_or("20250401")
+                && key.date
+                    == DATES
+                        .get(seen.key.day as usize)
+                        .copied()
+                        .unwrap_or("20250401")
                 && key.route.is_none()
                 && stop == seen.stop
         }
@@ -82,8 +90,13 @@ fn are_about(
         limit: question.limit,
     };
     let subjects = subjects(alloc, view, &query)?;
-    Ok(subjects.len() == seen.len()
-        && subjects.iter().zip(seen).all(|(subject, one)| is_about(subject, one)))
+    Ok(
+        subjects.len() == seen.len()
+            && subjects
+                .iter()
+                .zip(seen)
+                .all(|(subject, one)| is_about(subject, one)),
+    )
 }
 
 /// Whether the board of a stop is what a scan of the world sees there.
@@ -191,6 +204,9 @@ fn boards_are_what_a_scan_sees(rt: HostRuntime) -> Result<(), Fail> {
         }
     }
     assert!(rt; count.scheduled > 500 && count.live > 100, "{count:?}");
-    assert!(rt; count.skipped > 5 && count.canceled > 50 && count.added > 20, "{count:?}");
+    assert!(rt;
+        count.skipped > 5 && count.canceled > 50 && count.added > 20,
+        "{count:?}"
+    );
     Ok(())
 }

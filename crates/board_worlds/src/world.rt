@@ -172,7 +172,11 @@ fn update(
     let day = if dice.one_in(9) { 3 } else { dice.below(3) };
     let mut stops = Vec::new(alloc);
     for _ in 0..1 + dice.below(4) {
-        let call = if is_added { Some(call(dice, day)) } else { None };
+        let call = if is_added {
+            Some(call(dice, day))
+        } else {
+            None
+        };
         stops.push(stop(dice, call))?;
     }
     Ok(MadeUpdate {

@@ -14,6 +14,6 @@ returns-then-is_empty c =
 pub returns : goal.returns
 returns c =
     let both = c.in_ok-push_added.ensures
-        ∙ ap (λ xs. xs ++ map Added c.args.added.now) (c.in_ok-lines.ensures ∙ ap (map Run) c.as_slice-2.ensures.value) in
+    ∙ ap (λ xs. xs ++ map Added c.args.added.now) (c.in_ok-lines.ensures ∙ ap (map Run) c.as_slice-2.ensures.value) in
     both_answered c.args.plan.now c.sound.ensures c.args.runs.items c.args.limit c.requires.runs c.args.added.now c.requires.added c.push_added.new.lines.items both
     c.first_lines.result (λ lines. lines.items) c.first_lines.ensures

@@ -1,5 +1,5 @@
 -- The candidates are in order of their runs, and give with the added trips the lines of the board.
-use Rattle.std.proofs.Common.{map, List, sym, subst}
+use Rattle.std.proofs.Common.{map}
 use Rattle.std.specs.Arc.{arc_value}
 use Rattle.board_defs.specs.Choice.{updates_at}
 use Rattle.board_core.proofs.FirstRows.{become_same, board_is, rows_same}

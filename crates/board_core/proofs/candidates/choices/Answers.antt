@@ -1,5 +1,5 @@
 -- A stable sort puts the candidates in order.
-use Rattle.std.proofs.Common.{ap, sym, map, ◌∙◌, rules}
+use Rattle.std.proofs.Common.{map, ◌∙◌, rules}
 use Rattle.std.specs.Arc.{arc_value}
 use Rattle.std.proofs.lemmas.Fn.{always_returns_same}
 use Rattle.board_core.specs.Told.{key_told}

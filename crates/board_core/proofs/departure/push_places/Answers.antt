@@ -1,6 +1,5 @@
 -- One place more.
-use Rattle.std.proofs.Common.{length, take, ◌-◌, arith}
-use Rattle.std.proofs.lemmas.List.{length-take}
+use Rattle.std.proofs.Common.{length, take, ◌-◌}
 use Rattle.sched_types.specs.declared.rows.Place.{Place}
 use Rattle.board_core.specs.Departures.{shown_by}
 use Rattle.board_core.proofs.Added.{goes_place}

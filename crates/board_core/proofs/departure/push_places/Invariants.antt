@@ -1,7 +1,6 @@
 -- The rows of the places that were gone over were appended.
 use Rattle.std.proofs.Common.{drop}
 use Rattle.std.specs.List.{enumerate_from}
-use Rattle.sched_types.specs.Timetable.{places_of}
 use Rattle.board_core.specs.Departures.{rows_at, shown_by}
 use Rattle.board_core.proofs.Added.{IsLeft}
 use Rattle.board_core.proofs.departure.push_places.Given as goal

@@ -1,7 +1,6 @@
 -- Of the places that are left one counts, where one of all does.
 use Rattle.std.proofs.Common.{◌≡◌, drop}
 use Rattle.std.specs.List.{list_any}
-use Rattle.sched_types.specs.Timetable.{places_of}
 use Rattle.board_core.specs.Departures.{counts_at}
 use Rattle.board_core.proofs.runs.calls_at.Given as goal
 

@@ -1,5 +1,5 @@
 -- One timetable and two feeds.
-use Rattle.std.proofs.Common.{◌∙◌, ap, [], ◌∷◌, List}
+use Rattle.std.proofs.Common.{◌∙◌, ap, [], ◌∷◌}
 use Rattle.sched_types.specs.declared.plans.NamedPlan.{NamedPlan}
 use Rattle.board_core.proofs.TwoFeeds.{schedules_are}
 use Rattle.board_core.proofs.tests.schedules.Goals as goal
