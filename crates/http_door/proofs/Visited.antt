@@ -1,20 +1,18 @@
 -- Where serving a door stands between two links.
-use Rattle.std.proofs.Common.{◌≡◌, ℕ, ◌+◌, ◌≤◌, min, List, [], ◌∷◌, ◌++◌, length, map, drop, slice_get, Option, None, Some, IfSome, refl, sym, ap, ◌∙◌, subst, arith, append-nil, append_assoc, zero-add}
+use Rattle.std.proofs.Common.{◌≡◌, ℕ, ◌+◌, ◌≤◌, List, [], ◌∷◌, ◌++◌, length, drop, slice_get, Option, None, Some, IfSome, refl, sym, ap, ◌∙◌, subst, arith, append-nil, append_assoc, zero-add}
 use Rattle.std.specs.Option.{option_map}
 use Rattle.std.specs.List.{sum_by}
 use Rattle.std.proofs.lemmas.List.{map-append, length-append}
 use Rattle.std.proofs.lemmas.List.Sums.{sum_by-append}
 use Rattle.std.proofs.lemmas.Option.{none-some, same_Some}
-use Rattle.hub_outside.specs.Count.{Rose, last_count}
-use Rattle.hub_outside.specs.declared.doors.DoorAnswer.{DoorAnswer}
-use Rattle.hub_outside.specs.declared.doors.DoorAnswer.TheVariants.{Link, End, Failed}
+use Rattle.hub_outside.specs.Count.{Rose}
+use Rattle.hub_outside.specs.declared.doors.DoorAnswer.TheVariants.{Link, End}
 use Rattle.hub_outside.specs.Doors.{Links, handed_out, given_back, HandsOut, MayGiveBack, GivesBack}
 use Rattle.hub_outside.proofs.Rising.{rose_later}
-use Rattle.http_door.specs.declared.report.DoorEnd.{DoorEnd}
 use Rattle.http_door.specs.declared.report.DoorEnd.TheVariants.{Ended, Failed as DoorFailed}
 use Rattle.http_door.specs.declared.report.DoorReport.{DoorReport}
 use Rattle.http_door.specs.Visits.{Ends, Hub, Visit, IsServed, AreServed}
-use Rattle.http_door.specs.Doors.{taken, returned, LinksMoved, Moved, capped, starved_once, responses_in, starved_in, Counts, EndsSo, ServesDoor}
+use Rattle.http_door.specs.Doors.{taken, returned, LinksMoved, Moved, capped, starved_once, responses_in, starved_in, Counts, ServesDoor}
 
 -- the links so far were served and given back, and the count of faults did not fall
 pub record Visited

@@ -1,5 +1,5 @@
 -- What serving a door does and answers.
-use Rattle.std.specs.Prelude.{◌≡◌, ℕ, ◌+◌, ◌≤◌, min, List, [], ◌++◌, length, map, Option, Some, None, IfSome}
+use Rattle.std.specs.Prelude.{◌≡◌, ℕ, ◌≤◌, min, List, [], ◌++◌, length, map, Option, Some, None, IfSome}
 use Rattle.std.specs.List.{sum_by}
 use Rattle.hub_outside.specs.Count.{Rose, last_count}
 use Rattle.hub_outside.specs.Doors.{Links}

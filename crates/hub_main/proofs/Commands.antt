@@ -12,7 +12,7 @@ use Rattle.text_defs.specs.Cleaned.{line_feed}
 use Rattle.hub_load.specs.Told.{HasCause, IsAsTold, NeedsNoFile, TellsFault, refusal_line}
 use Rattle.hub_load.specs.declared.fault.HubFault.{HubFault}
 use Rattle.hub_load.specs.declared.fault.HubFault.TheVariants.{Refused, FileFault, NoMemory}
-use Rattle.hub_replay.specs.Outcome.{IsReplayStatus, Last, OutcomeOn}
+use Rattle.hub_replay.specs.Outcome.{IsReplayStatus, OutcomeOn}
 use Rattle.serve_defs.specs.Connections.{IsServed, Served}
 use Rattle.script_defs.specs.Output.{Output, replayed}
 use Rattle.script_defs.specs.Record.{Hub, configured, serving, start}
@@ -22,10 +22,10 @@ use Rattle.command_defs.specs.Checks.{check_output, output_of_check}
 use Rattle.command_defs.specs.Commands.{board_output, file_fault_line, found_or_not, output_where_told, replay_output, usage, usage_line, with_schedules}
 use Rattle.command_defs.specs.Hubs.{schedules_at}
 use Rattle.command_defs.specs.Samples.{gen_output, sample_lines}
-use Rattle.hub_main.specs.Offline.{FilesRose, IsDone, IsRefusedWith, LoadFailed, OutcomeOf, PrintsFault, PrintsOutput, UsageOutcome, WritesTold, WritesWhole}
+use Rattle.hub_main.specs.Offline.{WritesLine, FilesRose, IsDone, IsRefusedWith, LoadFailed, OutcomeOf, PrintsFault, PrintsOutput, UsageOutcome, WritesTold, WritesWhole}
 
 -- the line for words that are no command
-pub usage_outcome : (status : ℕ) (output output' : Stream) → Last 2 usage_line status output.told output'.told output.faults output'.faults
+pub usage_outcome : (status : ℕ) (output output' : Stream) → WritesLine usage_line 2 output output' status
     → UsageOutcome output output' status
 usage_outcome status output output' (count, inl (e, wrote)) = record {
   is_status = inl e;
@@ -71,7 +71,7 @@ no_fault status defined (inr (inr d)) e (inr f) = absurd (omega arith)
 
 -- its bytes were written, or a front of them
 pub printed : (defined : Output) (status : ℕ) (output output' : Stream) → IsAnswer defined
-    → Last defined.status defined.written status output.told output'.told output.faults output'.faults
+    → WritesLine defined.written defined.status output output' status
     → PrintsOutput defined output output' status
 printed defined status output output' answer (count, inl (e, wrote)) = record {
   is_status = inl e;
@@ -108,15 +108,15 @@ check_answers (Err line) = inr (inl refl)
 
 -- lines that are told were written, or the line of a refusal
 pub lines_printed : (told : Result (List ℕ) (List ℕ)) (lines : List ℕ) (status : ℕ) (output output' : Stream) → told ≡ Ok lines
-    → Last 0 lines status output.told output'.told output.faults output'.faults → PrintsOutput (output_of_check told) output output' status
+    → WritesLine lines 0 output output' status → PrintsOutput (output_of_check told) output output' status
 lines_printed told lines status output output' is last = rw is (printed (output_of_check (Ok lines)) status output output' (inl refl) last)
 
 pub refusal_printed : (told : Result (List ℕ) (List ℕ)) (line : List ℕ) (status : ℕ) (output output' : Stream) → refusal_line told ≡ Some line
-    → Last 3 line status output.told output'.told output.faults output'.faults → PrintsOutput (output_of_check told) output output' status
+    → WritesLine line 3 output output' status → PrintsOutput (output_of_check told) output output' status
 refusal_printed (Ok lines) line status output output' is last = cc
 refusal_printed (Err words) line status output output' is last =
     let same : line ≡ words ++ line_feed = cc in
-    let here = subst (λ bytes. Last 3 bytes status output.told output'.told output.faults output'.faults) same last in
+    let here = subst (λ bytes. WritesLine bytes 3 output output' status) same last in
     printed (output_of_check (Err words)) status output output' (inr (inl refl)) here
 
 -- a fault that no file has, once it is printed
@@ -387,7 +387,7 @@ told_whole (Some (Gen seed trips messages)) before after status o = none_served 
 
 -- the line that refuses a configuration or a timetable
 refused_printed : (path line : List ℕ) (files files' : FileStore) (status : ℕ) (output output' : Stream) → IsRefusedWith path files line → files.faults ≤ files'.faults
-    → Last 3 line status output.told output'.told output.faults output'.faults
+    → WritesLine line 3 output output' status
     → LoadFailed path files files' output output' status
 refused_printed path line files files' status output output' is files_count (count, inl (e, wrote)) = record {
   is_status = inl e;
@@ -410,7 +410,7 @@ refused_printed path line files files' status output output' is files_count (cou
 
 -- the line of a file that can't be read
 file_fault_printed : (path : List ℕ) (files files' : FileStore) (status : ℕ) (output output' : Stream) → FilesRose files files' → files.faults ≤ files'.faults
-    → Last 4 file_fault_line status output.told output'.told output.faults output'.faults
+    → WritesLine file_fault_line 4 output output' status
     → LoadFailed path files files' output output' status
 file_fault_printed path files files' status output output' rose files_count (count, inl (e, wrote)) = record {
   is_status = inr (inl e);

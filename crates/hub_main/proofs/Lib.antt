@@ -2,3 +2,4 @@ pub mod Commands
 pub mod Asked
 pub mod FirstAnswers
 pub mod Exits
+pub mod Sharing

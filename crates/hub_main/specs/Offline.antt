@@ -1,5 +1,5 @@
 -- What running a command comes to, by the command that the words are.
-use Rattle.std.specs.Prelude.{◌≡◌, ℕ, ◌≤◌, List, [], ◌++◌, All, take, Option, Some, None, IfSome, Result, Ok, Err, ◌⊎◌}
+use Rattle.std.specs.Prelude.{◌≡◌, ℕ, ◌≤◌, ◌<◌, List, [], ◌++◌, All, length, take, Option, Some, None, IfSome, Result, Ok, Err, ◌⊎◌}
 use Rattle.std.specs.Arc.{arc_value}
 use Rattle.std.specs.declared.alloc.Global.{Global}
 use Rattle.std.specs.declared.sync.Arc.{Arc}
@@ -9,7 +9,7 @@ use Rattle.hub_outside.specs.Outside.{FileStore, Outside, Stream}
 use Rattle.hub_load.specs.Told.{refusal_line}
 use Rattle.hub_load.specs.declared.fault.HubFault.{HubFault}
 use Rattle.hub_load.specs.declared.fault.HubFault.TheVariants.{Refused, FileFault, NoMemory}
-use Rattle.hub_replay.specs.Outcome.{Last, ReplayOutcome}
+use Rattle.hub_replay.specs.Outcome.{ReplayOutcome}
 use Rattle.sched_types.specs.Schedules.{Schedules}
 use Rattle.serve_defs.specs.Connections.{Served, IsServed}
 use Rattle.script_defs.specs.Output.{Output}
@@ -27,12 +27,13 @@ abbrev pub IsExitStatus : ℕ → Type 0
 IsExitStatus status = (status ≡ 0) ⊎ (status ≡ 2) ⊎ (status ≡ 3) ⊎ (status ≡ 4) ⊎ (status ≡ 5)
     ⊎ (status ≡ 6) ⊎ (status ≡ 7) ⊎ (status ≡ 8)
 
--- the output grew by those bytes, or by a front of them
+-- the output grew by those bytes, or by fewer of them, from the first on
 abbrev pub Grew : Stream → Stream → List ℕ → Type 0
 Grew before after bytes = Appends before.told after.told bytes
 
 abbrev pub GrewByFront : Stream → Stream → List ℕ → Type 0
-GrewByFront before after bytes = (n : ℕ) × Appends before.told after.told (take n bytes)
+GrewByFront before after bytes =
+    (n : ℕ) × (n < length bytes) × Appends before.told after.told (take n bytes)
 
 -- the output failed, or a file could not be read: the count of faults rose
 abbrev pub OutputRose : Stream → Stream → Type 0
@@ -40,6 +41,12 @@ OutputRose before after = Rose before.faults after.faults
 
 abbrev pub FilesRose : FileStore → FileStore → Type 0
 FilesRose before after = Rose before.faults after.faults
+
+-- bytes were written, with this status, or the output failed in the midst of them
+abbrev pub WritesLine : List ℕ → ℕ → Stream → Stream → ℕ → Type 0
+WritesLine bytes defined output output' status = (output.faults ≤ output'.faults)
+    × ((status ≡ defined) × Grew output output' bytes
+    ⊎ (status ≡ 5) × OutputRose output output' × GrewByFront output output' bytes)
 
 -- words that are no command: the line that says so
 pub record UsageOutcome (output output' : Stream) (status : ℕ) : Type 0 where
@@ -103,9 +110,9 @@ pub record LoadFailed (path : List ℕ) (files files' : FileStore) (output outpu
 -- what printing such a fault comes to: its line was written, or the output failed in the midst of it
 abbrev pub PrintsFault : HubFault → Stream → Stream → ℕ → Type 0
 PrintsFault (Refused line) output output' status =
-    Last 3 line.items status output.told output'.told output.faults output'.faults
+    WritesLine line.items 3 output output' status
 PrintsFault FileFault output output' status =
-    Last 4 file_fault_line status output.told output'.told output.faults output'.faults
+    WritesLine file_fault_line 4 output output' status
 PrintsFault NoMemory output output' status = (status ≡ 6) × (output' ≡ output)
 
 -- a command's one output was written, or a front of it

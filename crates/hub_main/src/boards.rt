@@ -38,7 +38,7 @@ pub(crate) fn load_shared<F: Files>(
 }
 
 /// The same plans with one owner, who may share them.
-fn shared(alloc: Global, plans: Plans) -> Result<Arc<Plans>, HubFault>
+pub(crate) fn shared(alloc: Global, plans: Plans) -> Result<Arc<Plans>, HubFault>
     ensures { IsShare plans result }
 {
     match Arc::new(alloc, plans) {

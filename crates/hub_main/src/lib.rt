@@ -8,6 +8,9 @@
 //! output tell before and after, and by the definitions of the commands' outputs in `command_defs`. [`run_on_system`] runs it on
 //! the system's own outside.
 //!
+//! [`prepare_serve`] reads what `serve` needs before a hub is opened, and writes what is wrong as the
+//! commands do.
+//!
 //! The crate stands on `hub_words` for the words, on `hub_replay` for scripts, on `hub_load` and
 //! `hub_check` for the configuration and the timetables, on `view_answers` for boards, on `hub_gen`
 //! for samples, and on `hub_outside` for everything else.
@@ -15,9 +18,11 @@
 
 mod boards;
 mod offline;
+mod preparing;
 mod system;
 
 pub use offline::run_offline;
+pub use preparing::{Prepared, ServeConf, prepare_serve};
 pub use std::alloc::AllocError as NoMemory;
 pub use system::run_on_system;
 
@@ -31,6 +36,8 @@ mod connection_tests;
 mod hostile_tests;
 #[cfg(test)]
 mod list_tests;
+#[cfg(test)]
+mod prepare_tests;
 #[cfg(test)]
 mod row_tests;
 #[cfg(test)]

@@ -2,13 +2,12 @@
 ghost use Rattle.std.specs.Prelude.{◌≡◌, ◌≤◌, ◌⊎◌, None};
 ghost use Rattle.std.specs.Arc.{arc_value};
 ghost use Rattle.hub_outside.specs.Outside.{file_store, outside, stream};
-ghost use Rattle.hub_replay.specs.Outcome.{Last};
 ghost use Rattle.hub_words.specs.Answer.{asked_seen};
 ghost use Rattle.view_answers.specs.Questions.{MayAsk};
 ghost use Rattle.command_defs.specs.Words.{command_of};
 ghost use Rattle.command_defs.specs.Commands.{board_output, output_where_told};
 ghost use Rattle.command_defs.specs.Samples.{gen_output};
-ghost use Rattle.hub_main.specs.Offline.{BoardOutcome, CheckOutcome, IsExitStatus, MayMake, OutcomeOf, PrintsFault, PrintsOutput, ReadsFiles, ReadsInput, ReplayWithOutcome, UsageOutcome, WritesWhole};
+ghost use Rattle.hub_main.specs.Offline.{BoardOutcome, CheckOutcome, IsExitStatus, MayMake, OutcomeOf, PrintsFault, PrintsOutput, ReadsFiles, ReadsInput, ReplayWithOutcome, UsageOutcome, WritesLine, WritesWhole};
 
 use crate::boards::{board_of, load_shared};
 use hub_check::check;
@@ -173,7 +172,7 @@ fn write_board<K: Sink>(alloc: Global, plans: Arc<Plans>, asked: &BoardAsked<'_>
 }
 
 /// Why there is no hub.
-fn write_fault<K: Sink>(fault: &HubFault, out: &mut K) -> u8
+pub(crate) fn write_fault<K: Sink>(fault: &HubFault, out: &mut K) -> u8
     ensures { PrintsFault fault.now (stream (K.written out.old) (K.faults out.old))
         (stream (K.written out.new) (K.faults out.new)) result }
 {
@@ -217,7 +216,7 @@ fn run_gen<K: Sink>(alloc: Global, seed: u64, trips: u32, messages: u32, out: &m
 }
 
 /// Words that are no command.
-fn run_usage<K: Sink>(out: &mut K) -> u8
+pub(crate) fn run_usage<K: Sink>(out: &mut K) -> u8
     ensures { UsageOutcome (stream (K.written out.old) (K.faults out.old))
         (stream (K.written out.new) (K.faults out.new)) result }
 {
@@ -226,8 +225,8 @@ fn run_usage<K: Sink>(out: &mut K) -> u8
 
 /// Writes lines, and nothing else. The status is the given one, unless the output fails.
 fn write_line<K: Sink>(line: &[u8], status: u8, out: &mut K) -> u8
-    ensures { Last status line.now result
-        (K.written out.old) (K.written out.new) (K.faults out.old) (K.faults out.new) }
+    ensures { WritesLine line.now status (stream (K.written out.old) (K.faults out.old))
+        (stream (K.written out.new) (K.faults out.new)) result }
 {
     match write_all(out, line) {
         Ok(()) => status,

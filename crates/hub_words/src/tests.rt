@@ -1,6 +1,6 @@
 //! Each command and each refusal, with ample memory: want of memory may come in place of any
 //! answer, so that no contract refuses a reader that only says so.
-use crate::{BoardAsked, Command, WordsFault, read_words};
+use crate::{BoardAsked, Command, WordsFault, read_words, serve_path};
 use rt_types::Text;
 use std::alloc::Global;
 use std::test::Fail;
@@ -222,5 +222,15 @@ fn refusals(rt: HostRuntime) -> Result<(), Fail> {
     for words in refused {
         assert!(rt; is_usage(alloc, words)?);
     }
+    Ok(())
+}
+
+#[test]
+fn server_has_words_of_its_own(rt: HostRuntime) -> Result<(), Fail> {
+    let alloc = rt.alloc();
+    let words = texts(alloc, &["serve", "hub.toml"])?;
+    assert_eq!(rt; serve_path(&words), Some("hub.toml"));
+    let words = texts(alloc, &["serve", "-c"])?;
+    assert_eq!(rt; serve_path(&words), None);
     Ok(())
 }

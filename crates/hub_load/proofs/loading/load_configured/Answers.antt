@@ -1,9 +1,6 @@
 -- The configuration's fault, want of memory for its copy, or its timetables and feeds beside it.
-use Rattle.std.proofs.Common.{◌≡◌, ◌∙◌, ap, map, true, sym, subst, Result}
-use Rattle.std.specs.List.{list_all}
-use Rattle.conf_defs.specs.Right.{IsLegal, has_window}
-use Rattle.conf_defs.specs.declared.conf.HubConf.{HubConf}
-use Rattle.command_defs.specs.Hubs.{configured_at, named_feed}
+use Rattle.std.proofs.Common.{Result}
+use Rattle.command_defs.specs.Hubs.{configured_at}
 use Rattle.hub_load.specs.Configuring.{configured_seen}
 use Rattle.hub_load.specs.Told.{IsAsTold}
 use Rattle.hub_load.specs.declared.fault.HubFault.{HubFault}
