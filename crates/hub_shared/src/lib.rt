@@ -19,6 +19,8 @@
 
 mod closing;
 mod feeding;
+#[cfg(test)]
+mod feeding_tests;
 mod hub;
 mod ingesting;
 mod locked;

@@ -1,0 +1,196 @@
+//! All that a port hands in, taken in by a hub of one feed.
+
+ghost use Rattle.std.specs.Prelude.{◌≡◌, ◌<◌, ◌≤◌, length, vec_len, IfOk, None};
+ghost use Rattle.std.specs.Arc.{arc_value};
+ghost use Rattle.std.specs.List.{All};
+ghost use Rattle.feed_port.specs.Memory.{message_faults};
+ghost use Rattle.feed_defs.specs.History.{longest_message};
+ghost use Rattle.hub_outside.specs.Buffer.{room_of};
+ghost use Rattle.feed_port.specs.Ports.{Answers, GoesOnToTell, HasPortCause};
+
+use crate::{
+    FeedSeat, Hub, IngestReport, NoMemory, Opened, PortEnd, close_hub, ingest_all, open_hub,
+};
+use board_core::Oracle;
+use feed_port::{FeedPort, MemoryPort, PortAnswer};
+use hub_outside::Buf;
+use sched_types::{NamedFeed, NamedPlan, Plan, PlanName, Plans};
+use snapshot_cell::Pass;
+use std::alloc::Global;
+use std::sync::{Arc, Wait};
+use std::test::Fail;
+
+/// A message of stamp 5 without entities.
+const FIVE: [u8; 11] = [
+    0x0a, 0x09, 0x0a, 0x03, b'2', b'.', b'0', 0x10, 0x00, 0x18, 0x05,
+];
+
+/// A message of stamp 1743314000 with one trip update.
+const UPDATE: [u8; 47] = [
+    0x0a, 0x0d, 0x0a, 0x03, 0x32, 0x2e, 0x30, 0x10, 0x00, 0x18, 0xd0, 0xb8, 0xa3, 0xbf, 0x06, 0x12,
+    0x1e, 0x0a, 0x01, 0x75, 0x1a, 0x19, 0x0a, 0x0e, 0x0a, 0x02, 0x54, 0x31, 0x1a, 0x08, 0x32, 0x30,
+    0x32, 0x35, 0x30, 0x33, 0x33, 0x30, 0x12, 0x07, 0x08, 0x01, 0x1a, 0x03, 0x08, 0xac, 0x02,
+];
+
+/// A feed of the first timetable.
+fn feed(alloc: Global, name: &str) -> Result<NamedFeed, NoMemory>
+    ensures { IfOk result (λ feed. feed ≡ record { name = name.now; plan = 0 }) }
+{
+    Ok(NamedFeed {
+        name: PlanName::new(alloc, name)?,
+        plan: 0,
+    })
+}
+
+/// The feed `a` of a timetable without rows.
+fn one_feed(alloc: Global) -> Result<Arc<Plans>, NoMemory>
+    ensures { IfOk result (λ plans. length (arc_value plans).feeds ≡ 1) }
+{
+    let plans = vec![in alloc;
+        NamedPlan {
+            name: PlanName::new(alloc, "plain")?,
+            prefix: PlanName::new(alloc, "")?,
+            plan: Plan::plain(alloc),
+        },
+    ]?;
+    let feeds = vec![in alloc; feed(alloc, "a")?]?;
+    Ok(Arc::new(alloc, Plans::new(plans, feeds))?)
+}
+
+/// A port of these three messages, of which the asks of those numbers fail.
+fn port_of(alloc: Global, messages: [&[u8]; 3], failing: Vec<u64>) -> Result<MemoryPort, NoMemory> {
+    let [first, second, third] = messages;
+    let messages = vec![in alloc;
+        Vec::from_slice(alloc, first)?,
+        Vec::from_slice(alloc, second)?,
+        Vec::from_slice(alloc, third)?,
+    ]?;
+    Ok(MemoryPort::new(messages, failing))
+}
+
+/// What a report tells: how many were accepted, refused, starved and too long, and the last stamp; and
+/// the end.
+fn told(report: &IngestReport) -> ([u64; 5], PortEnd) {
+    let numbers = [
+        report.accepted,
+        report.refused,
+        report.starved,
+        report.too_long,
+        report.seat.last(),
+    ];
+    (numbers, report.end)
+}
+
+/// Takes in all that the port hands in, and ends the hub; what the report told, and how many messages
+/// the ended hub has.
+fn run<R: Wait, P: FeedPort>(
+    rt: &R,
+    alloc: Global,
+    hub: Hub,
+    seats: Vec<FeedSeat>,
+    port: &mut P,
+) -> Option<(([u64; 5], PortEnd), u64)>
+    requires some { 0 < vec_len seats }
+    requires ties { All (λ seat. seat.ties ≡ hub) seats.items }
+{
+    let mut seats = seats;
+    let Some(seat) = seats.pop() else {
+        unreachable!()
+    };
+    let report = ingest_all(rt, alloc, &hub, seat, port);
+    let told = told(&report);
+    let Ok(ending) = close_hub(rt, hub, &mut [report.seat]) else {
+        return None;
+    };
+    let number = ending.number();
+    ending.end(rt);
+    Some((told, number))
+}
+
+/// The same of a hub that is opened, with a port of these messages.
+fn run_of<R: Wait>(
+    rt: &R,
+    alloc: Global,
+    messages: [&[u8]; 3],
+    failing: Vec<u64>,
+) -> Option<(([u64; 5], PortEnd), u64)> {
+    let mut port = port_of(alloc, messages, failing).ok()?;
+    let Ok(opened) = open_hub(rt, alloc, one_feed(alloc).ok()?, 1) else {
+        return None;
+    };
+    let Opened { hub, seats, passes } = opened;
+    drop(passes);
+    run(rt, alloc, hub, seats, &mut port)
+}
+
+#[test]
+fn a_second_message_of_a_stamp_is_refused(rt: HostRuntime) -> Result<(), Fail> {
+    let told = run_of(&rt, rt.alloc(), [&FIVE, &FIVE, &UPDATE], Vec::new(rt.alloc()));
+    assert_eq!(rt; told, Some((([2, 1, 0, 0, 1_743_314_000], PortEnd::Ended), 2)));
+    Ok(())
+}
+
+#[test]
+fn a_port_that_fails_is_asked_no_more(rt: HostRuntime) -> Result<(), Fail> {
+    let told = run_of(&rt, rt.alloc(), [&FIVE, &UPDATE, &FIVE], vec![in rt.alloc(); 2]?);
+    assert_eq!(rt; told, Some((([1, 0, 0, 0, 5], PortEnd::PortFault), 1)));
+    Ok(())
+}
+
+/// A port that looks at the hub at each ask, and writes down how many messages it has: a digit for each
+/// ask.
+#[derive(Drop)]
+struct Watching {
+    inner: MemoryPort,
+    pass: Pass,
+    seen: u64,
+}
+
+impl FeedPort for Watching {
+    ghost use Rattle.std.specs.Prelude.{None};
+    ghost use Rattle.feed_port.specs.Memory.{message_faults};
+
+    ghost ahead = { λ _. None };
+
+    ghost faults = { λ port. message_faults port.inner };
+
+    fn next(&mut self, into: &mut Buf) -> PortAnswer {
+        let digit = self.pass.look().unwrap_or(9);
+        self.seen = self.seen.wrapping_mul(10).wrapping_add(digit);
+        self.inner.next(into)
+    }
+}
+
+/// What a watching port saw, of two messages.
+fn watched<R: Wait>(rt: &R, alloc: Global) -> Option<u64> {
+    let messages = vec![in alloc;
+        Vec::from_slice(alloc, &FIVE).ok()?,
+        Vec::from_slice(alloc, &UPDATE).ok()?,
+    ]
+    .ok()?;
+    let inner = MemoryPort::new(messages, Vec::new(alloc));
+    let Ok(opened) = open_hub(rt, alloc, one_feed(alloc).ok()?, 1) else {
+        return None;
+    };
+    let Opened {
+        hub,
+        seats,
+        mut passes,
+    } = opened;
+    let Some(pass) = passes.pop() else {
+        unreachable!()
+    };
+    let mut port = Watching {
+        inner,
+        pass,
+        seen: 7,
+    };
+    run(rt, alloc, hub, seats, &mut port)?;
+    Some(port.seen)
+}
+
+#[test]
+fn each_ask_comes_behind_what_was_handed_in(rt: HostRuntime) -> Result<(), Fail> {
+    assert_eq!(rt; watched(&rt, rt.alloc()), Some(7012));
+    Ok(())
+}
