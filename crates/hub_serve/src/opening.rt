@@ -29,7 +29,7 @@ pub(crate) fn port_reports(alloc: Global, count: usize) -> Result<Vec<PortReport
 }
 
 /// A post for each clock, in their order, of doors that were asked nothing.
-pub(crate) fn posts_of<C>(alloc: Global, clocks: Vec<C>) -> Result<Vec<Post<C>>, NoMemory>
+pub(crate) fn posts_of<C: Drop>(alloc: Global, clocks: Vec<C>) -> Result<Vec<Post<C>>, NoMemory>
     ensures { IfOk result (λ posts. map (λ post. post.clock) posts.items ≡ clocks.items) }
 {
     let mut posts = Vec::with_capacity(alloc, clocks.len())?;
