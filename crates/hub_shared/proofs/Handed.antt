@@ -112,6 +112,7 @@ module _ (first old new : SeatSeen) (given : List Given) (bytes : List ℕ) (tal
   } where
     history : history_at new.receipt ≡ history_of receipt
     history = ap (λ seat. history_at seat.receipt) a.taken.seat
+
     newer : newer_of first.last (judged_of (with_one false)) ≡ accepted_so_far ++ a.message ∷ []
     newer = newer_with ∙ ap (λ ms. accepted_so_far ++ ms) (newer_one old.last bytes a.message a.judged)
 

@@ -125,14 +125,27 @@ fn run_of<R: Wait>(
 
 #[test]
 fn a_second_message_of_a_stamp_is_refused(rt: HostRuntime) -> Result<(), Fail> {
-    let told = run_of(&rt, rt.alloc(), [&FIVE, &FIVE, &UPDATE], Vec::new(rt.alloc()));
-    assert_eq!(rt; told, Some((([2, 1, 0, 0, 1_743_314_000], PortEnd::Ended), 2)));
+    let told = run_of(
+        &rt,
+        rt.alloc(),
+        [&FIVE, &FIVE, &UPDATE],
+        Vec::new(rt.alloc()),
+    );
+    assert_eq!(rt;
+        told,
+        Some((([2, 1, 0, 0, 1_743_314_000], PortEnd::Ended), 2))
+    );
     Ok(())
 }
 
 #[test]
 fn a_port_that_fails_is_asked_no_more(rt: HostRuntime) -> Result<(), Fail> {
-    let told = run_of(&rt, rt.alloc(), [&FIVE, &UPDATE, &FIVE], vec![in rt.alloc(); 2]?);
+    let told = run_of(
+        &rt,
+        rt.alloc(),
+        [&FIVE, &UPDATE, &FIVE],
+        vec![in rt.alloc(); 2]?,
+    );
     assert_eq!(rt; told, Some((([1, 0, 0, 0, 5], PortEnd::PortFault), 1)));
     Ok(())
 }

@@ -10,13 +10,7 @@ use std::thread::{Threads, join_mut};
 /// Does the job at each place of three slices of one length, whose first place has the number `first`.
 /// Each place has a thread of its own where one can be had.
 #[cycle(places)]
-pub fn each_place<
-    R: Threads + Sync,
-    A: Send,
-    B: Send,
-    C: Send,
-    J: PlaceJob<A, B, C> + Sync,
->(
+pub fn each_place<R: Threads + Sync, A: Send, B: Send, C: Send, J: PlaceJob<A, B, C> + Sync>(
     rt: &R,
     job: &J,
     first: usize,
@@ -43,13 +37,7 @@ pub fn each_place<
 /// Does the job at a place, beside those that follow. What the two threads require is what this function
 /// is given.
 #[cycle(places)]
-fn first_and_rest<
-    R: Threads + Sync,
-    A: Send,
-    B: Send,
-    C: Send,
-    J: PlaceJob<A, B, C> + Sync,
->(
+fn first_and_rest<R: Threads + Sync, A: Send, B: Send, C: Send, J: PlaceJob<A, B, C> + Sync>(
     rt: &R,
     job: &J,
     first: usize,

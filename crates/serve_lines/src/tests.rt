@@ -32,7 +32,10 @@ fn lines_are_written(rt: HostRuntime) -> Result<(), Fail> {
     let alloc = rt.alloc();
     let (out, writing) = written(alloc, Vec::new(alloc));
     assert_eq!(rt; writing, Writing::Whole);
-    assert_eq!(rt; out.bytes(), b"feed a accepted 2 refused 1 starved 0 toolong 0 last 1743314000\nreaders 2 connections 2 responses 2 starved 0\n".as_slice());
+    assert_eq!(rt;
+        out.bytes(),
+        b"feed a accepted 2 refused 1 starved 0 toolong 0 last 1743314000\nreaders 2 connections 2 responses 2 starved 0\n".as_slice()
+    );
     Ok(())
 }
 
