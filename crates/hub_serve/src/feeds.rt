@@ -1,5 +1,6 @@
 //! Ingesters at their ports.
 
+use crate::naming::number_of;
 use feed_port::FeedPort;
 use hub_outside::{Gate, GatePoint};
 use hub_shared::{FeedSeat, Hub, PortReport, ingest_port};
@@ -8,6 +9,7 @@ use std::alloc::Global;
 use std::sync::Wait;
 
 /// Brings in the messages of each port.
+#[derive(Drop)]
 pub(crate) struct Ingesting<'a, R, G> {
     pub(crate) rt: &'a R,
     pub(crate) alloc: Global,
@@ -28,7 +30,7 @@ impl<'a, R: Wait, G: Gate, P: FeedPort> PlaceJob<P, FeedSeat, PortReport> for In
     fn work(&self, place: usize, port: &mut P, seat: &mut FeedSeat, report: &mut PortReport) {
         *report = ingest_port(self.rt, self.alloc, self.hub, seat, port);
         if seat.receipt().is_some() {
-            self.gate.pass(GatePoint::Ingested(place as u32));
+            self.gate.pass(GatePoint::Ingested(number_of(place)));
         }
     }
 }

@@ -1,4 +1,4 @@
-//! Which hub a reader is at.
+//! Which hub a reader is at, and which place a thread has.
 
 use std::marker::Brand;
 
@@ -13,4 +13,9 @@ impl OfHub for Brand {
     ghost use Rattle.hub_serve.specs.Ties.{some_hub};
 
     ghost ties = { some_hub };
+}
+
+/// The number of a place, as a gate is told it. There are 64 places at most.
+pub(crate) fn number_of(place: usize) -> u32 {
+    u32::try_from(place).unwrap_or(u32::MAX)
 }

@@ -5,7 +5,7 @@ ghost use mathlib.Core.List.{IsPrefix};
 ghost use Rattle.hub_history.specs.Told.{history_of};
 ghost use Rattle.hub_shared.specs.Seats.{IsOf};
 
-use crate::naming::OfHub;
+use crate::naming::{OfHub, number_of};
 use board_core::{HubView, Oracle};
 use http_door::{DoorReport, serve_door};
 use hub_outside::{Clock, Door, Gate};
@@ -85,6 +85,7 @@ pub(crate) struct Post<C> {
 }
 
 /// Serves the connections of each door.
+#[derive(Drop)]
 pub(crate) struct Serving<'a, R, G> {
     pub(crate) rt: &'a R,
     pub(crate) alloc: Global,
@@ -94,6 +95,7 @@ pub(crate) struct Serving<'a, R, G> {
 impl<'a, R: Wait, G: Gate, H: OfHub, C: Clock, D: Door> PlaceJob<D, HubPass<H>, Post<C>>
     for Serving<'a, R, G>
 {
+    ghost use Rattle.std.specs.Prelude.{⊤};
     ghost use Rattle.http_door.specs.Visits.{ends};
     ghost use Rattle.hub_serve.specs.Readers.{serves_at};
     ghost use Rattle.hub_serve.specs.Words.{door_words};
@@ -111,7 +113,7 @@ impl<'a, R: Wait, G: Gate, H: OfHub, C: Clock, D: Door> PlaceJob<D, HubPass<H>, 
             pass,
             &mut post.clock,
             self.gate,
-            place as u32,
+            number_of(place),
         );
     }
 }

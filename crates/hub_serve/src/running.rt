@@ -54,7 +54,7 @@ where
     R: Threads + Wait + Sync,
     P: FeedPort + Send,
     D: Door + Send,
-    C: Clock + Send,
+    C: Clock + Send + Drop,
     K: Sink,
     G: Gate + Sync,
     requires ports { length ports.old ≡ length (arc_value plans).feeds }
@@ -93,7 +93,7 @@ where
     R: Threads + Wait + Sync,
     P: FeedPort + Send,
     D: Door + Send,
-    C: Clock + Send,
+    C: Clock + Send + Drop,
     K: Sink,
     G: Gate + Sync,
     requires hub { opened.hub ≡ H.ties }
@@ -149,7 +149,7 @@ struct Work<H: OfHub, C> {
 }
 
 /// What they work with at first; or want of memory.
-fn begin<H: OfHub, C>(
+fn begin<H: OfHub, C: Drop>(
     alloc: Global,
     ports: usize,
     seats: Vec<FeedSeat>,
@@ -188,7 +188,7 @@ where
     R: Threads + Wait + Sync,
     P: FeedPort + Send,
     D: Door + Send,
-    C: Clock + Send,
+    C: Clock + Send + Drop,
     G: Gate + Sync,
     requires ports { ArePlaces (λ place port seat report. seat.ties ≡ hub.now) 0 ports.old seats.old
         reports.old }
@@ -210,13 +210,13 @@ where
     let serving = Serving { rt, alloc, gate };
     let mut ingesters = ||
         requires { IsSync R.row × IsSync G.row × IsSend P.row
-            × ArePlaces (λ place port seat report. seat.ties ≡ hub.now) 0 ports.now seats.now reports.now
+            × ArePlaces (λ place port seat report. seat.ties ≡ ingesting.now.hub.now) 0 ports.now seats.now reports.now
             × (length ports.now ≤ 64) }
         ensures { PlacesChanged (ingests_at (port_words P.ahead P.faults)) 0 ports.entry.now
             seats.entry.now reports.entry.now ports.exit.now seats.exit.now reports.exit.now }
     { each_place(rt, &ingesting, 0, ports, seats, reports) };
     let mut readers = ||
-        requires { IsSync R.row × IsSync G.row × IsSend D.row × IsSend C.row
+        requires { IsSync R.row × IsSync G.row × IsSync H.row × IsSend H.row × IsSend D.row × IsSend C.row
             × ArePlaces (λ place door pass post. ⊤) 0 doors.now passes.now posts.now
             × (length doors.now ≤ 64) }
         ensures { PlacesChanged (serves_at (door_words D.links D.faults)
@@ -227,7 +227,7 @@ where
 }
 
 /// Closes the hub, writes the lines and answers the status.
-fn end<H: OfHub, R: Wait, C, K: Sink>(
+fn end<H: OfHub, R: Wait, C: Drop, K: Sink>(
     rt: &R,
     hub: Hub,
     plans: &Plans,
