@@ -6,7 +6,7 @@ use Rattle.hub_outside.specs.Doors.{Links}
 use Rattle.hub_history.specs.Told.{Told, history_of}
 use Rattle.http_door.specs.declared.report.DoorReport.{DoorReport}
 use Rattle.http_door.specs.Doors.{ServesDoor}
-use Rattle.http_door.specs.Visits.{Ends, hub}
+use Rattle.http_door.specs.Visits.{Ends, Hub, hub}
 use Rattle.snapshot_cell.specs.Seen.{PassSeen}
 use Rattle.hub_serve.specs.declared.readers.Post.{Post}
 use Rattle.hub_serve.specs.Words.{DoorWords}
@@ -25,11 +25,10 @@ serves_at words seen ahead place door pass post door' pass' post' =
 pub record DoorRan {I O : Type 0} (seen : Ends I O) (plans : Schedules) (ending : Option Told)
     (links links' : Option (Links I O)) (faults faults' : ℕ) (ahead : Option (List ℕ))
     (report : DoorReport) : Type 0 where
-  pub left : Option (List ℕ)
+  pub left : Hub
   pub line : Told
-  pub reads : ℕ
-  pub serves : ServesDoor seen links links' faults faults' (hub ahead plans [] 0 false)
-      (hub left plans (history_of line) reads false) report
+  pub history : left.history ≡ history_of line
+  pub serves : ServesDoor seen links links' faults faults' (hub ahead plans [] 0 false) left report
   pub begins : IfSome ending (λ ended. IsPrefix line.log ended.log)
 
 -- each door, with what the readings of its clock were
