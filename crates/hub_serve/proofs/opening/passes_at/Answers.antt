@@ -1,0 +1,18 @@
+-- One pass more.
+use Rattle.std.proofs.Common.{◌≡◌, ◌++◌, ◌∷◌, [], List, sym, ap, ◌∙◌, append_assoc, append-nil, common_steps, arith}
+use Rattle.std.specs.List.{All}
+use Rattle.snapshot_cell.specs.Seen.{PassSeen}
+use Rattle.hub_shared.specs.Calls.{IsFresh}
+use Rattle.hub_serve.proofs.Opened.{all_rest}
+use Rattle.hub_serve.proofs.opening.passes_at.Goals as goal
+
+pub loop-pass-preserved : goal.loop-pass-preserved
+loop-pass-preserved g c =
+    let step : c.loop-pass.pass-iterator.rest.items ≡ c.in-Some.pass ∷ c.next.new.self.rest.items = c.in-Some.ensures.steps.0 in
+    record {
+      all = ?;
+      fresh = all_rest (λ (pass : PassSeen). IsFresh g.H.OfHub.ties pass) c.in-Some.pass c.next.new.self.rest.items c.loop-pass.pass-iterator.rest.items step c.loop-pass.invariant.fresh;
+    }
+
+pub returns : goal.returns
+returns g c = ?
