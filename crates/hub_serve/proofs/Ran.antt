@@ -1,5 +1,5 @@
 -- What ingesters and readers did at their places is what is told of feeds and doors.
-use Rattle.std.proofs.Common.{◌≡◌, ℕ, ◌+◌, ◌<◌, false, List, [], ◌∷◌, length, map, Option, Some, None, refl, sym, ap, ◌∙◌, subst, arith}
+use Rattle.std.proofs.Common.{◌≡◌, ℕ, ◌+◌, ◌<◌, Bool, false, List, [], ◌∷◌, length, map, Option, Some, None, refl, sym, ap, ◌∙◌, subst, arith}
 use Rattle.std.specs.Prelude.{IfSome}
 use Rattle.std.specs.List.{All, AllByRecursion, range_with_len}
 use Rattle.std.proofs.lemmas.List.Elements.{recursion_from_All}
@@ -19,9 +19,10 @@ use Rattle.hub_shared.specs.Calls.{Ends, IsFresh}
 use Rattle.hub_shared.specs.declared.report.PortReport.{PortReport}
 use Rattle.hub_serve.specs.declared.readers.Post.{Post}
 use Rattle.hub_serve.specs.Words.{PortWords, DoorWords}
-use Rattle.hub_serve.specs.Feeds.{IngestsBy, ingests_at, FeedTold, FeedRan, FeedsRan}
+use Rattle.hub_serve.specs.Feeds.{IngestsBy, ingests_at, FeedRan, FeedsRan}
 use Rattle.hub_serve.specs.Readers.{serves_at, DoorRan, DoorsRan}
-use Rattle.hub_serve.specs.Steps.{tolds_of}
+use Rattle.hub_serve.specs.Runs.{Ran, status_by}
+use Rattle.hub_serve.specs.Steps.{Closes, EndsRun, lasts_of}
 
 -- the first of what is said of all, and the rest
 first_told : {A : Type 0} (ending : Option Told) (P : A → Told → Type 0) (x : A) (xs : List A) → IfSome ending (λ e. AllByRecursion (λ y. P y e) (x ∷ xs)) → IfSome ending (P x)
@@ -40,7 +41,7 @@ AreFreshSeats hub first (s ∷ ss) = (s ≡ fresh_seat hub first) × AreFreshSea
 module _ {P : Type 0} (words : PortWords P) (hub : Ties) (ending : Option Told) where
   pub feeds_ran : (first : ℕ) (ps : List P) (ss : List SeatSeen) (rs : List PortReport) (ps' : List P) (ss' : List SeatSeen) (rs' : List PortReport)
       → AreFreshSeats hub first ss → PlacesChanged (ingests_at words) first ps ss rs ps' ss' rs'
-      → IfSome ending (λ e. AllByRecursion (λ seat. Ends seat e) ss') → FeedsRan words hub ending first ps ps' (tolds_of ss' rs')
+      → IfSome ending (λ e. AllByRecursion (λ seat. Ends seat e) ss') → FeedsRan words hub ending first ps ps' rs' (lasts_of ss')
   feeds_ran first [] [] [] [] [] [] fresh h e = tt
   feeds_ran first [] (s ∷ ss) rs ps' ss' rs' fresh h e = absurd h
   feeds_ran first [] [] (r ∷ rs) ps' ss' rs' fresh h e = absurd h
@@ -57,7 +58,7 @@ module _ {P : Type 0} (words : PortWords P) (hub : Ties) (ending : Option Told) 
         seat = s';
         ingests = subst (λ (x : SeatSeen). IngestsBy x s' (words.ahead p) (words.ahead p') (words.faults p) (words.faults p') r') fresh.0 h.0;
         ended = first_told ending (λ (seat : SeatSeen) (ended : Told). Ends seat ended) s' ss' e;
-        last = refl;
+        last_is = refl;
       }, feeds_ran (first + 1) ps ss rs ps' ss' rs' fresh.1 h.1 (rest_told ending (λ (seat : SeatSeen) (ended : Told). Ends seat ended) s' ss' e))
 
 module _ {D I O C : Type 0} (words : DoorWords D I O) (seen : LinkEnds I O) (ahead : C → Option (List ℕ)) (ties : Ties) (ending : Option Told) where
@@ -89,3 +90,34 @@ module _ {D I O C : Type 0} (words : DoorWords D I O) (seen : LinkEnds I O) (ahe
             (begins_fresh s (ahead r.clock) fresh.0) h.0;
         begins = first_told ending (λ (pass : PassSeen) (ended : Told). IsPrefix pass.line.log ended.log) s' ss' e;
       }, doors_ran (place + 1) ps ss rs ps' ss' rs' fresh.1 h.1 (rest_told ending (λ (pass : PassSeen) (ended : Told). IsPrefix pass.line.log ended.log) s' ss' e))
+
+-- what is said of all of a list, by its items
+under : {A : Type 0} (ending : Option Told) (P : A → Told → Type 0) (xs : List A) → IfSome ending (λ e. All (λ y. P y e) xs) → IfSome ending (λ e. AllByRecursion (λ y. P y e) xs)
+under None P xs h = tt
+under (Some e) P xs h = recursion_from_All (λ y. P y e) xs h
+
+module _ {P D I O C : Type 0} (ports : PortWords P) (doors : DoorWords D I O) (seen : LinkEnds I O) (ahead : C → Option (List ℕ)) (ties : Ties) where
+  -- a run that went through all its steps
+  pub ran : (ps ps' : List P) (ss ss' : List SeatSeen) (rs rs' : List PortReport) (ds ds' : List D) (passes passes' : List PassSeen) (posts posts' : List (Post C))
+      → AreFreshSeats ties 0 ss → All (IsFresh ties) passes
+      → PlacesChanged (ingests_at ports) 0 ps ss rs ps' ss' rs'
+      → PlacesChanged (serves_at doors seen ahead) 0 ds passes posts ds' passes' posts'
+      → (written written' : Option (List ℕ)) (faults faults' status : ℕ)
+      → EndsRun ties ties.plans.feeds ss' rs' passes' (map (λ (post : Post C). post.report) posts') written written' faults faults' status
+      → Ran ports doors seen ties.plans ps ps' ds ds' (map (λ (post : Post C). ahead post.clock) posts) written written' faults faults' status
+  ran ps ps' ss ss' rs rs' ds ds' passes passes' posts posts' fresh known fed served written written' faults faults' status ends = record {
+    hub = ties;
+    plans = refl;
+    ending = ends.closes.ending;
+    of = ends.closes.of;
+    reports = rs';
+    lasts = lasts_of ss';
+    feeds_ran = feeds_ran ports ties ends.closes.ending 0 ps ss rs ps' ss' rs' fresh fed (under ends.closes.ending (λ (seat : SeatSeen) (ended : Told). Ends seat ended) ss' ends.closes.ends);
+    door_reports = map (λ (post : Post C). post.report) posts';
+    doors_ran = doors_ran doors seen ahead ties ends.closes.ending 0 ds passes posts ds' passes' posts' (recursion_from_All (IsFresh ties) passes known) served
+        (under ends.closes.ending (λ (pass : PassSeen) (ended : Told). IsPrefix pass.line.log ended.log) passes' ends.closes.begins);
+    writing = ends.writing;
+    wrote = ends.wrote;
+    cause = ends.cause;
+    status_is = ends.status_is ∙ ap (λ (b : Bool). status_by ends.writing b rs' (map (λ (post : Post C). post.report) posts')) (sym ends.closes.there);
+  }

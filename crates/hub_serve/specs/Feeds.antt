@@ -22,26 +22,21 @@ ingests_at words place port seat report port' seat' report' =
     IngestsBy seat seat' (words.ahead port) (words.ahead port') (words.faults port)
     (words.faults port') report'
 
--- what is told of a feed at the end: what became of its port's messages, and the last stamp
-pub record FeedTold : Type 0 where
-  pub report : PortReport
-  pub last : ℕ
-
--- A feed's messages were ingested by a seat that had accepted nothing, and what the ended history has
--- of the feed is just what that seat accepted.
+-- A feed's messages were ingested by a seat that had accepted nothing, whose last stamp this is; and
+-- what the ended history has of the feed is just what that seat accepted.
 pub record FeedRan (hub : Ties) (ending : Option Told) (feed : ℕ) (before after : Ahead)
-    (faults faults' : ℕ) (told : FeedTold) : Type 0 where
+    (faults faults' : ℕ) (report : PortReport) (last : ℕ) : Type 0 where
   pub seat : SeatSeen
-  pub ingests : IngestsBy (fresh_seat hub feed) seat before after faults faults' told.report
+  pub ingests : IngestsBy (fresh_seat hub feed) seat before after faults faults' report
   pub ended : IfSome ending (Ends seat)
-  pub last : told.last ≡ seat.last
+  pub last_is : last ≡ seat.last
 
--- each feed with its port, the first of which has that number
+-- each feed with its port, its report and its last stamp; the first feed has that number
 abbrev pub FeedsRan : {P : Type 0} → PortWords P → Ties → Option Told → ℕ → List P → List P
-    → List FeedTold → Type 0
-FeedsRan words hub ending feed [] [] [] = ⊤
-FeedsRan words hub ending feed (old ∷ olds) (new ∷ news) (told ∷ tolds) =
+    → List PortReport → List ℕ → Type 0
+FeedsRan words hub ending feed [] [] [] [] = ⊤
+FeedsRan words hub ending feed (old ∷ olds) (new ∷ news) (report ∷ reports) (last ∷ lasts) =
     FeedRan hub ending feed (words.ahead old) (words.ahead new) (words.faults old)
-    (words.faults new) told
-    × FeedsRan words hub ending (feed + 1) olds news tolds
-FeedsRan words hub ending feed _ _ _ = ⊥
+    (words.faults new) report last
+    × FeedsRan words hub ending (feed + 1) olds news reports lasts
+FeedsRan words hub ending feed _ _ _ _ = ⊥

@@ -23,25 +23,25 @@ use Rattle.serve_lines.specs.declared.pieces.Writing.TheVariants.{Whole, Cut}
 use Rattle.serve_lines.specs.Lines.{feed_line, readers_line}
 use Rattle.serve_lines.specs.Wrote.{Wrote, HasCause}
 use Rattle.hub_serve.specs.Words.{PortWords, DoorWords}
-use Rattle.hub_serve.specs.Feeds.{FeedTold, FeedsRan}
+use Rattle.hub_serve.specs.Feeds.{FeedsRan}
 use Rattle.hub_serve.specs.Readers.{DoorsRan}
 
 -- ---- what is written
 
-abbrev pub numbers_of : FeedTold → FeedNumbers
-numbers_of told = record {
-  accepted = told.report.accepted;
-  refused = told.report.refused;
-  starved = told.report.starved;
-  too_long = told.report.too_long;
-  last = told.last;
+abbrev pub numbers_of : PortReport → ℕ → FeedNumbers
+numbers_of report last = record {
+  accepted = report.accepted;
+  refused = report.refused;
+  starved = report.starved;
+  too_long = report.too_long;
+  last = last;
 }
 
 -- the line of each feed, under its name
-abbrev pub feed_lines : List NamedFeed → List FeedTold → List ℕ
-feed_lines (feed ∷ feeds) (told ∷ tolds) =
-    feed_line feed.name (numbers_of told) ++ feed_lines feeds tolds
-feed_lines _ _ = []
+abbrev pub feed_lines : List NamedFeed → List PortReport → List ℕ → List ℕ
+feed_lines (feed ∷ feeds) (report ∷ reports) (last ∷ lasts) =
+    feed_line feed.name (numbers_of report last) ++ feed_lines feeds reports lasts
+feed_lines _ _ _ = []
 
 -- what all readers did; each sum stops at the last number of 64 bits
 abbrev pub sum_of : List DoorReport → ReaderNumbers
@@ -52,8 +52,8 @@ sum_of reports = record {
   starved = capped (sum_by (λ r. r.starved) reports);
 }
 
-abbrev pub text_of : List NamedFeed → List FeedTold → List DoorReport → List ℕ
-text_of feeds tolds reports = feed_lines feeds tolds ++ readers_line (sum_of reports)
+abbrev pub text_of : List NamedFeed → List PortReport → List ℕ → List DoorReport → List ℕ
+text_of feeds reports lasts doors = feed_lines feeds reports lasts ++ readers_line (sum_of doors)
 
 -- ---- the status
 
@@ -86,10 +86,6 @@ status_by Whole closed reports doors =
     else if list_any is_ill reports || list_any (λ door. has_failed door.end) doors then 1
     else 0
 
-abbrev pub status_of : Writing → Option Told → List FeedTold → List DoorReport → ℕ
-status_of writing ending tolds doors =
-    status_by writing (is_some ending) (map (λ told. told.report) tolds) doors
-
 -- ---- the run
 
 -- A hub ran with these ports and doors to their ends. All feeds' messages stand in one legal history,
@@ -102,14 +98,15 @@ pub record Ran {P D I O : Type 0}
   pub plans : hub.plans ≡ schedules
   pub ending : Option Told
   pub of : IfSome ending (λ ended. IsOf ended hub)
-  pub tolds : List FeedTold
-  pub feeds_ran : FeedsRan ports hub ending 0 ps ps' tolds
-  pub reports : List DoorReport
-  pub doors_ran : DoorsRan doors seen schedules ending ds ds' aheads reports
+  pub reports : List PortReport
+  pub lasts : List ℕ
+  pub feeds_ran : FeedsRan ports hub ending 0 ps ps' reports lasts
+  pub door_reports : List DoorReport
+  pub doors_ran : DoorsRan doors seen schedules ending ds ds' aheads door_reports
   pub writing : Writing
-  pub wrote : Wrote writing written written' (text_of schedules.feeds tolds reports)
+  pub wrote : Wrote writing written written' (text_of schedules.feeds reports lasts door_reports)
   pub cause : HasCause Whole writing faults faults'
-  pub status_is : status ≡ status_of writing ending tolds reports
+  pub status_is : status ≡ status_by writing (is_some ending) reports door_reports
 
 -- no hub was had for want of memory: no port and no door was asked, and nothing was written
 pub record WasNotOpened {P D K : Type 0} (ps ps' : List P) (ds ds' : List D) (out out' : K)

@@ -13,7 +13,6 @@ use Rattle.http_door.specs.declared.report.DoorReport.{DoorReport}
 use Rattle.serve_lines.specs.declared.pieces.Writing.{Writing}
 use Rattle.serve_lines.specs.declared.pieces.Writing.TheVariants.{Whole}
 use Rattle.serve_lines.specs.Wrote.{Wrote, HasCause}
-use Rattle.hub_serve.specs.Feeds.{FeedTold}
 use Rattle.hub_serve.specs.Runs.{text_of, status_by}
 
 -- The hub was closed, and what it accepted is what these seats did and what begins with what these
@@ -26,11 +25,9 @@ pub record Closes (hub : Ties) (seats : List SeatSeen) (passes : List PassSeen)
   pub ends : IfSome ending (λ ended. All (λ seat. Ends seat ended) seats)
   pub begins : IfSome ending (λ ended. All (λ pass. IsPrefix pass.line.log ended.log) passes)
 
--- what is told of each feed: its report, and its seat's last stamp
-abbrev pub tolds_of : List SeatSeen → List PortReport → List FeedTold
-tolds_of (seat ∷ seats) (report ∷ reports) =
-    record { report = report; last = seat.last } ∷ tolds_of seats reports
-tolds_of _ _ = []
+-- the last stamp of each seat
+abbrev pub lasts_of : List SeatSeen → List ℕ
+lasts_of seats = map (λ seat. seat.last) seats
 
 -- The hub was closed with these seats and passes, the lines were written, and the status is that of
 -- all that came of it.
@@ -40,6 +37,6 @@ pub record EndsRun (hub : Ties) (feeds : List NamedFeed) (seats : List SeatSeen)
   pub closed : Bool
   pub closes : Closes hub seats passes closed
   pub writing : Writing
-  pub wrote : Wrote writing written written' (text_of feeds (tolds_of seats reports) doors)
+  pub wrote : Wrote writing written written' (text_of feeds reports (lasts_of seats) doors)
   pub cause : HasCause Whole writing faults faults'
   pub status_is : status ≡ status_by writing closed reports doors

@@ -5,7 +5,7 @@ ghost use Rattle.serve_lines.specs.declared.pieces.Writing.TheVariants.{Whole};
 ghost use Rattle.serve_lines.specs.Wrote.{Puts, HasCause};
 ghost use Rattle.hub_serve.specs.Runs as run;
 ghost use Rattle.hub_serve.specs.Runs.{feed_lines, text_of};
-ghost use Rattle.hub_serve.specs.Steps.{tolds_of};
+ghost use Rattle.hub_serve.specs.Steps.{lasts_of};
 
 use crate::readers::Post;
 use http_door::DoorEnd;
@@ -25,7 +25,7 @@ pub(crate) fn write_lines<K: Sink, C>(
     requires seats { length seats.now ≡ length plans.now.feeds }
     requires reports { length reports.now ≡ length plans.now.feeds }
     ensures wrote { Puts Whole result (K.written out.old) (K.written out.new)
-        (text_of plans.now.feeds (tolds_of seats.now reports.now)
+        (text_of plans.now.feeds reports.now (lasts_of seats.now)
         (map (λ post. post.report) posts.now)) }
     ensures cause { HasCause Whole result (K.faults out.old) (K.faults out.new) }
 {
@@ -46,7 +46,7 @@ fn write_feeds<K: Sink>(
     requires seats { length seats.now ≡ length feeds.now }
     requires reports { length reports.now ≡ length feeds.now }
     ensures wrote { Puts writing.old writing.new (K.written out.old) (K.written out.new)
-        (feed_lines feeds.now (tolds_of seats.now reports.now)) }
+        (feed_lines feeds.now reports.now (lasts_of seats.now)) }
     ensures cause { HasCause writing.old writing.new (K.faults out.old) (K.faults out.new) }
 {
     for (i, feed) in feeds.iter().enumerate() {
@@ -57,7 +57,7 @@ fn write_feeds<K: Sink>(
 
 /// What is told of a feed.
 fn numbers_of(seat: &FeedSeat, report: PortReport) -> FeedNumbers
-    ensures { result ≡ run.numbers_of (record { report = report; last = seat.now.last }) }
+    ensures { result ≡ run.numbers_of report seat.now.last }
 {
     FeedNumbers {
         accepted: report.accepted,
