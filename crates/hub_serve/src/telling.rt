@@ -1,6 +1,7 @@
 //! The lines and the status of a run.
 
-ghost use Rattle.std.specs.Prelude.{◌≡◌, length, map};
+ghost use Rattle.std.specs.Prelude.{◌≡◌, length, map, if◌then◌else◌};
+ghost use Rattle.std.specs.List.{list_any};
 ghost use Rattle.serve_lines.specs.declared.pieces.Writing.TheVariants.{Whole};
 ghost use Rattle.serve_lines.specs.Wrote.{Puts, HasCause};
 ghost use Rattle.hub_serve.specs.Runs as run;
@@ -97,14 +98,67 @@ pub(crate) fn status_of<C>(
     ensures { result ≡ run.status_by writing closed reports.now
         (map (λ post. post.report) posts.now) }
 {
-    if writing == Writing::Cut {
-        5
-    } else if !closed || reports.iter().any(|report| report.end == PortEnd::NoMemory) {
+    match writing {
+        Writing::Cut => 5,
+        Writing::Whole => {
+            let wants = !closed || one_starved(reports);
+            let ill = one_ill(reports) || one_failed(posts);
+            status_whole(wants, ill)
+        }
+    }
+}
+
+/// The status where all was written.
+fn status_whole(wants: bool, ill: bool) -> u8
+    ensures { result ≡ (if wants then 6 else if ill then 1 else 0) }
+{
+    if wants {
         6
-    } else if reports.iter().any(is_ill) || posts.iter().any(|post| post.report.end == DoorEnd::Failed) {
+    } else if ill {
         1
     } else {
         0
+    }
+}
+
+/// Whether an ingester had no memory for its buffer.
+fn one_starved(reports: &[PortReport]) -> bool
+    ensures { result ≡ list_any (λ report. run.is_starved report.end) reports.now }
+{
+    reports.iter().any(|report| is_starved(report.end))
+}
+
+/// Whether a port failed, or had a message that was too long.
+fn one_ill(reports: &[PortReport]) -> bool
+    ensures { result ≡ list_any run.is_ill reports.now }
+{
+    reports.iter().any(is_ill)
+}
+
+/// Whether a door failed.
+fn one_failed<C>(posts: &[Post<C>]) -> bool
+    ensures { result ≡ list_any (λ post. run.has_failed post.report.end) posts.now }
+{
+    posts.iter().any(|post| has_failed(post.report.end))
+}
+
+/// Whether an ingester that ended so had no memory.
+fn is_starved(end: PortEnd) -> bool
+    ensures { result ≡ run.is_starved end }
+{
+    match end {
+        PortEnd::NoMemory => true,
+        PortEnd::Ended | PortEnd::PortFault | PortEnd::Spent => false,
+    }
+}
+
+/// Whether a port that ended so failed.
+fn is_fault(end: PortEnd) -> bool
+    ensures { result ≡ run.is_fault end }
+{
+    match end {
+        PortEnd::PortFault => true,
+        PortEnd::Ended | PortEnd::Spent | PortEnd::NoMemory => false,
     }
 }
 
@@ -112,5 +166,15 @@ pub(crate) fn status_of<C>(
 fn is_ill(report: &PortReport) -> bool
     ensures { result ≡ run.is_ill report.now }
 {
-    report.end == PortEnd::PortFault || report.too_long > 0
+    is_fault(report.end) || report.too_long > 0
+}
+
+/// Whether a door that ended so failed.
+fn has_failed(end: DoorEnd) -> bool
+    ensures { result ≡ run.has_failed end }
+{
+    match end {
+        DoorEnd::Failed => true,
+        DoorEnd::Ended => false,
+    }
 }
