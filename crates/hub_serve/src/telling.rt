@@ -1,6 +1,6 @@
 //! The lines and the status of a run.
 
-ghost use Rattle.std.specs.Prelude.{◌≡◌, length, map, if◌then◌else◌};
+ghost use Rattle.std.specs.Prelude.{◌≡◌, length, map, not, ◌||◌, if◌then◌else◌};
 ghost use Rattle.std.specs.List.{list_any};
 ghost use Rattle.serve_lines.specs.declared.pieces.Writing.TheVariants.{Whole};
 ghost use Rattle.serve_lines.specs.Wrote.{Puts, HasCause};
@@ -100,12 +100,23 @@ pub(crate) fn status_of<C>(
 {
     match writing {
         Writing::Cut => 5,
-        Writing::Whole => {
-            let wants = !closed || one_starved(reports);
-            let ill = one_ill(reports) || one_failed(posts);
-            status_whole(wants, ill)
-        }
+        Writing::Whole => status_whole(wants_memory(closed, reports), went_ill(reports, posts)),
     }
+}
+
+/// Whether the hub was not closed, or an ingester had no memory for its buffer.
+fn wants_memory(closed: bool, reports: &[PortReport]) -> bool
+    ensures { result ≡ (not closed || list_any (λ report. run.is_starved report.end) reports.now) }
+{
+    !closed || one_starved(reports)
+}
+
+/// Whether a port went ill, or a door failed.
+fn went_ill<C>(reports: &[PortReport], posts: &[Post<C>]) -> bool
+    ensures { result ≡ (list_any run.is_ill reports.now
+        || list_any (λ door. run.has_failed door.end) (map (λ post. post.report) posts.now)) }
+{
+    one_ill(reports) || one_failed(posts)
 }
 
 /// The status where all was written.
@@ -137,7 +148,8 @@ fn one_ill(reports: &[PortReport]) -> bool
 
 /// Whether a door failed.
 fn one_failed<C>(posts: &[Post<C>]) -> bool
-    ensures { result ≡ list_any (λ post. run.has_failed post.report.end) posts.now }
+    ensures { result ≡ list_any (λ door. run.has_failed door.end)
+        (map (λ post. post.report) posts.now) }
 {
     posts.iter().any(|post| has_failed(post.report.end))
 }
