@@ -148,8 +148,7 @@ fn one_ill(reports: &[PortReport]) -> bool
 
 /// Whether a door failed.
 fn one_failed<C>(posts: &[Post<C>]) -> bool
-    ensures { result ≡ list_any (λ door. run.has_failed door.end)
-        (map (λ post. post.report) posts.now) }
+    ensures { result ≡ list_any (λ post. run.has_failed post.report.end) posts.now }
 {
     posts.iter().any(|post| has_failed(post.report.end))
 }
