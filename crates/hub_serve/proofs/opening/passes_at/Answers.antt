@@ -1,5 +1,6 @@
 -- One pass more.
-use Rattle.std.proofs.Common.{◌≡◌, ◌++◌, ◌∷◌, [], List, sym, ap, ◌∙◌, append_assoc, append-nil, common_steps, arith}
+use Rattle.std.proofs.Common.{◌≡◌, ◌++◌, ◌∷◌, [], List, sym, ap, ◌∙◌, append_assoc, append-nil, arith}
+use Rattle.std.proofs.lemmas.Grind.{common_steps}
 use Rattle.snapshot_cell.specs.Seen.{PassSeen}
 use Rattle.hub_shared.specs.Calls.{IsFresh}
 use Rattle.hub_serve.proofs.Opened.{all_rest}
