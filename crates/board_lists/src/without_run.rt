@@ -4,7 +4,6 @@ ghost use Rattle.std.specs.Prelude.{◌≡◌, ◌<◌, ◌≤◌, ◌++◌, Lis
 ghost use Rattle.std.specs.Arc.{arc_value};
 ghost use Rattle.std.specs.List.{flat_map};
 ghost use Rattle.feed_defs.specs.declared.history.Entry.{Entry};
-ghost use Rattle.board_defs.specs.Choice.{stamp_or};
 ghost use Rattle.board_defs.specs.Fold.{fold_of};
 ghost use Rattle.board_defs.specs.Views.{StandsFor, folds_of};
 ghost use Rattle.alert_defs.specs.Alerts.{over_feeds};
@@ -13,6 +12,7 @@ ghost use Rattle.board_lists.specs.Strangers.{under_id, unmatched_stored, over_f
 
 use crate::NoMemory;
 use alert_defs::Unmatched;
+use board_added::stamp_of;
 use board_core::HubView;
 use entity_table::{Stored, Table};
 use feed_view::FeedView;
@@ -21,7 +21,6 @@ use rt_types::{Copied, Text, TripRef};
 use sched_types::{NamedFeed, Plan};
 use std::alloc::Global;
 use std::sync::Arc;
-use texts::LAST_MOMENT;
 use trip_match::find;
 
 /// The trip updates and vehicles, in the feeds of the schedule of that number, whose trip is no run of its
@@ -195,15 +194,5 @@ fn push_unless_found(
             out.push(row)?;
             Ok(())
         }
-    }
-}
-
-/// A trip's own stamp, where it is a moment, else its message's.
-fn stamp_of(message: u64, own: Option<u64>) -> u64
-    ensures { result ≡ stamp_or message own }
-{
-    match own {
-        Some(own) if 1 <= own && own <= LAST_MOMENT => own,
-        _ => message,
     }
 }
