@@ -1,0 +1,4 @@
+pub mod Opened
+pub mod Finishing
+pub mod Lines
+pub mod Ran

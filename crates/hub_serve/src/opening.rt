@@ -1,0 +1,63 @@
+//! What a run needs before it begins.
+
+ghost use Rattle.std.specs.Prelude.{◌≡◌, map, vec_len, IfOk};
+ghost use Rattle.std.specs.List.{All};
+ghost use Rattle.hub_shared.specs.Calls.{IsFresh};
+
+use crate::NoMemory;
+use crate::naming::OfHub;
+use crate::readers::{HubPass, Post};
+use http_door::{DoorEnd, DoorReport};
+use hub_shared::{PortEnd, PortReport};
+use snapshot_cell::Pass;
+use std::alloc::Global;
+
+/// The reports of so many ports that were asked nothing.
+pub(crate) fn port_reports(alloc: Global, count: usize) -> Result<Vec<PortReport>, NoMemory>
+    ensures { IfOk result (λ reports. vec_len reports ≡ count) }
+{
+    let unasked = PortReport {
+        accepted: 0,
+        refused: 0,
+        starved: 0,
+        too_long: 0,
+        end: PortEnd::NoMemory,
+    };
+    let mut reports = Vec::new(alloc);
+    reports.resize(count, unasked)?;
+    Ok(reports)
+}
+
+/// A post for each clock, in their order, of doors that were asked nothing.
+pub(crate) fn posts_of<C: Drop>(alloc: Global, clocks: Vec<C>) -> Result<Vec<Post<C>>, NoMemory>
+    ensures { IfOk result (λ posts. map (λ post. post.clock) posts.items ≡ clocks.items) }
+{
+    let mut posts = Vec::with_capacity(alloc, clocks.len())?;
+    for clock in clocks {
+        posts.push(Post {
+            clock,
+            report: DoorReport {
+                end: DoorEnd::Ended,
+                connections: 0,
+                responses: 0,
+                starved: 0,
+            },
+        })?;
+    }
+    Ok(posts)
+}
+
+/// The passes of readers at the hub.
+pub(crate) fn passes_at<H: OfHub>(
+    alloc: Global,
+    passes: Vec<Pass>,
+) -> Result<Vec<HubPass<H>>, NoMemory>
+    requires { All (IsFresh H.ties) passes.items }
+    ensures { IfOk result (λ same. same.items ≡ passes.items) }
+{
+    let mut same = Vec::with_capacity(alloc, passes.len())?;
+    for pass in passes {
+        same.push(HubPass::new(pass))?;
+    }
+    Ok(same)
+}

@@ -1,0 +1,259 @@
+//! The run.
+
+ghost use Rattle.std.specs.Prelude.{◌≡◌, ◌≤◌, ◌⊎◌, ⊤, length, vec_len, map, IfOk};
+ghost use denote.Param.Send.{IsSend, IsSync};
+ghost use Rattle.std.specs.Arc.{arc_value};
+ghost use Rattle.std.specs.List.{All};
+ghost use Rattle.hub_shared.specs.Calls.{IsFresh};
+ghost use Rattle.hub_shared.specs.Seats.{fresh_seats};
+ghost use Rattle.http_door.specs.Visits.{ends};
+ghost use Rattle.place_jobs.specs.Places.{ArePlaces, PlacesChanged};
+ghost use Rattle.hub_serve.specs.Feeds.{ingests_at};
+ghost use Rattle.hub_serve.specs.Readers.{serves_at};
+ghost use Rattle.hub_serve.specs.Runs.{Ran, WasNotOpened};
+ghost use Rattle.hub_serve.specs.Steps.{EndsRun};
+ghost use Rattle.hub_serve.specs.Words.{port_words, door_words};
+
+use crate::closing::{close, discard};
+use crate::feeds::Ingesting;
+use crate::naming::OfHub;
+use crate::opening::{passes_at, port_reports, posts_of};
+use crate::readers::{HubPass, Post, Serving};
+use crate::telling::{status_of, write_lines};
+use feed_port::FeedPort;
+use hub_outside::{Clock, Door, Gate, Sink};
+use hub_shared::{FeedSeat, Hub, Opened, PortReport, open_hub};
+use place_jobs::each_place;
+use sched_types::Plans;
+use snapshot_cell::{NoMemory, Pass};
+use std::alloc::Global;
+use std::marker::Brand;
+use std::sync::{Arc, Wait};
+use std::thread::{Threads, join_mut};
+
+/// The exit status where memory is wanting.
+const WANTS_MEMORY: u8 = 6;
+
+/// Runs a hub with those timetables and feeds. It brings in the messages of each port, one for each feed,
+/// and serves the connections of each door with the clock of the same place, each in a thread of its own
+/// where one can be had. When all ports and doors have ended it closes the hub, and writes a line for
+/// each feed and one for the readers. It answers the exit status: 5 where the output failed, else 6 where
+/// memory was wanting to open or to close the hub or for an ingester's buffer, else 1 where a port or a
+/// door failed or a message was too long, else 0.
+pub fn run_serve<R, P, D, C, K, G>(
+    rt: &R,
+    alloc: Global,
+    plans: Arc<Plans>,
+    ports: &mut [P],
+    doors: &mut [D],
+    clocks: Vec<C>,
+    gate: &G,
+    out: &mut K,
+) -> u8
+where
+    R: Threads + Wait + Sync,
+    P: FeedPort + Send,
+    D: Door + Send,
+    D::In: Send,
+    D::Out: Send,
+    C: Clock + Send + Drop,
+    K: Sink,
+    G: Gate + Sync,
+    requires ports { length ports.old ≡ length (arc_value plans).feeds }
+    requires clocks { vec_len clocks ≡ length doors.old }
+    requires some { 1 ≤ length doors.old }
+    requires few { length doors.old ≤ 64 }
+    ensures { WasNotOpened ports.old ports.new doors.old doors.new out.old out.new result
+        ⊎ Ran (port_words P.ahead P.faults) (door_words D.links D.faults)
+        (ends D.In.left D.In.faults D.Out.written D.Out.faults) (arc_value plans)
+        ports.old ports.new doors.old doors.new (map C.ahead clocks.items)
+        (K.written out.old) (K.written out.new) (K.faults out.old) (K.faults out.new) result }
+{
+    let Ok(names) = Arc::try_clone(&plans) else {
+        return WANTS_MEMORY;
+    };
+    let Ok(opened) = open_hub(rt, alloc, plans, doors.len() as u32) else {
+        return WANTS_MEMORY;
+    };
+    run_opened::<Brand, R, P, D, C, K, G>(rt, alloc, &names, opened, ports, doors, clocks, gate, out)
+}
+
+/// The same of a hub that was opened.
+fn run_opened<H, R, P, D, C, K, G>(
+    rt: &R,
+    alloc: Global,
+    plans: &Plans,
+    opened: Opened,
+    ports: &mut [P],
+    doors: &mut [D],
+    clocks: Vec<C>,
+    gate: &G,
+    out: &mut K,
+) -> u8
+where
+    H: OfHub + Send + Sync,
+    R: Threads + Wait + Sync,
+    P: FeedPort + Send,
+    D: Door + Send,
+    D::In: Send,
+    D::Out: Send,
+    C: Clock + Send + Drop,
+    K: Sink,
+    G: Gate + Sync,
+    requires hub { opened.hub ≡ H.ties }
+    requires plans { opened.hub.plans ≡ plans.now }
+    requires seats { opened.seats.items ≡ fresh_seats opened.hub }
+    requires passes { All (λ pass. IsFresh opened.hub pass) opened.passes.items }
+    requires count { vec_len opened.passes ≡ vec_len clocks }
+    requires ports { length ports.old ≡ length plans.now.feeds }
+    requires clocks { vec_len clocks ≡ length doors.old }
+    requires few { length doors.old ≤ 64 }
+    ensures { WasNotOpened ports.old ports.new doors.old doors.new out.old out.new result
+        ⊎ Ran (port_words P.ahead P.faults) (door_words D.links D.faults)
+        (ends D.In.left D.In.faults D.Out.written D.Out.faults) plans.now
+        ports.old ports.new doors.old doors.new (map C.ahead clocks.items)
+        (K.written out.old) (K.written out.new) (K.faults out.old) (K.faults out.new) result }
+{
+    let Opened { hub, seats, passes } = opened;
+    let work = match begin::<H, C>(alloc, ports.len(), seats, passes, clocks) {
+        Ok(work) => work,
+        Err(_) => {
+            discard(rt, hub);
+            return WANTS_MEMORY;
+        }
+    };
+    let Work {
+        mut seats,
+        mut reports,
+        mut passes,
+        mut posts,
+    } = work;
+    work_all(
+        rt,
+        alloc,
+        &hub,
+        gate,
+        ports,
+        seats.as_mut_slice(),
+        reports.as_mut_slice(),
+        doors,
+        passes.as_mut_slice(),
+        posts.as_mut_slice(),
+    );
+    end(rt, hub, plans, seats, reports, passes, posts, out)
+}
+
+/// What ingesters and readers work with, beside ports and doors.
+#[derive(Drop)]
+struct Work<H: OfHub, C> {
+    seats: Vec<FeedSeat>,
+    reports: Vec<PortReport>,
+    passes: Vec<HubPass<H>>,
+    posts: Vec<Post<C>>,
+}
+
+/// What they work with at first; or want of memory.
+fn begin<H: OfHub, C: Drop>(
+    alloc: Global,
+    ports: usize,
+    seats: Vec<FeedSeat>,
+    passes: Vec<Pass>,
+    clocks: Vec<C>,
+) -> Result<Work<H, C>, NoMemory>
+    requires { All (IsFresh H.ties) passes.items }
+    ensures seats { IfOk result (λ work. work.seats.items ≡ seats.items) }
+    ensures reports { IfOk result (λ work. vec_len work.reports ≡ ports) }
+    ensures passes { IfOk result (λ work. work.passes.items ≡ passes.items) }
+    ensures posts { IfOk result (λ work. map (λ post. post.clock) work.posts.items ≡ clocks.items) }
+{
+    Ok(Work {
+        seats,
+        reports: port_reports(alloc, ports)?,
+        passes: passes_at(alloc, passes)?,
+        posts: posts_of(alloc, clocks)?,
+    })
+}
+
+/// All of them at their work, side by side, until each has ended.
+fn work_all<H, R, P, D, C, G>(
+    rt: &R,
+    alloc: Global,
+    hub: &Hub,
+    gate: &G,
+    ports: &mut [P],
+    seats: &mut [FeedSeat],
+    reports: &mut [PortReport],
+    doors: &mut [D],
+    passes: &mut [HubPass<H>],
+    posts: &mut [Post<C>],
+)
+where
+    H: OfHub + Send + Sync,
+    R: Threads + Wait + Sync,
+    P: FeedPort + Send,
+    D: Door + Send,
+    D::In: Send,
+    D::Out: Send,
+    C: Clock + Send + Drop,
+    G: Gate + Sync,
+    requires ports { ArePlaces (λ place port seat report. seat.ties ≡ hub.now) 0 ports.old seats.old
+        reports.old }
+    requires few_ports { length ports.old ≤ 64 }
+    requires doors { ArePlaces (λ place door pass post. ⊤) 0 doors.old passes.old posts.old }
+    requires few_doors { length doors.old ≤ 64 }
+    ensures ports { PlacesChanged (ingests_at (port_words P.ahead P.faults)) 0 ports.old seats.old
+        reports.old ports.new seats.new reports.new }
+    ensures doors { PlacesChanged (serves_at (door_words D.links D.faults)
+        (ends D.In.left D.In.faults D.Out.written D.Out.faults) C.ahead) 0 doors.old passes.old
+        posts.old doors.new passes.new posts.new }
+{
+    let ingesting = Ingesting {
+        rt,
+        alloc,
+        hub,
+        gate,
+    };
+    let serving = Serving { rt, alloc, gate };
+    let mut ingesters = ||
+        requires { IsSync R.row × IsSync G.row × IsSend P.row
+            × ArePlaces (λ place port seat report. seat.ties ≡ ingesting.hub.now) 0 ports.now seats.now reports.now
+            × (length ports.now ≤ 64) }
+        ensures { PlacesChanged (ingests_at (port_words P.ahead P.faults)) 0 ports.entry.now
+            seats.entry.now reports.entry.now ports.exit.now seats.exit.now reports.exit.now }
+    { each_place(rt, &ingesting, 0, ports, seats, reports) };
+    let mut readers = ||
+        requires { IsSync R.row × IsSync G.row × IsSync H.row × IsSend H.row × IsSend D.row × IsSend D.In.row × IsSend D.Out.row × IsSend C.row
+            × ArePlaces (λ place door pass post. ⊤) 0 doors.now passes.now posts.now
+            × (length doors.now ≤ 64) }
+        ensures { PlacesChanged (serves_at (door_words D.links D.faults)
+            (ends D.In.left D.In.faults D.Out.written D.Out.faults) C.ahead) 0 doors.entry.now
+            passes.entry.now posts.entry.now doors.exit.now passes.exit.now posts.exit.now }
+    { each_place(rt, &serving, 0, doors, passes, posts) };
+    join_mut(rt, &mut ingesters, &mut readers);
+}
+
+/// Closes the hub, writes the lines and answers the status.
+fn end<H: OfHub, R: Wait, C: Drop, K: Sink>(
+    rt: &R,
+    hub: Hub,
+    plans: &Plans,
+    seats: Vec<FeedSeat>,
+    reports: Vec<PortReport>,
+    passes: Vec<HubPass<H>>,
+    posts: Vec<Post<C>>,
+    out: &mut K,
+) -> u8
+    requires hub { hub ≡ H.ties }
+    requires ties { All (λ seat. seat.ties ≡ hub) seats.items }
+    requires seats { vec_len seats ≡ length plans.now.feeds }
+    requires reports { vec_len reports ≡ length plans.now.feeds }
+    ensures { EndsRun hub plans.now.feeds seats.items reports.items passes.items
+        (map (λ post. post.report) posts.items) (K.written out.old) (K.written out.new)
+        (K.faults out.old) (K.faults out.new) result }
+{
+    let mut seats = seats;
+    let mut passes = passes;
+    let closed = close(rt, hub, seats.as_mut_slice(), passes.as_mut_slice());
+    let writing = write_lines(out, plans, seats.as_slice(), reports.as_slice(), posts.as_slice());
+    status_of(writing, closed, reports.as_slice(), posts.as_slice())
+}
