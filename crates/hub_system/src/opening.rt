@@ -36,6 +36,8 @@ pub(crate) fn open_ports<R, P, F, E>(
 ) -> Result<Vec<P>, NoMemory>
 where
     R: rt::Files + Net<Listener = TcpListener, Stream = TcpStream> + Send + Copy,
+    R::File: Send,
+    R::Dir: Send,
     P: FeedPort,
     F: Fn(SystemPort<R>) -> Result<P, NoMemory>,
     E: Sink,
@@ -58,6 +60,8 @@ pub(crate) fn open_port<R, E>(
 ) -> Result<SystemPort<R>, NoMemory>
 where
     R: rt::Files + Net<Listener = TcpListener, Stream = TcpStream> + Send + Copy,
+    R::File: Send,
+    R::Dir: Send,
     E: Sink,
     ensures { IfOk result (λ port. IsPortOf feed.now port) }
 {

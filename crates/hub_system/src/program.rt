@@ -42,6 +42,8 @@ where
         + Send
         + Sync
         + Copy,
+    R::File: Send,
+    R::Dir: Send,
     P: FeedPort + Send,
     F: Fn(SystemPort<R>) -> Result<P, NoMemory>,
     I: Read + Drop,
@@ -63,7 +65,10 @@ where
 
 /// The words behind the program's name, where the first of them is `serve`. Words that the system doesn't
 /// give, or of which one is not UTF-8, are none of them.
-fn words_of_serve(alloc: Global, words: io::Result<Args>) -> Result<Option<Vec<Text>>, NoMemory> {
+pub(crate) fn words_of_serve(
+    alloc: Global,
+    words: io::Result<Args>,
+) -> Result<Option<Vec<Text>>, NoMemory> {
     let Ok(words) = words else {
         return Ok(None);
     };
@@ -95,6 +100,8 @@ where
         + Send
         + Sync
         + Copy,
+    R::File: Send,
+    R::Dir: Send,
     P: FeedPort + Send,
     F: Fn(SystemPort<R>) -> Result<P, NoMemory>,
     K: Sink,
@@ -128,6 +135,8 @@ where
         + Send
         + Sync
         + Copy,
+    R::File: Send,
+    R::Dir: Send,
     P: FeedPort + Send,
     F: Fn(SystemPort<R>) -> Result<P, NoMemory>,
     K: Sink,
