@@ -1,13 +1,23 @@
-//! The program `hub`: the words of its command line, standard input and standard output, and an exit status.
+//! The program `hub`: the words of its command line, standard input, output and error, and an exit status.
 //!
-//! All that it does stands in `hub_main`, whose contract says what is written and with which status it ends.
-//! Here the outside is the system's own.
+//! All that it does stands in `hub_system`, and below it in `hub_main` and `hub_serve`, whose contracts say
+//! what is written and with which status it ends. Here the outside is the system's own, and the ports of
+//! feeds are boxed: only a program itself knows what its runtime is.
 #![tactic(auto)]
 
-use hub_main::run_on_system;
+use feed_port::FeedPort;
+use hub_system::{NoMemory, SystemPort, run_program};
+use std::io;
 use std::process::ExitCode;
-use std::{env, io};
 
 fn main(rt: HostRuntime) -> ExitCode {
-    ExitCode::from(run_on_system(rt.alloc(), env::args(&rt), &rt, rt.stdin(), io::writer(&rt)))
+    let alloc = rt.alloc();
+    let boxed = |port: SystemPort<HostRuntime>| -> Result<Box<dyn FeedPort + Send>, NoMemory> {
+        match port {
+            SystemPort::Nothing(port) => Ok(Box::new(alloc, port)?),
+            SystemPort::Spool(port) => Ok(Box::new(alloc, port)?),
+            SystemPort::Stream(port) => Ok(Box::new(alloc, port)?),
+        }
+    };
+    ExitCode::from(run_program(&rt, &boxed, rt.stdin(), io::writer(&rt), rt.stderr()))
 }

@@ -1,0 +1,22 @@
+//! The program `hub` once more, so that the gate runs `serve` too: on the messages of data/spool, and with no
+//! address at which readers come in, so that it ends by itself.
+//!
+//! One of its feeds and the listener fail at opening, which standard error tells; so the status is 1.
+#![tactic(auto)]
+
+use feed_port::FeedPort;
+use hub_system::{NoMemory, SystemPort, run_program};
+use std::io;
+use std::process::ExitCode;
+
+fn main(rt: HostRuntime) -> ExitCode {
+    let alloc = rt.alloc();
+    let boxed = |port: SystemPort<HostRuntime>| -> Result<Box<dyn FeedPort + Send>, NoMemory> {
+        match port {
+            SystemPort::Nothing(port) => Ok(Box::new(alloc, port)?),
+            SystemPort::Spool(port) => Ok(Box::new(alloc, port)?),
+            SystemPort::Stream(port) => Ok(Box::new(alloc, port)?),
+        }
+    };
+    ExitCode::from(run_program(&rt, &boxed, rt.stdin(), io::writer(&rt), rt.stderr()))
+}

@@ -1,0 +1,93 @@
+//! The lines on standard error.
+
+ghost use Rattle.std.specs.Prelude.{◌≡◌, ◌++◌, codes, string_bytes, IfOk};
+ghost use Rattle.hub_outside.specs.Writing.{WritesAll};
+ghost use Rattle.hub_system.specs.Lines as lines;
+ghost use Rattle.hub_system.specs.Lines.{Tells};
+
+use crate::NoMemory;
+use hub_outside::{Sink, write_all};
+use std::alloc::Global;
+use std::io::ErrorKind;
+use std::net::SocketAddr;
+use texts::push_cleaned;
+
+/// Writes a line, or a front of it where the output fails. There is no place to tell that.
+pub(crate) fn tell<E: Sink>(errors: &mut E, line: &[u8])
+    ensures { Tells (E.written errors.old) (E.written errors.new) line.now }
+{
+    let _ = write_all(errors, line);
+}
+
+/// `hub: listening on <address>`, with an LF.
+pub(crate) fn listening_line(alloc: Global, address: SocketAddr) -> Result<String, NoMemory>
+    ensures { IfOk result (λ line. string_bytes line ≡ lines.listening_line address) }
+{
+    format!(in alloc; "hub: listening on {address}\n")
+}
+
+/// `hub: can't listen on <address>: <cause>`, with an LF.
+pub(crate) fn no_listener_line(
+    alloc: Global,
+    address: &str,
+    cause: ErrorKind,
+) -> Result<Vec<u8>, NoMemory>
+    ensures { IfOk result (λ line. line.items ≡ lines.no_listener_line address.now cause) }
+{
+    fault_line(alloc, "hub: can't listen on ", address, cause)
+}
+
+/// `hub: feed <feed> can't connect to <place>: <cause>`, with an LF.
+pub(crate) fn no_connection_line(
+    alloc: Global,
+    feed: &str,
+    place: &str,
+    cause: ErrorKind,
+) -> Result<Vec<u8>, NoMemory>
+    ensures { IfOk result (λ line. line.items ≡ lines.no_connection_line feed.now place.now cause) }
+{
+    let front = connecting_text(alloc, feed)?;
+    fault_line(alloc, front.as_str(), place, cause)
+}
+
+fn connecting_text(alloc: Global, feed: &str) -> Result<String, NoMemory>
+    ensures { IfOk result (λ text. string_bytes text ≡ lines.connecting_text feed.now) }
+{
+    format!(in alloc; "hub: feed {feed} can't connect to ")
+}
+
+/// What can't be done, the address with a space for each control character, and why.
+fn fault_line(
+    alloc: Global,
+    front: &str,
+    address: &str,
+    cause: ErrorKind,
+) -> Result<Vec<u8>, NoMemory>
+    ensures { IfOk result (λ line. line.items ≡ lines.fault_line front.now address.now cause) }
+{
+    let mut line = Vec::from_slice(alloc, front.as_bytes())?;
+    push_cleaned(address.as_bytes(), &mut line)?;
+    line.extend_from_slice(b": ")?;
+    line.extend_from_slice(cause_text(cause).as_bytes())?;
+    line.extend_from_slice(b"\n")?;
+    Ok(line)
+}
+
+/// A cause in a few words.
+fn cause_text(cause: ErrorKind) -> &'static str
+    ensures { result.now ≡ lines.cause_text cause }
+{
+    match cause {
+        ErrorKind::AddrInUse => "address in use",
+        ErrorKind::AddrNotAvailable => "not an address of this machine",
+        ErrorKind::ConnectionRefused => "refused",
+        ErrorKind::HostUnreachable => "host not reachable",
+        ErrorKind::InvalidInput => "not an address with a port",
+        ErrorKind::NetworkUnreachable => "network not reachable",
+        ErrorKind::NotFound => "no such host",
+        ErrorKind::OutOfMemory => "out of memory",
+        ErrorKind::PermissionDenied => "not permitted",
+        ErrorKind::TimedOut => "no answer in time",
+        _ => "a fault of the system",
+    }
+}
