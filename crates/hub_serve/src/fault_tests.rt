@@ -16,7 +16,7 @@ enum Ports {
     Sound,
     /// The second ask of the first one fails.
     Failing,
-    /// The first one is a stream with a message that is too long in front.
+    /// In boxes, and the first one is a stream with a message that is too long in front.
     TooLong,
 }
 
@@ -113,8 +113,8 @@ fn run_kind<R: Threads + Wait + Sync>(
             run_city(rt, alloc, &mut [first, second], doors, &OpenGate, out)
         }
         Ports::TooLong => {
-            let first = stream(alloc, b"\x01\0\0\x01")?;
-            let second = stream(alloc, b"")?;
+            let first: Box<dyn FeedPort + Send> = Box::new(alloc, stream(alloc, b"\x01\0\0\x01")?)?;
+            let second: Box<dyn FeedPort + Send> = Box::new(alloc, port(alloc, &[], &[])?)?;
             run_city(rt, alloc, &mut [first, second], doors, &OpenGate, out)
         }
     }

@@ -1,68 +1,20 @@
-//! Timetables, messages, ports and doors of the tests.
+//! The timetable of the tests, and their messages, ports and doors.
 
-ghost use Rattle.std.specs.Prelude.{◌≡◌, length, IfOk};
+ghost use Rattle.std.specs.Prelude.{◌≡◌, ◌≤◌, length, map, IfOk};
 ghost use Rattle.std.specs.Arc.{arc_value};
+ghost use Rattle.text_defs.specs.Moments.{last_moment};
+ghost use Rattle.sched_types.specs.City.{city_stops, city_routes, city_trips, city_places, hill_trip, boarding};
 
 use feed_port::MemoryPort;
-use hub_outside::{
-    FixedClock, MemoryDoor, MemoryFile, MemoryFiles, MemoryLink, MemorySink, MemorySource, NoMemory,
+use hub_outside::{FixedClock, MemoryDoor, MemoryLink, MemorySink, MemorySource, NoMemory};
+use sched_types::{
+    NamedFeed, NamedPlan, Place, Plan, PlanName, PlanParts, Plans, Route, Stop, Trip,
 };
-use rt_types::Text;
-use sched_load::{PlanConf, load};
-use sched_types::{NamedFeed, NamedPlan, Plan, PlanName, Plans};
 use std::alloc::Global;
 use std::sync::Arc;
-use std::test::Fail;
 
-/// The moment of all clocks, 07:53:20 on 30 March 2025 in the zone of the timetables.
+/// The moment of the runs of two feeds, 07:53:20 on 30 March 2025 in the city.
 pub(crate) const MOMENT: u64 = 1_743_314_000;
-
-/// The small city, of which T1 calls at the harbour.
-const CITY: [(&str, &str); 6] = [
-    ("city/agency.txt", "agency_id,agency_name\nA,City\n"),
-    (
-        "city/stops.txt",
-        "stop_id,stop_name,location_type,parent_station\nST,Market,1,\nS1,Market A,0,ST\nS2,Market B,0,ST\nS3,Harbour,,\nS4,Hill,,\n",
-    ),
-    (
-        "city/routes.txt",
-        "route_id,agency_id,route_short_name,route_type\nR7,A,7,3\n",
-    ),
-    (
-        "city/trips.txt",
-        "route_id,service_id,trip_id,trip_headsign,direction_id\nR7,WK,T1,Hill,0\nR7,WK,T2,Hill,0\nR7,WK,N1,Hill,0\n",
-    ),
-    (
-        "city/stop_times.txt",
-        "trip_id,arrival_time,departure_time,stop_id,stop_sequence,pickup_type\nT1,08:00:00,08:00:00,S1,1,\nT1,,,S3,2,\nT1,08:20:00,08:21:00,S2,5,\nT1,08:30:00,08:30:00,S4,9,\nT2,08:21:00,08:21:00,S2,1,0\nT2,8:40:00,8:40:00,S4,2,0\nN1,25:10:00,25:10:00,S1,1,\nN1,25:40:00,25:40:00,S4,2,\n",
-    ),
-    (
-        "city/calendar.txt",
-        "service_id,monday,tuesday,wednesday,thursday,friday,saturday,sunday,start_date,end_date\nWK,1,1,1,1,1,1,1,20250329,20250331\n",
-    ),
-];
-
-/// A line on which the trips T1 to T4 leave the stop S within half an hour.
-const LINE: [(&str, &str); 6] = [
-    ("city/agency.txt", "agency_id,agency_name\nA,City\n"),
-    ("city/stops.txt", "stop_id,stop_name\nS,Start\nE,End\n"),
-    (
-        "city/routes.txt",
-        "route_id,agency_id,route_short_name,route_type\nR7,A,7,3\n",
-    ),
-    (
-        "city/trips.txt",
-        "route_id,service_id,trip_id,trip_headsign\nR7,WK,T1,End\nR7,WK,T2,End\nR7,WK,T3,End\nR7,WK,T4,End\n",
-    ),
-    (
-        "city/stop_times.txt",
-        "trip_id,arrival_time,departure_time,stop_id,stop_sequence\nT1,08:00:00,08:00:00,S,1\nT1,08:50:00,08:50:00,E,2\nT2,08:10:00,08:10:00,S,1\nT2,08:51:00,08:51:00,E,2\nT3,08:20:00,08:20:00,S,1\nT3,08:52:00,08:52:00,E,2\nT4,08:30:00,08:30:00,S,1\nT4,08:53:00,08:53:00,E,2\n",
-    ),
-    (
-        "city/calendar.txt",
-        "service_id,monday,tuesday,wednesday,thursday,friday,saturday,sunday,start_date,end_date\nWK,1,1,1,1,1,1,1,20250329,20250331\n",
-    ),
-];
 
 /// A message of stamp 5 without entities.
 pub(crate) const FIVE: [u8; 11] = [
@@ -86,36 +38,109 @@ const SERVED: [&str; 3] = [
     "HTTP/1.1 200 OK\r\nContent-Type: text/plain; charset=utf-8\r\nContent-Length: 134\r\nX-Hub-Sequence: 2\r\nX-Hub-Moment: 1743314000\r\nConnection: keep-alive\r\n\r\nstop\tS3\tHarbour\nexpected\tscheduled\tdelay\tstate\troute\theadsign\ttrip\tdate\tplatform\n1743315300\t1743315000\t300\tlive\t7\tHill\tT1\t20250330\tS3\n",
 ];
 
-/// The files of a folder.
-fn folder(alloc: Global, texts: &[(&str, &str)]) -> Result<MemoryFiles, NoMemory> {
-    let mut files = Vec::new(alloc);
-    for (path, text) in texts {
-        files.push(MemoryFile {
-            path: String::from_str(alloc, path)?,
-            bytes: Vec::from_slice(alloc, text.as_bytes())?,
-        })?;
+fn stop(alloc: Global, id: &str, name: &str, parent: Option<u32>) -> Result<Stop, NoMemory>
+    ensures { IfOk result (λ stop. stop ≡ record { id = id.now; name = name.now; parent = parent }) }
+{
+    Ok(Stop {
+        id: PlanName::new(alloc, id)?,
+        name: PlanName::new(alloc, name)?,
+        parent,
+    })
+}
+
+fn stops(alloc: Global) -> Result<Vec<Stop>, NoMemory>
+    ensures { IfOk result (λ stops. stops.items ≡ city_stops) }
+{
+    Ok(vec![in alloc;
+        stop(alloc, "S1", "Market A", Some(4))?,
+        stop(alloc, "S2", "Market B", Some(4))?,
+        stop(alloc, "S3", "Harbour", None)?,
+        stop(alloc, "S4", "Hill", None)?,
+        stop(alloc, "ST", "Market", None)?,
+    ]?)
+}
+
+fn routes(alloc: Global) -> Result<Vec<Route>, NoMemory>
+    ensures { IfOk result (λ routes. routes.items ≡ city_routes) }
+{
+    Ok(vec![in alloc;
+        Route {
+            id: PlanName::new(alloc, "R7")?,
+            agency: Some(0),
+            short: PlanName::new(alloc, "7")?,
+            long: PlanName::new(alloc, "")?,
+            kind: 3,
+        },
+    ]?)
+}
+
+fn trip(alloc: Global, id: &str) -> Result<Trip, NoMemory>
+    ensures { IfOk result (λ trip. trip ≡ hill_trip id.now) }
+{
+    Ok(Trip {
+        id: PlanName::new(alloc, id)?,
+        route: 0,
+        service: 0,
+        headsign: PlanName::new(alloc, "Hill")?,
+        direction: Some(0),
+    })
+}
+
+fn trips(alloc: Global) -> Result<Vec<Trip>, NoMemory>
+    ensures { IfOk result (λ trips. trips.items ≡ city_trips) }
+{
+    Ok(vec![in alloc; trip(alloc, "N1")?, trip(alloc, "T1")?, trip(alloc, "T2")?]?)
+}
+
+fn place(stop: u32, sequence: u32, arrival: u32, departure: u32) -> Place
+    ensures { result ≡ boarding stop sequence arrival departure }
+{
+    Place {
+        stop,
+        sequence,
+        arrival,
+        departure,
+        pickup: 0,
     }
-    Ok(MemoryFiles::new(files, Vec::new(alloc)))
 }
 
-/// The timetable of these files, for three days.
-fn plan(alloc: Global, texts: &[(&str, &str)]) -> Result<Plan, Fail> {
-    let conf = PlanConf {
-        zone: Text::new(alloc, "CET-1CEST,M3.5.0,M10.5.0/3")?,
-        first: 20_250_329,
-        days: 3,
+fn places(alloc: Global) -> Result<Vec<Vec<Place>>, NoMemory>
+    ensures { IfOk result (λ places. map (λ v. v.items) places.items ≡ city_places) }
+{
+    let night = vec![in alloc; place(0, 1, 90600, 90600), place(3, 2, 92400, 92400)]?;
+    let first = vec![in alloc;
+        place(0, 1, 28800, 28800),
+        place(2, 2, 29400, 29400),
+        place(1, 5, 30000, 30060),
+        place(3, 9, 30600, 30600),
+    ]?;
+    let second = vec![in alloc; place(1, 1, 30060, 30060), place(3, 2, 31200, 31200)]?;
+    Ok(vec![in alloc; night, first, second]?)
+}
+
+/// The small city on 29 to 31 March 2025: T1 goes from S1 at 08:00 by S3 and S2 at 08:21 to S4, T2 from S2 at
+/// 08:21 to S4, and N1 from S1 at 25:10 to S4.
+fn plan(alloc: Global) -> Result<Plan, NoMemory> {
+    let parts = PlanParts {
+        agencies: vec![in alloc; PlanName::new(alloc, "A")?]?,
+        stops: stops(alloc)?,
+        routes: routes(alloc)?,
+        trips: trips(alloc)?,
+        places: places(alloc)?,
+        active: vec![in alloc; vec![in alloc; 0, 1, 2]?]?,
+        first: 20250329,
+        bases: vec![in alloc; 1743202800, 1743285600, 1743372000]?,
     };
-    let mut files = folder(alloc, texts)?;
-    Ok(load(alloc, &mut files, "city", &conf)?)
+    Plan::build(alloc, parts)
 }
 
-fn named(alloc: Global, plan: Plan) -> Result<NamedPlan, NoMemory>
-    ensures { IfOk result (λ named. named.name ≡ 99 ∷ 105 ∷ 116 ∷ 121 ∷ []) }
+fn named(alloc: Global, name: &str) -> Result<NamedPlan, NoMemory>
+    ensures { IfOk result (λ named. named.name ≡ name.now) }
 {
     Ok(NamedPlan {
-        name: PlanName::new(alloc, "city")?,
+        name: PlanName::new(alloc, name)?,
         prefix: PlanName::new(alloc, "")?,
-        plan,
+        plan: plan(alloc)?,
     })
 }
 
@@ -129,31 +154,19 @@ fn feed(alloc: Global, name: &str) -> Result<NamedFeed, NoMemory>
 }
 
 /// The city with the feeds `a` and `b`.
-pub(crate) fn city(alloc: Global) -> Result<Arc<Plans>, Fail>
+pub(crate) fn two_feeds(alloc: Global) -> Result<Arc<Plans>, NoMemory>
     ensures { IfOk result (λ plans. length (arc_value plans).feeds ≡ 2) }
 {
-    two_feeds(alloc, plan(alloc, &CITY)?)
-}
-
-fn two_feeds(alloc: Global, plan: Plan) -> Result<Arc<Plans>, Fail>
-    ensures { IfOk result (λ plans. length (arc_value plans).feeds ≡ 2) }
-{
-    let plans = vec![in alloc; named(alloc, plan)?]?;
+    let plans = vec![in alloc; named(alloc, "city")?]?;
     let feeds = vec![in alloc; feed(alloc, "a")?, feed(alloc, "b")?]?;
     Ok(Arc::new(alloc, Plans::new(plans, feeds))?)
 }
 
-/// The line with the feeds `a` to `d`.
-pub(crate) fn line(alloc: Global) -> Result<Arc<Plans>, Fail>
+/// The city with the feeds `a` to `d`.
+pub(crate) fn four_feeds(alloc: Global) -> Result<Arc<Plans>, NoMemory>
     ensures { IfOk result (λ plans. length (arc_value plans).feeds ≡ 4) }
 {
-    four_feeds(alloc, plan(alloc, &LINE)?)
-}
-
-fn four_feeds(alloc: Global, plan: Plan) -> Result<Arc<Plans>, Fail>
-    ensures { IfOk result (λ plans. length (arc_value plans).feeds ≡ 4) }
-{
-    let plans = vec![in alloc; named(alloc, plan)?]?;
+    let plans = vec![in alloc; named(alloc, "city")?]?;
     let feeds = vec![in alloc;
         feed(alloc, "a")?,
         feed(alloc, "b")?,
@@ -210,9 +223,11 @@ pub(crate) fn city_doors(alloc: Global) -> Result<[MemoryDoor; 2], NoMemory> {
     Ok([first, second])
 }
 
-/// A clock that stands.
-pub(crate) fn clock(alloc: Global) -> Result<FixedClock, NoMemory> {
-    Ok(FixedClock::new(vec![in alloc; MOMENT]?))
+/// A clock that stands at a moment up to the end of the year 9999.
+pub(crate) fn clock(alloc: Global, moment: u64) -> Result<FixedClock, NoMemory>
+    requires { moment ≤ last_moment }
+{
+    Ok(FixedClock::new(vec![in alloc; moment]?))
 }
 
 /// An output that holds nothing yet.

@@ -3,7 +3,7 @@
 ghost use Rattle.std.specs.Prelude.{◌≡◌, length};
 
 use crate::run_serve;
-use crate::test_hubs::{city, city_doors, city_ports, clock, number_at, sink};
+use crate::test_hubs::{MOMENT, city_doors, city_ports, clock, number_at, sink, two_feeds};
 use feed_port::FeedPort;
 use hub_outside::{Gate, MemoryDoor, MemorySink, OpenGate};
 use std::alloc::Global;
@@ -31,8 +31,8 @@ where
     requires ports { length ports.old ≡ 2 }
     requires doors { length doors.old ≡ 2 }
 {
-    let plans = city(alloc)?;
-    let clocks = vec![in alloc; clock(alloc)?, clock(alloc)?]?;
+    let plans = two_feeds(alloc)?;
+    let clocks = vec![in alloc; clock(alloc, MOMENT)?, clock(alloc, MOMENT)?]?;
     Ok(run_serve(rt, alloc, plans, ports, doors, clocks, gate, out))
 }
 
