@@ -19,12 +19,22 @@
 #![tactic(auto)]
 
 mod closing;
+#[cfg(test)]
+mod fault_tests;
 mod feeds;
+#[cfg(test)]
+mod gate_tests;
 mod naming;
 mod opening;
 mod readers;
 mod running;
+#[cfg(test)]
+mod side_tests;
 mod telling;
+#[cfg(test)]
+mod test_hubs;
+#[cfg(test)]
+mod tests;
 
 pub use running::run_serve;
 pub use std::alloc::AllocError as NoMemory;
