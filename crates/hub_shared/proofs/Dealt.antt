@@ -9,7 +9,7 @@ use Rattle.hub_history.specs.Told.{Told, history_of}
 use Rattle.hub_history.specs.declared.item.LogItem.TheVariants.{Accepted}
 use Rattle.hub_history.specs.declared.item.LogItem.TheVariants.{Ended}
 use Rattle.hub_history.proofs.Logs.{entries_append, entries_closed}
-use Rattle.feed_defs.specs.History.{messages_of}
+use Rattle.feed_defs.specs.History.{messages_of, IsLegal}
 use Rattle.snapshot_cell.specs.Seen.{PassSeen, Publishing}
 use Rattle.hub_shared.specs.Seats.{Ties, IsOf, SeatSeen, history_at, count_of, Begins}
 use Rattle.hub_shared.specs.Calls.{Ends, IsFresh}
@@ -56,3 +56,12 @@ closes_hub (Ok t) p p' hub is same of = record {
   feeds = ap (λ (x : Told). x.feeds) is ∙ ap (λ (q : Publishing). q.line.feeds) same ∙ of.feeds;
 }
 closes_hub (Err x) p p' hub is same of = tt
+
+-- the ended history is legal where what was published is
+pub closes_legal : {E : Type 0} (r : Result Told E) (p p' : Publishing) → IfOk r (λ t. t ≡ record p'.line { log = p'.line.log ++ Ended ∷ [] }) → p' ≡ p → IsLegal p.line.feeds (history_of p.line)
+    → IfOk r (λ t. IsLegal t.feeds (history_of t))
+closes_legal (Ok t) p p' is same legal =
+    subst (λ (x : Told). IsLegal x.feeds (history_of x)) (sym is)
+    (subst (λ (h : List Entry). IsLegal p'.line.feeds h) (sym (entries_closed p'.line.log))
+    (subst (λ (q : Publishing). IsLegal q.line.feeds (history_of q.line)) (sym same) legal))
+closes_legal (Err x) p p' is same legal = tt

@@ -1,6 +1,7 @@
 //! Closing.
 
 ghost use Rattle.std.specs.Prelude.{◌≡◌, ℕ, ◌<◌, length, IfOk, slice_index, slice_index_or};
+ghost use Rattle.feed_defs.specs.History.{IsLegal};
 ghost use Rattle.hub_history.specs.Told.{history_of};
 ghost use Rattle.hub_shared.specs.Seats.{SeatSeen, IsOf, count_of};
 ghost use Rattle.hub_shared.specs.Calls.{Ends};
@@ -13,13 +14,14 @@ use feed_permits::Desk;
 use snapshot_cell::{Ending, Publisher};
 use std::sync::Wait;
 
-/// Ends the hub's history, which has what each of its seats brought in; or want of memory, and the hub
-/// is gone. The seats stay as they are.
+/// Ends the hub's history, which is legal and has what each of its seats brought in; or want of memory,
+/// and the hub is gone. The seats stay as they are.
 pub fn close_hub<R: Wait>(rt: &R, hub: Hub, seats: &mut [FeedSeat]) -> Result<Ending, NoMemory>
     requires ties { (i : ℕ) (none : SeatSeen) → i < length seats.old
         → (slice_index_or seats.old i none).ties ≡ hub }
     ensures seats { seats.new ≡ seats.old }
     ensures hub { IfOk result (λ ending. IsOf ending hub) }
+    ensures legal { IfOk result (λ ending. IsLegal ending.feeds (history_of ending)) }
     ensures ended { IfOk result (λ ending. (i : ℕ) (none : SeatSeen) → i < length seats.old
         → Ends (slice_index_or seats.old i none) ending) }
 {
@@ -40,6 +42,7 @@ fn end<R: Wait>(rt: &R, locked: Locked, seats: &mut [FeedSeat]) -> Result<Ending
         → (slice_index_or seats.old i none).ties ≡ locked }
     ensures seats { seats.new ≡ seats.old }
     ensures hub { IfOk result (λ ending. IsOf ending locked) }
+    ensures legal { IfOk result (λ ending. IsLegal ending.feeds (history_of ending)) }
     ensures ended { IfOk result (λ ending. (i : ℕ) (none : SeatSeen) → i < length seats.old
         → Ends (slice_index_or seats.old i none) ending) }
 {
