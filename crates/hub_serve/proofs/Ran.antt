@@ -110,6 +110,7 @@ module _ {P D I O C : Type 0} (ports : PortWords P) (doors : DoorWords D I O) (s
     plans = refl;
     ending = ends.closes.ending;
     of = ends.closes.of;
+    legal = ends.closes.legal;
     reports = rs';
     lasts = lasts_of ss';
     feeds_ran = feeds_ran ports ties ends.closes.ending 0 ps ss rs ps' ss' rs' fresh fed (under ends.closes.ending (λ (seat : SeatSeen) (ended : Told). Ends seat ended) ss' ends.closes.ends);

@@ -98,6 +98,7 @@ pub record Ran {P D I O : Type 0}
   pub plans : hub.plans ≡ schedules
   pub ending : Option Told
   pub of : IfSome ending (λ ended. IsOf ended hub)
+  pub legal : IfSome ending (λ ended. IsLegal ended.feeds (history_of ended))
   pub reports : List PortReport
   pub lasts : List ℕ
   pub feeds_ran : FeedsRan ports hub ending 0 ps ps' reports lasts

@@ -3,7 +3,8 @@ use Rattle.std.specs.Prelude.{◌≡◌, ℕ, Bool, true, false, List, [], ◌�
 use Rattle.std.specs.List.{All}
 use Rattle.std.specs.Option.{is_some}
 use mathlib.Core.List.{IsPrefix}
-use Rattle.hub_history.specs.Told.{Told}
+use Rattle.feed_defs.specs.History.{IsLegal}
+use Rattle.hub_history.specs.Told.{Told, history_of}
 use Rattle.snapshot_cell.specs.Seen.{PassSeen}
 use Rattle.hub_shared.specs.Seats.{Ties, SeatSeen, IsOf}
 use Rattle.hub_shared.specs.Calls.{Ends}
@@ -15,13 +16,14 @@ use Rattle.serve_lines.specs.declared.pieces.Writing.TheVariants.{Whole}
 use Rattle.serve_lines.specs.Wrote.{Wrote, HasCause}
 use Rattle.hub_serve.specs.Runs.{text_of, status_by}
 
--- The hub was closed, and what it accepted is what these seats did and what begins with what these
+-- The hub was closed, and what it accepted is legal, is what these seats did and begins with what these
 -- passes knew; or closing found no memory, and there is no ending.
 pub record Closes (hub : Ties) (seats : List SeatSeen) (passes : List PassSeen)
     (closed : Bool) : Type 0 where
   pub ending : Option Told
   pub there : is_some ending ≡ closed
   pub of : IfSome ending (λ ended. IsOf ended hub)
+  pub legal : IfSome ending (λ ended. IsLegal ended.feeds (history_of ended))
   pub ends : IfSome ending (λ ended. All (λ seat. Ends seat ended) seats)
   pub begins : IfSome ending (λ ended. All (λ pass. IsPrefix pass.line.log ended.log) passes)
 

@@ -7,6 +7,7 @@ returns-in-Ok-clause-closes g c = record {
   ending = Some c.in-Ok.ending;
   there = refl;
   of = c.in-Ok.ensures.hub;
+  legal = c.in-Ok.ensures.legal;
   ends = c.in-Ok.ensures.ended;
   begins = c.finish_all.ensures;
 }
