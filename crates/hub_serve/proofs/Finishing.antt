@@ -10,12 +10,12 @@ module _ {X : Type 0} where
   later_on xs ys k y same i none above = get_or-set_other xs k i y none (λ (e : i ≡ k). absurd (omega (arith, above, e))) ∙ same i none (omega (arith, above))
 
   -- what is told of the items before one, and of that one
-  pub begins_on : (P : X → Type 0) (xs ys : List X) (k : ℕ) (x : X) → k < length xs → x ≡ slice_index_or xs k x
+  pub begins_on : (P : X → Type 0) (xs ys : List X) (k : ℕ) (x : X) → k < length xs
       → ((i : ℕ) (none : X) → k ≤ i → slice_index_or xs i none ≡ slice_index_or ys i none)
-      → P x → ((i : ℕ) (none : X) → i < k → P (slice_index_or ys i none)) → (i : ℕ) (none : X) → i < k + 1 → P (slice_index_or ys i none)
-  begins_on P xs ys k x within is same told before i none below = elim (cases_lt i k) [
+      → P (slice_index_or xs k x) → ((i : ℕ) (none : X) → i < k → P (slice_index_or ys i none)) → (i : ℕ) (none : X) → i < k + 1 → P (slice_index_or ys i none)
+  begins_on P xs ys k x within same told before i none below = elim (cases_lt i k) [
     | inl less ↦ before i none less
     | inr least ↦
         let at : i ≡ k = omega (arith, below, least) in
-        subst P (is ∙ get_or_default xs k x none within ∙ same k none (omega arith) ∙ ap (λ (j : ℕ). slice_index_or ys j none) (sym at)) told
+        subst P (get_or_default xs k x none within ∙ same k none (omega arith) ∙ ap (λ (j : ℕ). slice_index_or ys j none) (sym at)) told
     ]

@@ -1,4 +1,5 @@
 pub mod Opened
 pub mod Finishing
 pub mod Lines
+pub mod Placed
 pub mod Ran

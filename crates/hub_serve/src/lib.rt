@@ -35,6 +35,7 @@ mod telling;
 mod test_hubs;
 #[cfg(test)]
 mod tests;
+mod working;
 
 pub use running::run_serve;
 pub use std::alloc::AllocError as NoMemory;

@@ -1,35 +1,28 @@
 //! The run.
 
-ghost use Rattle.std.specs.Prelude.{◌≡◌, ◌≤◌, ◌⊎◌, ⊤, length, vec_len, map, IfOk};
-ghost use denote.Param.Send.{IsSend, IsSync};
+ghost use Rattle.std.specs.Prelude.{◌≡◌, ◌≤◌, ◌⊎◌, length, vec_len, map, IfOk};
 ghost use Rattle.std.specs.Arc.{arc_value};
 ghost use Rattle.std.specs.List.{All};
 ghost use Rattle.hub_shared.specs.Calls.{IsFresh};
 ghost use Rattle.hub_shared.specs.Seats.{fresh_seats};
 ghost use Rattle.http_door.specs.Visits.{ends};
-ghost use Rattle.place_jobs.specs.Places.{ArePlaces, PlacesChanged};
-ghost use Rattle.hub_serve.specs.Feeds.{ingests_at};
-ghost use Rattle.hub_serve.specs.Readers.{serves_at};
 ghost use Rattle.hub_serve.specs.Runs.{Ran, WasNotOpened};
-ghost use Rattle.hub_serve.specs.Steps.{EndsRun};
 ghost use Rattle.hub_serve.specs.Words.{port_words, door_words};
 
-use crate::closing::{close, discard};
-use crate::feeds::Ingesting;
+use crate::closing::discard;
 use crate::naming::OfHub;
 use crate::opening::{passes_at, port_reports, posts_of};
-use crate::readers::{HubPass, Post, Serving};
-use crate::telling::{status_of, write_lines};
+use crate::readers::{HubPass, Post};
+use crate::working::run_work;
 use feed_port::FeedPort;
 use hub_outside::{Clock, Door, Gate, Sink};
-use hub_shared::{FeedSeat, Hub, Opened, PortReport, open_hub};
-use place_jobs::each_place;
+use hub_shared::{FeedSeat, Opened, PortReport, open_hub};
 use sched_types::Plans;
 use snapshot_cell::{NoMemory, Pass};
 use std::alloc::Global;
 use std::marker::Brand;
 use std::sync::{Arc, Wait};
-use std::thread::{Threads, join_mut};
+use std::thread::Threads;
 
 /// The exit status where memory is wanting.
 const WANTS_MEMORY: u8 = 6;
@@ -128,10 +121,11 @@ where
         mut passes,
         mut posts,
     } = work;
-    work_all(
+    run_work(
         rt,
         alloc,
-        &hub,
+        hub,
+        plans,
         gate,
         ports,
         seats.as_mut_slice(),
@@ -139,8 +133,8 @@ where
         doors,
         passes.as_mut_slice(),
         posts.as_mut_slice(),
-    );
-    end(rt, hub, plans, seats, reports, passes, posts, out)
+        out,
+    )
 }
 
 /// What ingesters and readers work with, beside ports and doors.
@@ -172,88 +166,4 @@ fn begin<H: OfHub, C: Drop>(
         passes: passes_at(alloc, passes)?,
         posts: posts_of(alloc, clocks)?,
     })
-}
-
-/// All of them at their work, side by side, until each has ended.
-fn work_all<H, R, P, D, C, G>(
-    rt: &R,
-    alloc: Global,
-    hub: &Hub,
-    gate: &G,
-    ports: &mut [P],
-    seats: &mut [FeedSeat],
-    reports: &mut [PortReport],
-    doors: &mut [D],
-    passes: &mut [HubPass<H>],
-    posts: &mut [Post<C>],
-)
-where
-    H: OfHub + Send + Sync,
-    R: Threads + Wait + Sync,
-    P: FeedPort + Send,
-    D: Door + Send,
-    D::In: Send,
-    D::Out: Send,
-    C: Clock + Send + Drop,
-    G: Gate + Sync,
-    requires ports { ArePlaces (λ place port seat report. seat.ties ≡ hub.now) 0 ports.old seats.old
-        reports.old }
-    requires few_ports { length ports.old ≤ 64 }
-    requires doors { ArePlaces (λ place door pass post. ⊤) 0 doors.old passes.old posts.old }
-    requires few_doors { length doors.old ≤ 64 }
-    ensures ports { PlacesChanged (ingests_at (port_words P.ahead P.faults)) 0 ports.old seats.old
-        reports.old ports.new seats.new reports.new }
-    ensures doors { PlacesChanged (serves_at (door_words D.links D.faults)
-        (ends D.In.left D.In.faults D.Out.written D.Out.faults) C.ahead) 0 doors.old passes.old
-        posts.old doors.new passes.new posts.new }
-{
-    let ingesting = Ingesting {
-        rt,
-        alloc,
-        hub,
-        gate,
-    };
-    let serving = Serving { rt, alloc, gate };
-    let mut ingesters = ||
-        requires { IsSync R.row × IsSync G.row × IsSend P.row
-            × ArePlaces (λ place port seat report. seat.ties ≡ ingesting.hub.now) 0 ports.now seats.now reports.now
-            × (length ports.now ≤ 64) }
-        ensures { PlacesChanged (ingests_at (port_words P.ahead P.faults)) 0 ports.entry.now
-            seats.entry.now reports.entry.now ports.exit.now seats.exit.now reports.exit.now }
-    { each_place(rt, &ingesting, 0, ports, seats, reports) };
-    let mut readers = ||
-        requires { IsSync R.row × IsSync G.row × IsSync H.row × IsSend H.row × IsSend D.row × IsSend D.In.row × IsSend D.Out.row × IsSend C.row
-            × ArePlaces (λ place door pass post. ⊤) 0 doors.now passes.now posts.now
-            × (length doors.now ≤ 64) }
-        ensures { PlacesChanged (serves_at (door_words D.links D.faults)
-            (ends D.In.left D.In.faults D.Out.written D.Out.faults) C.ahead) 0 doors.entry.now
-            passes.entry.now posts.entry.now doors.exit.now passes.exit.now posts.exit.now }
-    { each_place(rt, &serving, 0, doors, passes, posts) };
-    join_mut(rt, &mut ingesters, &mut readers);
-}
-
-/// Closes the hub, writes the lines and answers the status.
-fn end<H: OfHub, R: Wait, C: Drop, K: Sink>(
-    rt: &R,
-    hub: Hub,
-    plans: &Plans,
-    seats: Vec<FeedSeat>,
-    reports: Vec<PortReport>,
-    passes: Vec<HubPass<H>>,
-    posts: Vec<Post<C>>,
-    out: &mut K,
-) -> u8
-    requires hub { hub ≡ H.ties }
-    requires ties { All (λ seat. seat.ties ≡ hub) seats.items }
-    requires seats { vec_len seats ≡ length plans.now.feeds }
-    requires reports { vec_len reports ≡ length plans.now.feeds }
-    ensures { EndsRun hub plans.now.feeds seats.items reports.items passes.items
-        (map (λ post. post.report) posts.items) (K.written out.old) (K.written out.new)
-        (K.faults out.old) (K.faults out.new) result }
-{
-    let mut seats = seats;
-    let mut passes = passes;
-    let closed = close(rt, hub, seats.as_mut_slice(), passes.as_mut_slice());
-    let writing = write_lines(out, plans, seats.as_slice(), reports.as_slice(), posts.as_slice());
-    status_of(writing, closed, reports.as_slice(), posts.as_slice())
 }
