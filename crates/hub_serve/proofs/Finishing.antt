@@ -18,4 +18,4 @@ module _ {X : Type 0} where
     | inr least ↦
         let at : i ≡ k = omega (arith, below, least) in
         subst P (get_or_default xs k x none within ∙ same k none (omega arith) ∙ ap (λ (j : ℕ). slice_index_or ys j none) (sym at)) told
-    ]
+  ]

@@ -49,7 +49,7 @@ seats_counted hub schedules seats plans fresh =
 module _ {A B C : Type 0} (does : ℕ → A → B → C → A → B → C → Type 0) (M : ℕ → List A → List B → List C → List A → List B → List C → Type 0)
     (none : (place : ℕ) → M place [] [] [] [] [] [])
     (more : (place : ℕ) (x : A) (y : B) (z : C) (u : A) (v : B) (w : C) (xs : List A) (ys : List B) (zs : List C) (us : List A) (vs : List B) (ws : List C)
-        → does place x y z u v w → M (place + 1) xs ys zs us vs ws → M place (x ∷ xs) (y ∷ ys) (z ∷ zs) (u ∷ us) (v ∷ vs) (w ∷ ws)) where
+    → does place x y z u v w → M (place + 1) xs ys zs us vs ws → M place (x ∷ xs) (y ∷ ys) (z ∷ zs) (u ∷ us) (v ∷ vs) (w ∷ ws)) where
   pub by_places : (place : ℕ) (xs : List A) (ys : List B) (zs : List C) (us : List A) (vs : List B) (ws : List C) → PlacesChanged does place xs ys zs us vs ws → M place xs ys zs us vs ws
   by_places place [] [] [] [] [] [] h = none place
   by_places place [] (y ∷ ys) zs us vs ws h = absurd h

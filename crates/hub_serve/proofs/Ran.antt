@@ -56,13 +56,15 @@ module _ {P : Type 0} (words : PortWords P) (hub : Ties) where
       by_places (ingests_at words)
       (λ (first : ℕ) (ps : List P) (ss : List SeatSeen) (rs : List PortReport) (ps' : List P) (ss' : List SeatSeen) (rs' : List PortReport). AreFreshSeats hub first ss → IfSome ending (λ e. AllByRecursion (λ seat. Ends seat e) ss') → FeedsRan words hub ending first ps ps' rs' (lasts_of ss'))
       (λ first fresh ends. tt)
-      (λ first p s r p' s' r' ps ss rs ps' ss' rs' does rest fresh ends.
-      (record {
-        seat = s';
-        ingests = subst (λ (x : SeatSeen). IngestsBy x s' (words.ahead p) (words.ahead p') (words.faults p) (words.faults p') r') fresh.0 does;
-        ended = first_told ending (λ (seat : SeatSeen) (ended : Told). Ends seat ended) s' ss' ends;
-        last_is = refl;
-      }, rest fresh.1 (rest_told ending (λ (seat : SeatSeen) (ended : Told). Ends seat ended) s' ss' ends)))
+      (λ first p s r p' s' r' ps ss rs ps' ss' rs' does rest fresh ends. (
+        record {
+          seat = s';
+          ingests = subst (λ (x : SeatSeen). IngestsBy x s' (words.ahead p) (words.ahead p') (words.faults p) (words.faults p') r') fresh.0 does;
+          ended = first_told ending (λ (seat : SeatSeen) (ended : Told). Ends seat ended) s' ss' ends;
+          last_is = refl;
+        },
+        rest fresh.1 (rest_told ending (λ (seat : SeatSeen) (ended : Told). Ends seat ended) s' ss' ends),
+      ))
 
   -- a seat stays of its hub
   ties_from : (first : ℕ) (ps : List P) (ss : List SeatSeen) (rs : List PortReport) (ps' : List P) (ss' : List SeatSeen) (rs' : List PortReport)
@@ -91,15 +93,17 @@ module _ {D I O C : Type 0} (words : DoorWords D I O) (seen : LinkEnds I O) (ahe
       by_places (serves_at words seen ahead)
       (λ (place : ℕ) (ds : List D) (passes : List PassSeen) (posts : List (Post C)) (ds' : List D) (passes' : List PassSeen) (posts' : List (Post C)). AllByRecursion (IsFresh ties) passes → IfSome ending (λ e. AllByRecursion (λ (pass : PassSeen). IsPrefix pass.line.log e.log) passes') → DoorsRan words seen ties.plans ending ds ds' (map (λ (post : Post C). ahead post.clock) posts) (map (λ (post : Post C). post.report) posts'))
       (λ place fresh begins. tt)
-      (λ place d s r d' s' r' ds ss rs ds' ss' rs' does rest fresh begins.
-      (record {
-        left = hub (ahead r'.clock) s'.shown.plans (history_of s'.line) s'.reads false;
-        line = s'.line;
-        history = refl;
-        serves = subst (λ (x : Hub). ServesDoor seen (words.links d) (words.links d') (words.faults d) (words.faults d') x (hub (ahead r'.clock) s'.shown.plans (history_of s'.line) s'.reads false) r'.report)
-            (begins_fresh s (ahead r.clock) fresh.0) does;
-        begins = first_told ending (λ (pass : PassSeen) (ended : Told). IsPrefix pass.line.log ended.log) s' ss' begins;
-      }, rest fresh.1 (rest_told ending (λ (pass : PassSeen) (ended : Told). IsPrefix pass.line.log ended.log) s' ss' begins)))
+      (λ place d s r d' s' r' ds ss rs ds' ss' rs' does rest fresh begins. (
+        record {
+          left = hub (ahead r'.clock) s'.shown.plans (history_of s'.line) s'.reads false;
+          line = s'.line;
+          history = refl;
+          serves = subst (λ (x : Hub). ServesDoor seen (words.links d) (words.links d') (words.faults d) (words.faults d') x (hub (ahead r'.clock) s'.shown.plans (history_of s'.line) s'.reads false) r'.report)
+              (begins_fresh s (ahead r.clock) fresh.0) does;
+          begins = first_told ending (λ (pass : PassSeen) (ended : Told). IsPrefix pass.line.log ended.log) s' ss' begins;
+        },
+        rest fresh.1 (rest_told ending (λ (pass : PassSeen) (ended : Told). IsPrefix pass.line.log ended.log) s' ss' begins),
+      ))
 
 -- what is said of all of a list, by its items
 under : {A : Type 0} (ending : Option Told) (P : A → Told → Type 0) (xs : List A) → IfSome ending (λ e. All (λ y. P y e) xs) → IfSome ending (λ e. AllByRecursion (λ y. P y e) xs)

@@ -93,8 +93,7 @@ pub(crate) struct Serving<'a, R, G> {
 }
 
 impl<'a, R: Wait, G: Gate, H: OfHub, C: Clock, D: Door> PlaceJob<D, HubPass<H>, Post<C>>
-    for Serving<'a, R, G>
-{
+    for Serving<'a, R, G> {
     ghost use Rattle.std.specs.Prelude.{⊤};
     ghost use Rattle.http_door.specs.Visits.{ends};
     ghost use Rattle.hub_serve.specs.Readers.{serves_at};

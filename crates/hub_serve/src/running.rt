@@ -68,7 +68,9 @@ where
     let Ok(opened) = open_hub(rt, alloc, plans, doors.len() as u32) else {
         return WANTS_MEMORY;
     };
-    run_opened::<Brand, R, P, D, C, K, G>(rt, alloc, &names, opened, ports, doors, clocks, gate, out)
+    run_opened::<Brand, R, P, D, C, K, G>(
+        rt, alloc, &names, opened, ports, doors, clocks, gate, out,
+    )
 }
 
 /// The same of a hub that was opened.

@@ -67,7 +67,9 @@ where
         (K.written out.old) (K.written out.new) (K.faults out.old) (K.faults out.new) result }
 {
     plans.sound();
-    work_all(rt, alloc, &hub, gate, ports, seats, reports, doors, passes, posts);
+    work_all(
+        rt, alloc, &hub, gate, ports, seats, reports, doors, passes, posts,
+    );
     end(rt, hub, plans, seats, reports, passes, posts, out)
 }
 

@@ -8,13 +8,13 @@ use Rattle.hub_serve.proofs.Ran.{ties_kept, ran}
 use Rattle.hub_serve.proofs.working.run_work.Goals as goal
 
 pub work_all-requires-clause-ports : goal.work_all-requires-clause-ports
-work_all-requires-clause-ports g c = seats_placed c.args.hub c.args.plans.now c.args.ports.now c.args.seats.now c.args.reports.now c.requires.plans c.requires.seats c.requires.ports c.requires.reports
+work_all-requires-clause-ports g c = λ lifetimes outlive. seats_placed c.args.hub c.args.plans.now c.args.ports.now c.args.seats.now c.args.reports.now c.requires.plans c.requires.seats c.requires.ports c.requires.reports
 
 pub work_all-requires-clause-few_ports : goal.work_all-requires-clause-few_ports
 work_all-requires-clause-few_ports g c = omega (arith, c.requires.ports, c.sound.ensures.few_feeds)
 
 pub work_all-requires-clause-doors : goal.work_all-requires-clause-doors
-work_all-requires-clause-doors g c = free_places 0 c.args.doors.now c.args.passes.now c.args.posts.now c.requires.doors c.requires.posts
+work_all-requires-clause-doors g c = λ lifetimes outlive. free_places 0 c.args.doors.now c.args.passes.now c.args.posts.now c.requires.doors c.requires.posts
 
 pub end-requires-clause-ties : goal.end-requires-clause-ties
 end-requires-clause-ties g c =
