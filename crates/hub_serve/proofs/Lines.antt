@@ -1,5 +1,5 @@
 -- The lines of the feeds, one after another.
-use Rattle.std.proofs.Common.{◌≡◌, ℕ, zero, suc, ◌+◌, ◌<◌, List, [], ◌∷◌, ◌++◌, length, take, map, slice_index_or, refl, sym, ap, ◌∙◌, append_assoc, append-nil, arith}
+use Rattle.std.proofs.Common.{◌≡◌, ℕ, zero, suc, ◌+◌, ◌<◌, List, [], ◌∷◌, ◌++◌, length, take, slice_index_or, sym, ap, ◌∙◌, append_assoc, append-nil, arith}
 use Rattle.sched_types.specs.declared.plans.NamedFeed.{NamedFeed}
 use Rattle.hub_shared.specs.Seats.{SeatSeen}
 use Rattle.hub_shared.specs.declared.report.PortReport.{PortReport}

@@ -1,16 +1,13 @@
 -- What ingesters and readers did at their places is what is told of feeds and doors.
-use Rattle.std.proofs.Common.{◌≡◌, ℕ, zero, suc, ◌+◌, ◌<◌, Bool, false, List, [], ◌∷◌, length, map, Option, Some, None, refl, sym, ap, ◌∙◌, subst, arith}
+use Rattle.std.proofs.Common.{◌≡◌, ℕ, zero, suc, ◌+◌, Bool, false, List, [], ◌∷◌, length, map, Option, Some, None, refl, sym, ap, ◌∙◌, subst}
 use Rattle.std.specs.Prelude.{IfSome}
 use Rattle.std.specs.List.{All, AllByRecursion, range_with_len}
 use Rattle.std.proofs.lemmas.List.Elements.{recursion_from_All, All-from_recursion}
 use mathlib.Core.List.{IsPrefix}
-use Rattle.feed_defs.specs.declared.history.Entry.{Entry}
 use Rattle.sched_types.specs.Schedules.{Schedules}
 use Rattle.hub_history.specs.Log.{entries_of}
 use Rattle.hub_history.specs.Told.{Told, history_of}
-use Rattle.board_defs.specs.Views.{HubKept, hub_first}
 use Rattle.snapshot_cell.specs.Seen.{PassSeen}
-use Rattle.http_door.specs.declared.report.DoorReport.{DoorReport}
 use Rattle.http_door.specs.Doors.{ServesDoor}
 use Rattle.http_door.specs.Visits.{Ends as LinkEnds, Hub, hub}
 use Rattle.place_jobs.specs.Places.{PlacesChanged}
@@ -20,10 +17,10 @@ use Rattle.hub_shared.specs.declared.report.PortReport.{PortReport}
 use Rattle.hub_serve.proofs.Placed.{by_places}
 use Rattle.hub_serve.specs.declared.readers.Post.{Post}
 use Rattle.hub_serve.specs.Words.{PortWords, DoorWords}
-use Rattle.hub_serve.specs.Feeds.{IngestsBy, ingests_at, FeedRan, FeedsRan}
-use Rattle.hub_serve.specs.Readers.{serves_at, DoorRan, DoorsRan}
+use Rattle.hub_serve.specs.Feeds.{IngestsBy, ingests_at, FeedsRan}
+use Rattle.hub_serve.specs.Readers.{serves_at, DoorsRan}
 use Rattle.hub_serve.specs.Runs.{Ran, status_by}
-use Rattle.hub_serve.specs.Steps.{Closes, EndsRun, lasts_of}
+use Rattle.hub_serve.specs.Steps.{EndsRun, lasts_of}
 
 -- the first of what is said of all, and the rest
 first_told : {A : Type 0} (ending : Option Told) (P : A → Told → Type 0) (x : A) (xs : List A) → IfSome ending (λ e. AllByRecursion (λ y. P y e) (x ∷ xs)) → IfSome ending (P x)

@@ -5,7 +5,6 @@ use Rattle.feed_port.specs.Ports.{Ahead}
 use Rattle.hub_shared.specs.Seats.{Ties, SeatSeen, fresh_seat}
 use Rattle.hub_shared.specs.Calls.{Ends}
 use Rattle.hub_shared.specs.Feeding.{Ingests, tally_of}
-use Rattle.hub_shared.specs.declared.report.PortEnd.{PortEnd}
 use Rattle.hub_shared.specs.declared.report.PortReport.{PortReport}
 use Rattle.hub_serve.specs.Words.{PortWords}
 

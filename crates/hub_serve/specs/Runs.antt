@@ -1,9 +1,8 @@
 -- What a run of a hub does, writes and answers.
-use Rattle.std.specs.Prelude.{◌≡◌, ℕ, ◌+◌, ◌<◌, nat_lt, not, Bool, true, false, ◌||◌, if◌then◌else◌, List, [], ◌∷◌, ◌++◌, length, map, Option, Some, None, IfSome}
+use Rattle.std.specs.Prelude.{◌≡◌, ℕ, nat_lt, not, Bool, true, false, ◌||◌, if◌then◌else◌, List, [], ◌∷◌, ◌++◌, length, Option, IfSome}
 use Rattle.std.specs.List.{list_any, sum_by}
 use Rattle.std.specs.Option.{is_some}
 use Rattle.feed_defs.specs.History.{IsLegal}
-use Rattle.hub_outside.specs.Doors.{Links}
 use Rattle.hub_history.specs.Told.{Told, history_of}
 use Rattle.sched_types.specs.declared.plans.NamedFeed.{NamedFeed}
 use Rattle.sched_types.specs.Schedules.{Schedules}

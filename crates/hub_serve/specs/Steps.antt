@@ -1,5 +1,5 @@
 -- What the steps of a run are told of one another.
-use Rattle.std.specs.Prelude.{◌≡◌, ℕ, Bool, true, false, List, [], ◌∷◌, map, Option, Some, None, IfSome}
+use Rattle.std.specs.Prelude.{◌≡◌, ℕ, Bool, List, map, Option, IfSome}
 use Rattle.std.specs.List.{All}
 use Rattle.std.specs.Option.{is_some}
 use mathlib.Core.List.{IsPrefix}

@@ -1,5 +1,5 @@
 -- A line more.
-use Rattle.std.proofs.Common.{◌≡◌, List, ℕ, ◌++◌, subst, arith, rules}
+use Rattle.std.proofs.Common.{List, ℕ, subst, arith, rules}
 use Rattle.serve_lines.specs.Wrote.{Wrote}
 use Rattle.hub_serve.proofs.Lines.{lines_more}
 use Rattle.hub_serve.proofs.telling.write_feeds.Goals as goal

@@ -1,5 +1,5 @@
 -- The lines of the feeds so far.
-use Rattle.std.proofs.Common.{◌≡◌, take}
+use Rattle.std.proofs.Common.{take}
 use Rattle.hub_serve.specs.Runs.{feed_lines}
 use Rattle.hub_serve.specs.Steps.{lasts_of}
 use Rattle.serve_lines.specs.Wrote.{Puts, HasCause}

@@ -1,7 +1,6 @@
 -- The lines are told of the seats as they were before closing.
-use Rattle.std.proofs.Common.{List, ℕ, [], map, subst}
+use Rattle.std.proofs.Common.{List, [], map, subst}
 use Rattle.std.proofs.KnownBytes.{Appends-nil}
-use Rattle.http_door.specs.declared.report.DoorReport.{DoorReport}
 use Rattle.serve_lines.specs.Wrote.{Wrote}
 use Rattle.hub_shared.specs.Seats.{SeatSeen}
 use Rattle.hub_serve.specs.declared.readers.Post.{Post}
