@@ -21,9 +21,15 @@ rm -f "$spool"/??????.pb "$spool/fetched" "$spool/fetching"
 trap 'rm -f "$spool"/??????.pb' EXIT
 trap 'exit 143' INT TERM
 
-# fetch_new: fetches the feed; fails where it isn't had, or is the one of before.
+# fetch_new: fetches the feed; fails where it isn't had, which is said once, or where it is the one of before.
+trouble=
 fetch_new() {
-    curl -fsS --max-time 10 -o "$spool/fetching" "$url" || return 1
+    if ! told=$(curl -fsS --max-time 10 -o "$spool/fetching" "$url" 2>&1); then
+        if [ -z "$trouble" ]; then echo "fetch.sh: $url: $told" >&2; fi
+        trouble=yes
+        return 1
+    fi
+    trouble=
     if cmp -s "$spool/fetching" "$spool/fetched"; then return 1; fi
     mv "$spool/fetching" "$spool/fetched"
 }
