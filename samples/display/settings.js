@@ -35,7 +35,7 @@ const TEXTS = {
   late: (minutes) => `${minutes} min late`,
   early: (minutes) => `${minutes} min early`,
   skipped: "does not stop here",
-  canceled: "canceled",
+  canceled: "cancelled",
   added: "extra service",
   noHeadsign: "see the sign on the vehicle",
   caption: (stop) => `Departures from ${stop}`,

@@ -1,3 +1,4 @@
+# shellcheck shell=bash disable=SC2034,SC2154
 # Functions for scripts that run hubs and their feeds. To be sourced by bash, with `top` set to the top of the repository.
 # All that is started here is ended when the script exits, by its process id; `work` is a folder of the script's own,
 # removed then too. HUB names the program, where it is not the repository's.

@@ -16,6 +16,7 @@ from browser import Browser
 TAB, ENTER = 9, 13
 ROWS = "[...document.querySelectorAll('#rows tr')]"
 LOOKED = "document.getElementById('age').textContent"
+TROUBLE = "document.getElementById('trouble').textContent"
 
 
 class Display:
@@ -31,7 +32,7 @@ class Display:
     def open(self, stop, more="", **shape):
         self.browser.shape(**{"width": 960, "height": 560, **shape})
         self.browser.go(f"{self.origin}/?schedule=city&stop={stop}{more}")
-        self.browser.wait(f"{LOOKED} || document.getElementById('trouble').textContent")
+        self.browser.wait(f"{LOOKED} || {TROUBLE}")
 
     def keep(self, name):
         path = self.folder / f"{name}.png"
@@ -72,7 +73,7 @@ def see_board(display):
 def see_states(display):
     browser = display.browser
     for scene, state, remark in (("late", "live", "4 min late"), ("skipped", "skipped", "does not stop here"),
-                                 ("canceled", "canceled", "canceled"), ("added", "added", "extra service")):
+                                 ("canceled", "canceled", "cancelled"), ("added", "added", "extra service")):
         show_scene(scene)
         browser.wait(f"{ROWS}.some(row => row.dataset.state === '{state}' && row.innerText.includes('{remark}'))")
         row = display.row(state)
@@ -109,20 +110,26 @@ def see_phone(display):
     display.keep("phone")
 
 
-def see_questions(display):
-    browser = display.browser
+def see_wall(display):
+    display.open("ST", width=1920, height=1080, scheme="dark")
+    display.browser.wait("document.querySelector('#rows tr')")
+    display.keep("wall")
+
+
+def see_no_service(display):
     display.open("S6")
-    browser.wait("!document.getElementById('empty').hidden")
-    display.check("no service: said in words", browser.value("document.getElementById('empty').innerText")
+    display.browser.wait("!document.getElementById('empty').hidden")
+    display.check("no service: said in words", display.browser.value("document.getElementById('empty').innerText")
                   == "No departures in the next 60 minutes.")
     display.keep("no_service")
-    display.open("ST", width=1920, height=1080, scheme="dark")
-    browser.wait("document.querySelector('#rows tr')")
-    display.keep("wall")
+
+
+def see_questions(display):
+    browser = display.browser
     display.open("NO%20%3Cb%3E")
     browser.wait("!document.getElementById('chooser').hidden")
-    display.check("an unknown stop is said as text and never as HTML", browser.value(
-        "document.getElementById('trouble').innerText") == "There is no stop “NO <b>” in the timetable “city”.")
+    display.check("an unknown stop is said", browser.value(TROUBLE)
+                  == "There is no stop “NO <b>” in the timetable “city”.")
     display.keep("unknown_stop")
     # By keyboard alone: the second field is the stop's.
     browser.value("document.activeElement.blur()")
@@ -135,6 +142,40 @@ def see_questions(display):
     display.check("another stop is chosen by keyboard alone", True)
     display.check("at a stop of one platform the column of platforms is left out", browser.value(
         "getComputedStyle(document.querySelector('th.platform')).display === 'none'"))
+    display.open("ST", more="&limit=0")
+    browser.wait(TROUBLE)
+    display.check("a number that the hub doesn't take is said", browser.value(TROUBLE).startswith("The hub does not take"))
+    browser.go(f"{display.origin}/")
+    browser.wait(TROUBLE)
+    display.check("without a stop it asks for one", browser.value(TROUBLE) == "Which stop do you want to see?")
+
+
+def see_names(display):
+    """The timetable that display.sh hands to the hub has HTML in the name of a stop and in a headsign."""
+    browser = display.browser
+    display.open("S5")
+    browser.wait("document.querySelector('#rows tr')")
+    display.check("a name is put in as text and never as HTML", browser.value(
+        "document.querySelector('h1').textContent === 'Botanical <b>Garden</b>' && !document.querySelector('b')"))
+    display.check("and so is a headsign", browser.value(
+        "!document.querySelector('img') && [...document.querySelectorAll('.destination')]"
+        ".some(cell => cell.textContent === '<img src=x onerror=alert(1)>')"))
+
+
+def see_hub_hang(display, hub_process):
+    """A hub that takes questions and answers none, for a while."""
+    browser = display.browser
+    display.open("ST")
+    browser.wait("document.querySelector('#rows tr')")
+    os.kill(hub_process, signal.SIGSTOP)
+    try:
+        browser.wait("document.body.classList.contains('away')", 30)
+        display.check("a hub that doesn't answer is told as one that is away", "be reached" in browser.value(TROUBLE))
+    finally:
+        os.kill(hub_process, signal.SIGCONT)
+    browser.wait("!document.body.classList.contains('away')", 60)
+    display.check(f"and when it is back, that is told: {browser.value(TROUBLE)}", "is back" in browser.value(TROUBLE))
+    browser.wait(f"{TROUBLE} === ''", 30)
 
 
 def see_hub_gone(display, hub_process):
@@ -142,12 +183,13 @@ def see_hub_gone(display, hub_process):
     show_scene("late", "skipped", "alert")
     display.open("ST")
     browser.wait("document.querySelector('[data-state=skipped]')")
-    said = [text for text in browser.complaints() if "status of 404" not in text]
+    # Answers of 400 and 404, and of nginx while the hub hung, were asked for.
+    said = [text for text in browser.complaints() if "responded with a status of" not in text]
     display.check(f"the page has no faults, and breaks no rule of what it may load: {said}", not said)
     os.kill(hub_process, signal.SIGTERM)
     browser.wait("document.body.classList.contains('away')", 30)
     display.check("hub gone: the last board stays, and it is said", browser.value(
-        f"{ROWS}.length >= 9 && document.getElementById('trouble').innerText.includes('be reached')"))
+        f"{ROWS}.length >= 9 && {TROUBLE}.includes('be reached')"))
     browser.wait("document.body.classList.contains('old')", 60)
     display.check(f"hub gone: {browser.value(LOOKED)}", "seconds ago" in browser.value(LOOKED))
     display.keep("hub_gone")
@@ -161,8 +203,12 @@ def main():
         see_board(display)
         see_states(display)
         see_alert(display)
+        see_no_service(display)
         see_phone(display)
+        see_wall(display)
         see_questions(display)
+        see_names(display)
+        see_hub_hang(display, int(hub_process))
         see_hub_gone(display, int(hub_process))
     print(f"{display.failed} failed")
     return 1 if display.failed else 0

@@ -13,8 +13,16 @@ cd "$top"
 
 start_sender
 show_scene calm
-mkdir "$work/spool"
-start_hub hub "s|^place = \"samples.*|place = \"$work/spool\"|" "s|^place = \"127.*|place = \"$sender_address\"|"
+mkdir "$work/spool" "$work/city"
+cp samples/serve/city/*.txt "$work/city/"
+# Names that would be HTML where they were put in as that; they show at the Botanical Garden alone.
+sed -i 's|,Botanical Garden,|,Botanical <b>Garden</b>,|' "$work/city/stops.txt"
+for hour in $(seq -w 0 23); do
+  echo "R12,DAILY,X$hour,<img src=x onerror=alert(1)>,1" >> "$work/city/trips.txt"
+  printf '%s\n' "X$hour,$hour:30:00,$hour:30:00,S5,1" "X$hour,$hour:45:00,$hour:45:00,S6,2" >> "$work/city/stop_times.txt"
+done
+start_hub hub "s|^place = \"samples.*|place = \"$work/spool\"|" "s|^place = \"127.*|place = \"$sender_address\"|" \
+  "s|^folder = .*|folder = \"$work/city\"|"
 wait_for has_accepted "$hub_address" trams
 start_nginx one_hub.conf "s|127.0.0.1:8080|$hub_address|"
 python3 samples/tests/display.py "https://$front_address" "$hub_process" "${1:-$work}" >&1

@@ -1,3 +1,4 @@
+# shellcheck shell=bash disable=SC2034,SC2154
 # Functions for trials of nginx in front of a hub. To be sourced behind samples/serve/running.sh.
 
 # free_port: a TCP port of this machine that nothing listens on just now.

@@ -80,14 +80,34 @@ for method in POST PUT DELETE HEAD OPTIONS; do
   if [ "$method" = HEAD ]; then get /board/city/ST -I; else get /board/city/ST -X "$method"; fi
   check "$method is 405 and says what is allowed" is "$status $(field Allow)" "405 GET"
 done
-get /board/city/ST -X GET --data body
+# Each at a target of its own, so that no kept answer takes the hub's place.
+get '/board/city/ST?limit=31' -X GET --data body
 check "a body is not passed on" is "$status" 200
-get /board/city/ST -H "X-Long: $(head -c 3000 /dev/zero | tr '\0' x)"
+get '/board/city/ST?limit=32' -X GET -H 'Transfer-Encoding: chunked' --http1.1 --data body
+check "nor is one in chunks" is "$status" 200
+get '/board/city/ST?limit=33' -H "X-Long: $(head -c 3000 /dev/zero | tr '\0' x)"
 check "a long field of the client is not passed on" is "$status" 200
 get "/board/city/$(head -c 6000 /dev/zero | tr '\0' x)" --http1.1
 check "a target of 6,000 bytes is refused" is "$status" 414
 get /nothing/here
 check "what isn't there is 404" is "$status" 404
+slow=$(python3 - "$front_address" <<'PY'
+import socket, ssl, sys, time
+host, port = sys.argv[1].rsplit(":", 1)
+context = ssl.create_default_context()
+context.check_hostname, context.verify_mode = False, ssl.CERT_NONE
+with context.wrap_socket(socket.create_connection((host, int(port)), timeout=20)) as link:
+    link.sendall(b"GET /board/city/ST HTTP/1.1\r\nHost: h\r\n")
+    began = time.monotonic()
+    try:
+        while link.recv(4096):
+            pass
+    except OSError:
+        pass
+print(round(time.monotonic() - began))
+PY
+)
+check "a client that doesn't end its head is let go after $slow seconds" test "$slow" -le 8
 
 echo "== one answer for equal requests of a second"
 sleep 1.1
