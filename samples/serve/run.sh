@@ -10,7 +10,7 @@ cd "$top"
 samples/serve/send.py samples/serve/hub.toml spool "$work/spool" alert
 start_sender
 show_scene late skipped canceled added unmatched
-start_hub hub "s|^place = \"samples.*|place = \"$work/spool\"|" "s|^place = \"127.*|place = \"$sender_address\"|"
+start_hub hub "$(notices_from "$work/spool")" "$(trams_from "$sender_address")"
 echo "the hub listens on $hub_address"
 wait_for has_accepted "$hub_address" notices trams
 

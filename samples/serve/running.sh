@@ -1,5 +1,5 @@
 # shellcheck shell=bash disable=SC2034,SC2154
-# Functions for scripts that run hubs and their feeds. To be sourced by bash, with `top` set to the top of the repository.
+# Functions for scripts that run hubs and their feeds: to be sourced by bash, with `top` set to the repository's top.
 # All that is started here is ended when the script exits, by its process id; `work` is a folder of the script's own,
 # removed then too. HUB names the program, where it is not the repository's.
 
@@ -61,6 +61,13 @@ start_sender() {
 show_scene() {
   echo "$*" >&7
 }
+
+# notices_from FOLDER, trams_from ADDRESS: the edits by which the example's feeds come from there.
+notices_from() { echo "s|^place = \"samples.*|place = \"$1\"|"; }
+trams_from() { echo "s|^place = \"127.*|place = \"$1\"|"; }
+
+# The edit by which no trams come.
+no_trams='s/^kind = "stream"/kind = "none"/'
 
 # start_hub NAME [EDIT ..]: the hub of the example's configuration, changed by sed's EDITs, on a port that is free and
 # with a window that begins yesterday. Its address is in `hub_address`, its process in `hub_process`, its standard

@@ -113,7 +113,8 @@ def added(now):
 def alert():
     heading = "The lift at Market is out of order. Without steps: take line 12 from Harbour.".encode()
     about = run(5, run(5, STATION.encode()))
-    return {"lift": run(5, about + number(6, MAINTENANCE) + number(7, ACCESSIBILITY) + run(10, run(1, run(1, heading))))}
+    why = number(6, MAINTENANCE) + number(7, ACCESSIBILITY)
+    return {"lift": run(5, about + why + run(10, run(1, run(1, heading))))}
 
 
 def unmatched(now):

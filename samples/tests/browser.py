@@ -124,7 +124,8 @@ class Browser:
         if whole:
             height = self.value("Math.ceil(document.documentElement.getBoundingClientRect().height)")
             width = self.value("innerWidth")
-            clip = {"clip": {"x": 0, "y": 0, "width": width, "height": height, "scale": 1}, "captureBeyondViewport": True}
+            clip = {"clip": {"x": 0, "y": 0, "width": width, "height": height, "scale": 1},
+                    "captureBeyondViewport": True}
         else:
             clip = {}
         data = base64.b64decode(self.call("Page.captureScreenshot", format="png", **clip)["data"])

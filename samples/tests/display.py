@@ -38,7 +38,8 @@ class Display:
         path = self.folder / f"{name}.png"
         self.browser.picture(path)
         if shutil.which("pngquant"):
-            subprocess.run(["pngquant", "--force", "--skip-if-larger", "--strip", "--ext=.png", "64", path], check=False)
+            subprocess.run(["pngquant", "--force", "--skip-if-larger", "--strip", "--ext=.png", "64", path],
+                           check=False)
         print(f"        picture {path.name}, {path.stat().st_size} bytes")
 
     def row(self, state):
@@ -58,10 +59,12 @@ def see_board(display):
     display.check("a board has the stop's name as its heading and title", browser.value(
         "document.querySelector('h1').textContent === 'Market' && document.title === 'Market – Departures'"))
     display.check("departures by the timetable say nothing of a delay", browser.value(
-        f"{ROWS}.length >= 9 && {ROWS}.every(row => row.dataset.state === 'scheduled' && row.cells[5].innerText === '')"))
+        f"{ROWS}.length >= 9 && "
+        f"{ROWS}.every(row => row.dataset.state === 'scheduled' && row.cells[5].innerText === '')"))
     display.check("times are those of the schedule's zone, whatever the device's is", browser.value(
-        """new Intl.DateTimeFormat('en-GB', {hour: '2-digit', minute: '2-digit', hourCycle: 'h23', timeZone: 'Europe/Berlin'})
-           .format(new Date(shown.board.rows[0].scheduled * 1000)) === document.querySelector('#rows time').textContent"""))
+        """new Date(shown.board.rows[0].scheduled * 1000).toLocaleTimeString('en-GB',
+               {hour: '2-digit', minute: '2-digit', timeZone: 'Europe/Berlin'})
+           === document.querySelector('#rows time').textContent"""))
     display.check("it says how old its data are", "second" in browser.value(LOOKED))
     roles = browser.tree()
     display.check("a screen reader finds a table, its titles, and a row with its line as heading",
@@ -75,13 +78,14 @@ def see_states(display):
     for scene, state, remark in (("late", "live", "4 min late"), ("skipped", "skipped", "does not stop here"),
                                  ("canceled", "canceled", "cancelled"), ("added", "added", "extra service")):
         show_scene(scene)
-        browser.wait(f"{ROWS}.some(row => row.dataset.state === '{state}' && row.innerText.includes('{remark}'))")
+        browser.wait(f"{ROWS}.some(row => row.dataset.state === '{state}' && row.innerText.includes('{remark}'))", 30)
         row = display.row(state)
         display.check(f"{scene}: {' | '.join(row)}", row[1] == "7" and row[3] in ("A", "B"))
         if state in ("skipped", "canceled"):
             display.check(f"{scene}: no expected time, and the scheduled one struck out", row[4] == "" and browser.value(
                 f"Boolean(document.querySelector('[data-state={state}] s time'))"))
-            display.check(f"{scene}: told to a screen reader", remark in browser.value("document.getElementById('news').textContent"))
+            display.check(f"{scene}: told to a screen reader",
+                          remark in browser.value("document.getElementById('news').textContent"))
         browser.value("new Promise(done => setTimeout(done, 3200))")  # until the mark of news has faded
         if scene != "added":
             display.keep({"late": "live"}.get(scene, scene))
@@ -144,7 +148,8 @@ def see_questions(display):
         "getComputedStyle(document.querySelector('th.platform')).display === 'none'"))
     display.open("ST", more="&limit=0")
     browser.wait(TROUBLE)
-    display.check("a number that the hub doesn't take is said", browser.value(TROUBLE).startswith("The hub does not take"))
+    display.check("a number that the hub doesn't take is said",
+                  browser.value(TROUBLE).startswith("The hub does not take"))
     browser.go(f"{display.origin}/")
     browser.wait(TROUBLE)
     display.check("without a stop it asks for one", browser.value(TROUBLE) == "Which stop do you want to see?")

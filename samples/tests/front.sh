@@ -1,14 +1,31 @@
 # shellcheck shell=bash disable=SC2034,SC2154
 # Functions for trials of nginx in front of a hub. To be sourced behind samples/serve/running.sh.
 
+failed=0
+
+# check WHAT COMMAND ..: says whether the command answers 0, and counts it where it doesn't.
+check() {
+  local what=$1
+  shift
+  if "$@"; then echo "ok      $what"; else echo "FAILED  $what"; failed=$((failed + 1)); fi
+}
+
+is() { [ "$1" = "$2" ]; }
+
+# end_checks: the status of the script, by the checks.
+end_checks() {
+  echo "$failed failed"
+  [ "$failed" = 0 ]
+}
+
 # free_port: a TCP port of this machine that nothing listens on just now.
 free_port() {
   python3 -c 'import socket; s = socket.socket(); s.bind(("127.0.0.1", 0)); print(s.getsockname()[1])'
 }
 
 # start_nginx UPSTREAM EDIT ..: nginx with the files of samples/nginx as they stand, but for ports and folders, and for
-# what sed's EDITs change in the file UPSTREAM (one_hub.conf or two_hubs.conf). It listens for TLS at `front_address`, and
-# at `plain_address` without.
+# what sed's EDITs change in the file UPSTREAM, one_hub.conf or two_hubs.conf. It listens for TLS at `front_address`,
+# and at `plain_address` without.
 start_nginx() {
   local upstream=$1 edits=() edit plain_port tls_port
   shift
@@ -63,4 +80,12 @@ run_nginx() {
 # end_nginx: ends it, so that run_nginx can start it anew.
 end_nginx() {
   stop_process "$nginx_process"
+}
+
+# lift_limits: nginx anew, without what it limits of requests and connections, for a client that asks much.
+lift_limits() {
+  end_nginx
+  sed -i -e '/limit_req zone/d' -e '/limit_conn hub/d' "$work/nginx/hub.conf"
+  : > "$work/nginx/access.log"
+  run_nginx
 }

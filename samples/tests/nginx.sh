@@ -1,33 +1,32 @@
 #!/usr/bin/env bash
 # Tries nginx, with the files of samples/nginx, in front of a running hub: TLS, compression, the cache of a second, kept
-# connections, limits, only GET, the page, the public feed, and what is said when the hub is gone; and how much it answers,
-# by wrk. Ends by itself, with status 0 exactly where all was as it should be. HUB names the program, where it is not ./hub.
-# Needs curl, python3, nginx, openssl and wrk.
+# connections, limits, only GET, the page, the public feed, and what is said when the hub is gone; and how much it
+# answers, by wrk. Ends by itself, with status 0 exactly where all was as it should be. HUB names the program, where it
+# is not ./hub. Needs curl, python3, nginx, openssl and wrk.
 set -euo pipefail
 top=$(cd "$(dirname "$0")/../.." && pwd)
 . "$top/samples/serve/running.sh"
 . "$top/samples/tests/front.sh"
 cd "$top"
-failed=0
-
-# check WHAT COMMAND ..: whether the command answers 0.
-check() {
-  local what=$1
-  shift
-  if "$@"; then echo "ok      $what"; else echo "FAILED  $what"; failed=$((failed + 1)); fi
-}
 
 # get PATH [WORD ..]: the answer of nginx in the files `head` and `body`; its status in `status`.
 get() {
   local path=$1
   shift
-  status=$(curl -ks --max-time 10 -D "$work/head" -o "$work/body" -w '%{http_code}' "$@" "https://$front_address$path") || true
+  status=$(curl -ks --max-time 10 -D "$work/head" -o "$work/body" -w '%{http_code}' "$@" "https://$front_address$path") \
+    || true
 }
 
 has_field() { grep -qiP "^$1\r?$" "$work/head"; }
 lacks_field() { ! grep -qiP "^$1" "$work/head"; }
-is() { [ "$1" = "$2" ]; }
 field() { sed -n "s/^$1: //Ip" "$work/head" | tr -d '\r'; }
+
+# see_wrk WHAT: what wrk said last, and how often the hub was asked meanwhile.
+see_wrk() {
+  grep -E 'Requests/sec|99%|Non-2xx|Socket errors' "$work/wrk" | sed 's/^ */        /'
+  echo "        the hub was asked $(grep -c ' MISS\| EXPIRED' "$work/nginx/access.log" || true) times"
+  check "$1: nothing but 200" is "$(grep -cE 'Non-2xx|Socket errors' "$work/wrk" || true)" 0
+}
 
 # kept_connections: how many connections to the hub are open.
 kept_connections() {
@@ -43,12 +42,13 @@ PY
 start_sender
 show_scene late skipped canceled added
 mkdir "$work/spool"
-start_hub hub "s|^place = \"samples.*|place = \"$work/spool\"|" "s|^place = \"127.*|place = \"$sender_address\"|"
+start_hub hub "$(notices_from "$work/spool")" "$(trams_from "$sender_address")"
 wait_for has_accepted "$hub_address" trams
 start_nginx one_hub.conf "s|127.0.0.1:8080|$hub_address|"
 
 echo "== what comes back"
-check "without TLS one is sent to TLS" is "$(curl -s -o "$work/body" -w '%{http_code}' "http://$plain_address/board/city/ST")" 301
+plain=$(curl -s -o "$work/body" -w '%{http_code}' "http://$plain_address/board/city/ST")
+check "without TLS one is sent to TLS" is "$plain" 301
 get /board/city/ST
 check "a board through TLS" is "$status" 200
 check "with the hub's two numbers" has_field 'X-Hub-Sequence: [0-9]+'
@@ -135,14 +135,9 @@ sleep 6
 check "and are closed when they were idle: $(kept_connections)" is "$(kept_connections)" 0
 
 echo "== how much it answers, without the limits"
-end_nginx
-sed -i -e '/limit_req zone/d' -e '/limit_conn hub/d' "$work/nginx/hub.conf"
-: > "$work/nginx/access.log"
-run_nginx
+lift_limits
 wrk -t 2 -c 20 -d 5s --latency "https://$front_address/board/city/ST?format=json" > "$work/wrk"
-grep -E 'Requests/sec|99%|Non-2xx|Socket errors' "$work/wrk" | sed 's/^ */        /'
-check "20 connections for one board: nothing but 200" is "$(grep -cE 'Non-2xx|Socket errors' "$work/wrk" || true)" 0
-echo "        the hub was asked $(grep -c ' MISS\| EXPIRED' "$work/nginx/access.log" || true) times"
+see_wrk "20 connections for one board"
 cat > "$work/each.lua" <<'LUA'
 local count = 0
 request = function()
@@ -152,9 +147,7 @@ end
 LUA
 : > "$work/nginx/access.log"
 wrk -t 2 -c 20 -d 5s --latency -s "$work/each.lua" "https://$front_address" > "$work/wrk"
-grep -E 'Requests/sec|99%|Non-2xx|Socket errors' "$work/wrk" | sed 's/^ */        /'
-check "20 connections for a thousand different boards: nothing but 200" is "$(grep -cE 'Non-2xx|Socket errors' "$work/wrk" || true)" 0
-echo "        the hub was asked $(grep -c ' MISS\| EXPIRED' "$work/nginx/access.log" || true) times"
+see_wrk "20 connections for a thousand different boards"
 
 echo "== the hub gone"
 stop_process "$hub_process"
@@ -165,5 +158,4 @@ check "and not by the hub" lacks_field X-Hub-Moment
 get /
 check "the page still comes" is "$status" 200
 
-echo "$failed failed"
-[ "$failed" = 0 ]
+end_checks

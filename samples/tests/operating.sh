@@ -1,22 +1,13 @@
 #!/usr/bin/env bash
 # Tries what docs/OPERATING.md says: the check for silent feeds, what a hub says and answers when it can't start, how a
-# timetable is changed by a second hub, and that the service's file is one. Ends by itself, with
-# status 0 exactly where all was as it should be. HUB names the program, where it is not ./hub. Needs curl, python3, nginx,
-# openssl and wrk; where systemd-analyze is installed, the service's file is read by it.
+# timetable is changed by a second hub, and that the service's file is one. Ends by itself, with status 0 exactly where
+# all was as it should be. HUB names the program, where it is not ./hub. Needs curl, python3, nginx, openssl and wrk;
+# where systemd-analyze is installed, the service's file is read by it.
 set -euo pipefail
 top=$(cd "$(dirname "$0")/../.." && pwd)
 . "$top/samples/serve/running.sh"
 . "$top/samples/tests/front.sh"
 cd "$top"
-failed=0
-
-check() {
-  local what=$1
-  shift
-  if "$@"; then echo "ok      $what"; else echo "FAILED  $what"; failed=$((failed + 1)); fi
-}
-
-is() { [ "$1" = "$2" ]; }
 
 # feeds_are STATUS WORD ..: whether the check of the first hub's feeds ends so; what it says is shown.
 feeds_are() {
@@ -42,7 +33,7 @@ echo "== silent feeds"
 start_sender
 show_scene late
 samples/serve/send.py samples/serve/hub.toml spool "$work/spool" alert
-start_hub first "s|^place = \"samples.*|place = \"$work/spool\"|" "s|^place = \"127.*|place = \"$sender_address\"|"
+start_hub first "$(notices_from "$work/spool")" "$(trams_from "$sender_address")"
 first=$hub_address first_process=$hub_process
 wait_for has_accepted "$first" notices trams
 check "both have spoken" feeds_are 0 30
@@ -67,10 +58,8 @@ mkdir "$work/new"
 cp samples/serve/city/*.txt "$work/new/"
 sed -i 's/,Harbour,/,New Harbour,/' "$work/new/stops.txt"
 start_nginx one_hub.conf "s|127.0.0.1:8080|$first|"
-end_nginx
-sed -i -e '/limit_req zone/d' -e '/limit_conn hub/d' "$work/nginx/hub.conf"
-run_nginx
-start_hub second "s|^place = \"samples.*|place = \"$work/spool\"|" "s|^folder = .*|folder = \"$work/new\"|" 's/^kind = "stream"/kind = "none"/'
+lift_limits
+start_hub second "$(notices_from "$work/spool")" "s|^folder = .*|folder = \"$work/new\"|" "$no_trams"
 wait_for has_accepted "$hub_address" notices
 wrk -t 1 -c 10 -d 6s "https://$front_address/board/city/S3" > "$work/wrk" 7>&- &
 asking=$!
@@ -96,5 +85,4 @@ else
   echo "not tried: systemd-analyze is not installed"
 fi
 
-echo "$failed failed"
-[ "$failed" = 0 ]
+end_checks

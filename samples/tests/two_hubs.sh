@@ -1,8 +1,8 @@
 #!/usr/bin/env bash
-# Tries more than one hub: a first one with the example's feeds, a second that takes the first one's combined feed through a
-# spool (samples/nginx/fetch.sh), a third that takes it as a stream (samples/operating/poll.py), and nginx in front of the
-# first two, of which one is ended under way. Ends by itself, with status 0 exactly where all was as it should be. HUB names
-# the program, where it is not ./hub. Needs curl, python3, nginx and openssl.
+# Tries more than one hub: a first one with the example's feeds, a second that takes the first one's combined feed through
+# a spool (samples/nginx/fetch.sh), a third that takes it as a stream (samples/operating/poll.py), and nginx in front of
+# the first two, of which one is ended under way. Ends by itself, with status 0 exactly where all was as it should be.
+# HUB names the program, where it is not ./hub. Needs curl, python3, nginx and openssl.
 set -euo pipefail
 top=$(cd "$(dirname "$0")/../.." && pwd)
 . "$top/samples/serve/running.sh"
@@ -21,20 +21,20 @@ sequence_of() {
 start_sender
 show_scene late
 samples/serve/send.py samples/serve/hub.toml spool "$work/spool" alert
-start_hub first "s|^place = \"samples.*|place = \"$work/spool\"|" "s|^place = \"127.*|place = \"$sender_address\"|"
+start_hub first "$(notices_from "$work/spool")" "$(trams_from "$sender_address")"
 first=$hub_address first_process=$hub_process
 wait_for has_accepted "$first" trams notices
 
 samples/nginx/fetch.sh "http://$first/feed/city" "$work/second" 1 7>&- &
 started+=("$!")
 wait_for test -p "$work/second/000001.pb"
-start_hub second "s|^place = \"samples.*|place = \"$work/second\"|" 's/^kind = "stream"/kind = "none"/'
+start_hub second "$(notices_from "$work/second")" "$no_trams"
 second=$hub_address
 
 samples/operating/poll.py "http://$first/feed/city" 127.0.0.1:0 1 2> "$work/poll" 7>&- &
 started+=("$!")
 poll_address=$(wait_line "$work/poll" 'poll.py: listening on ' "$!")
-start_hub third "s|^place = \"127.*|place = \"$poll_address\"|" "s|^place = \"samples.*|place = \"$work/none\"|"
+start_hub third "$(trams_from "$poll_address")" "$(notices_from "$work/none")"
 third=$hub_address
 
 for hub_address in "$first" "$second" "$third"; do
@@ -45,12 +45,11 @@ echo "ok      a second and a third hub show the first one's delays and alerts"
 show_scene late canceled
 for hub_address in "$first" "$second" "$third"; do wait_for has_row "$hub_address" '\tcanceled\t7\t'; done
 echo "ok      and what comes later"
-echo "        messages accepted: $(sequence_of "$first"), $(sequence_of "$second") and $(sequence_of "$third"), which say nothing of each other"
+echo "        messages accepted: $(sequence_of "$first"), $(sequence_of "$second") and $(sequence_of "$third")," \
+  "which say nothing of each other"
 
 start_nginx two_hubs.conf "s|127.0.0.1:8080|$first|" "s|127.0.0.1:8081|$second|"
-sed -i '/limit_req zone/d' "$work/nginx/hub.conf"
-end_nginx
-run_nginx
+lift_limits
 
 # ask_round: asks for eight boards through nginx, and keeps the statuses.
 ask_round() {
