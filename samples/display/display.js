@@ -78,6 +78,7 @@ async function poll() {
   asking = true;
   const seconds = await askAll();
   asking = false;
+  if (document.hidden) return; // until it is seen again
   timer = setTimeout(poll, seconds * 1000 * (0.9 + 0.2 * Math.random()));
 }
 
