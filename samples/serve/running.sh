@@ -16,6 +16,8 @@ trap end_all EXIT
 trap 'exit 130' INT
 trap 'exit 143' TERM
 
+"$hub" > "$work/built" 2>&1 < /dev/null || true # without words it says its usage; it is built first where it is missing
+
 fail() {
   echo "${0##*/}: $*" >&2
   exit 1
