@@ -1,12 +1,17 @@
-//! Passes that look while a publisher shows one view after another, each in a thread of its own.
+//! Passes that look while a publisher shows one view after another, each in a thread of its own, and one
+//! that stands between two looks meanwhile.
+//!
+//! The threads keep one another's pace, so that each view is put while passes look, and whoever waits for
+//! the others gives up in the end, which the test tells. A `put` that waited for ever is ended by the time
+//! that a test has.
 
-ghost use Rattle.std.specs.Prelude.{◌≡◌, length, vec_len};
+ghost use Rattle.std.specs.Prelude.{◌≡◌};
 ghost use Rattle.std.specs.List.{All};
 ghost use denote.Param.Send.{IsSync};
 ghost use Rattle.hub_history.specs.Told.{AreOne};
 
 use crate::tests::{Shower, opened};
-use crate::{Pass, Publisher, Receipt};
+use crate::{Pass, Receipt};
 use board_core::{HubView, Oracle};
 use std::alloc::Global;
 use std::marker::{Brand, Model, PhantomData};
@@ -171,7 +176,7 @@ fn put_all<R: Wait, H: OfHub>(rt: &R, alloc: Global, board: &Board<H>, shower: &
 
 /// Looks some times, and answers the number that was found last. No look may answer less than the one
 /// before, nor the first less than what is known.
-fn look_on<H: OfHub>(board: &Board<H>, pass: &mut Pass, known: u64) -> u64
+fn look_round<H: OfHub>(board: &Board<H>, pass: &mut Pass, known: u64) -> u64
     requires { AreOne pass.old.line H.told }
     ensures { AreOne pass.new.line H.told }
 {
@@ -203,7 +208,7 @@ fn look_beside<R: Wait, H: OfHub>(rt: &R, board: &Board<H>, pass: &mut Pass)
             return;
         }
         let learned = board.teach(rt, pass);
-        last = look_on(board, pass, last.max(learned));
+        last = look_round(board, pass, last.max(learned));
         board.rounds.fetch_add(1, Ordering::SeqCst);
     }
 }
@@ -242,7 +247,7 @@ struct Beside {
 }
 
 /// Ends the hub, and tells how many messages it has.
-fn ended<R: Wait>(rt: &R, shower: Shower) -> Option<u64> {
+fn closed<R: Wait>(rt: &R, shower: Shower) -> Option<u64> {
     let Shower { publisher, view: _ } = shower;
     let Ok(ending) = publisher.close(rt) else {
         return None;
@@ -296,7 +301,7 @@ fn run_beside<H: OfHub + Send + Sync, R: Threads + Wait + Sync>(
         put: board.put.load(Ordering::SeqCst),
         rounds: board.rounds.load(Ordering::SeqCst),
         stood: [before.ok(), Some(unseen), after.ok()],
-        ended: ended(rt, shower)?,
+        ended: closed(rt, shower)?,
     })
 }
 
