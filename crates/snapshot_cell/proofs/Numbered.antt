@@ -1,5 +1,5 @@
 -- A hub of one feed whose messages have the stamps 1, 2, 3 and so on, for the tests.
-use Rattle.std.proofs.Common.{◌≡◌, ℕ, ◌+◌, ◌<◌, ◌≤◌, List, [], ◌∷◌, ◌++◌, length, Bool, true, Some, Result, Ok, Err, IsTrue, codes, refl, sym, ap, ◌∙◌, subst, arith}
+use Rattle.std.proofs.Common.{◌≡◌, ℕ, ◌+◌, ◌<◌, [], ◌∷◌, ◌++◌, length, true, Some, Result, Ok, Err, codes, refl, sym, ap, ◌∙◌, subst, arith}
 use Rattle.std.specs.Prelude.{IfOk, nat_le, unwrap_or}
 use Rattle.std.proofs.lemmas.Bool.Decides.{nat_tests}
 use Rattle.text_defs.specs.Moments.{last_moment}
@@ -12,7 +12,6 @@ use Rattle.board_defs.proofs.ViewLaws.{fold_at, stands_more}
 use Rattle.hub_history.specs.declared.item.LogItem.TheVariants.{Accepted}
 use Rattle.hub_history.specs.Told.{Told, history_of}
 use Rattle.hub_history.proofs.Logs.{entries_append}
-use Rattle.snapshot_cell.specs.Seen.{Publishing}
 
 -- a receipt of a history with one message more
 pub published : {E : Type 0} (r : Result Told E) (line : Told) (e named : Entry) → IfOk r (λ t. t ≡ record line { log = line.log ++ Accepted e ∷ [] }) → e ≡ named

@@ -28,6 +28,8 @@ mod rule;
 mod seats;
 mod shown;
 #[cfg(test)]
+mod side_tests;
+#[cfg(test)]
 mod tests;
 
 pub use ending::Ending;

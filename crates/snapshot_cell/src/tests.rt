@@ -106,9 +106,9 @@ fn view_after(alloc: Global, view: &HubView, message: FeedMessage) -> Result<Arc
 }
 
 /// A publisher with the view that it showed last.
-struct Shower {
-    publisher: Publisher,
-    view: Arc<HubView, Global>,
+pub(crate) struct Shower {
+    pub(crate) publisher: Publisher,
+    pub(crate) view: Arc<HubView, Global>,
 }
 
 impl Model for Shower {
@@ -128,7 +128,7 @@ impl Model for Shower {
 
 impl Shower {
     /// Shows the view with the next message.
-    fn show_next<R: Wait>(&mut self, rt: &R, alloc: Global) -> Result<Receipt, NoMemory>
+    pub(crate) fn show_next<R: Wait>(&mut self, rt: &R, alloc: Global) -> Result<Receipt, NoMemory>
         ensures hub { AreOne self.new self.old }
         ensures receipt { IfOk result (λ receipt. AreOne receipt self.old) }
     {
@@ -179,7 +179,11 @@ fn put_message<R: Wait>(
 }
 
 /// A hub that accepted nothing, with so many passes.
-fn opened<R: Wait>(rt: &R, alloc: Global, readers: u32) -> Result<(Shower, Vec<Pass>), NoMemory>
+pub(crate) fn opened<R: Wait>(
+    rt: &R,
+    alloc: Global,
+    readers: u32,
+) -> Result<(Shower, Vec<Pass>), NoMemory>
     requires some { 1 ≤ readers }
     requires few { readers ≤ 128 }
     ensures count { IfOk result (λ all. vec_len all.1 ≡ readers) }

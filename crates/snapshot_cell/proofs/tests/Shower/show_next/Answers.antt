@@ -1,5 +1,5 @@
 -- The next message follows the last one.
-use Rattle.std.proofs.Common.{◌≡◌, ◌<◌, ◌+◌, List, length, rules, arith, refl, sym, ap, ◌∙◌, subst}
+use Rattle.std.proofs.Common.{◌≡◌, ◌<◌, List, length, rules, arith, refl, sym, ap, ◌∙◌, subst}
 use Rattle.std.specs.Arc.{arc_value}
 use Rattle.feed_defs.specs.declared.history.Entry.{Entry}
 use Rattle.feed_defs.specs.History.{IsLegal}
