@@ -3,6 +3,9 @@
 //! All that it does stands in `hub_system`, and below it in `hub_main` and `hub_serve`, whose contracts say
 //! what is written and with which status it ends. Here the outside is the system's own, and the ports of
 //! feeds are boxed: only a program itself knows what its runtime is.
+//!
+//! Its stored run is `serve` on the messages of data/spool, with no address at which readers come in, so that it
+//! ends by itself. One of its feeds and the listener fail at opening, which standard error tells; so the status is 1.
 #![tactic(auto)]
 
 use feed_port::FeedPort;

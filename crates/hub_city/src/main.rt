@@ -1,6 +1,7 @@
-//! The program `hub` once more, so that the gate runs `check` on real files too: those of data/.
+//! The commands of `hub` without its server, so that the gate runs one on real files and input: a script over the
+//! timetable of data/.
 //!
-//! A stored run has one list of words, and that of the crate `hub` is `replay`.
+//! A stored run has one list of words, and that of the crate `hub` is `serve`.
 #![tactic(auto)]
 
 use hub_main::run_on_system;

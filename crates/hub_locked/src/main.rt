@@ -1,4 +1,4 @@
-//! The program `hub` a third time, so that the gate runs `check` on a file that is there and may not be read.
+//! The same commands once more, so that the gate runs `check` on a file that is there and may not be read.
 //!
 //! The gate runs programs as a user who may not read /etc/shadow. Such a file is a fault and not an absent one.
 #![tactic(auto)]
