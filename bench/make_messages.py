@@ -98,4 +98,5 @@ def main():
     out.write(b"E\n")
 
 
-main()
+if __name__ == "__main__":
+    main()

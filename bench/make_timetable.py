@@ -21,7 +21,7 @@ write("routes.txt", "route_id,agency_id,route_short_name,route_type", ("R%d,A,%d
 write("trips.txt", "route_id,service_id,trip_id,trip_headsign,direction_id",
       ("R%d,WK,T%d,Hill,%d" % (i % 50, i, i % 2) for i in range(trips)))
 write("calendar.txt", "service_id,monday,tuesday,wednesday,thursday,friday,saturday,sunday,start_date,end_date",
-      ["WK,1,1,1,1,1,1,1,20250101,20251231"])
+      ["WK,1,1,1,1,1,1,1,20250101,20991231"])
 
 def times():
     for trip in range(trips):

@@ -1,0 +1,42 @@
+"""The memory of a running hub with two feeds of 3,000 entities each, for running.sh.
+
+usage: memory.py PROGRAM
+
+An hour's worth of whole data sets, one each ten seconds, is sent as fast as the hub takes them.
+"""
+import sys
+
+from running_hub import FIRST, Hub, Sender, entities_of, frames, header, late
+
+TRIPS, ENTITIES, MESSAGES = 6000, 3000, 360
+
+
+def data_sets(feed):
+    """The messages of a feed: all its trips, in turns of ten as late as they are then."""
+    turns = [entities_of([late(feed * ENTITIES + k, (m * 37 + k * 11) % 600) for k in range(ENTITIES)])
+             for m in range(10)]
+    return (frames([header(FIRST + m, whole=True) + turns[m % 10]]) for m in range(MESSAGES))
+
+
+def main():
+    senders = [Sender(data_sets(feed)) for feed in range(2)]
+    hub = Hub(sys.argv[1], TRIPS, 2, senders)
+    size = len(next(data_sets(0)))
+    print(f"two feeds of {ENTITIES:,} entities, of each {MESSAGES} whole data sets of {size:,} bytes")
+    print(f"  with its timetable of {20 * TRIPS:,} stop times alone: {hub.memory()[0]:.0f} MiB")
+    for sender in senders:
+        sender.begin.set()
+    tenth = most = None
+    for tenths in range(1, 11):
+        hub.wait_for(2 * MESSAGES * tenths // 10, 0.05)
+        now, most = hub.memory()
+        tenth = tenth or most
+        print(f"  behind {10 * tenths} of 100 messages: {now:.0f} MiB")
+    print(f"  at most {most:.0f} MiB; growth of that behind the first tenth: {most / tenth:.2f}")
+    print(f"  {hub.seconds():.1f} s of CPU")
+    for sender in senders:
+        sender.close()
+    hub.close()
+
+
+main()

@@ -1,0 +1,133 @@
+"""A hub that runs, and senders of its feeds, for the scripts that measure one."""
+import os
+import re
+import socket
+import struct
+import subprocess
+import sys
+import tempfile
+import threading
+import time
+import urllib.request
+
+from wire import number, run
+
+BENCH = os.path.dirname(os.path.abspath(__file__))
+ZONE = "CET-1CEST,M3.5.0,M10.5.0/3"
+# Today, and yesterday as the first day of the window: boards are asked for now.
+DATE = time.strftime("%Y%m%d").encode()
+YESTERDAY = time.strftime("%Y%m%d", time.localtime(time.time() - 86400))
+# The stamp of the first message, a day ago.
+FIRST = int(time.time()) - 86400
+
+
+def header(stamp, whole=False):
+    """A message without entities; a differential one where it is not whole."""
+    return run(1, run(1, b"2.0") + number(2, 0 if whole else 1) + number(3, stamp))
+
+
+def entities_of(pairs):
+    """The entities of these ids and payloads, as they stand behind a header."""
+    return b"".join(run(2, run(1, name) + payload) for name, payload in pairs)
+
+
+def late(trip, delay):
+    """An entity by which a trip of make_timetable.py is late today, and later at each of four more places."""
+    places = b"".join(run(2, number(1, 1 + 4 * k) + run(3, number(1, delay + 10 * k))) for k in range(5))
+    return b"e%d" % trip, run(3, run(1, run(1, b"T%d" % trip) + run(3, DATE)) + places)
+
+
+def changes(count, trips, entities=20, shift=0):
+    """So many differential messages, each of which changes some of the trips."""
+    return [header(FIRST + m)
+            + entities_of([late((m * 7919 + k * 97 + shift) % trips, (m * 37 + k * 11) % 600)
+                           for k in range(entities)])
+            for m in range(count)]
+
+
+def frames(messages):
+    """What a stream sends: each message behind four bytes of its length."""
+    return b"".join(struct.pack(">I", len(payload)) + payload for payload in messages)
+
+
+class Sender:
+    """Waits for a hub at a port of its own, sends what it is given once it is told to, and keeps the connection."""
+
+    def __init__(self, parts, pause=0.0):
+        self.listener = socket.create_server(("127.0.0.1", 0))
+        self.address = "127.0.0.1:%d" % self.listener.getsockname()[1]
+        self.parts, self.pause = parts, pause
+        self.begin, self.end = threading.Event(), threading.Event()
+        self.thread = threading.Thread(target=self.send, daemon=True)
+        self.thread.start()
+
+    def send(self):
+        link, _ = self.listener.accept()
+        self.begin.wait()
+        for part in self.parts:
+            if self.end.is_set():
+                break
+            link.sendall(part)
+            if self.pause:
+                time.sleep(self.pause)
+        self.end.wait()
+        link.close()
+
+    def close(self):
+        self.begin.set()
+        self.end.set()
+        self.thread.join()
+        self.listener.close()
+
+
+class Hub:
+    """A hub of a timetable of make_timetable.py, with that many readers, and a stream feed for each sender."""
+
+    def __init__(self, program, trips, readers, senders, before=()):
+        self.work = tempfile.TemporaryDirectory()
+        folder = os.path.join(self.work.name, "city")
+        subprocess.run([sys.executable, os.path.join(BENCH, "make_timetable.py"), str(trips), folder], check=True)
+        config = os.path.join(self.work.name, "hub.toml")
+        with open(config, "w", encoding="utf-8") as out:
+            out.write(f'readers = {readers}\nlisten = "127.0.0.1:0"\n')
+            out.write(f'[[schedule]]\nname = "city"\nfolder = "{folder}"\nzone = "{ZONE}"\nfirst = "{YESTERDAY}"\ndays = 3\n')
+            for place, sender in enumerate(senders):
+                out.write(f'[[feed]]\nname = "f{place}"\nschedule = "city"\nkind = "stream"\nplace = "{sender.address}"\n')
+        self.process = subprocess.Popen([*before, program, "serve", config], stdout=subprocess.DEVNULL,
+                                        stderr=subprocess.PIPE, text=True)
+        for line in self.process.stderr:
+            found = re.match("hub: listening on (.*)", line)
+            if found:
+                self.address = found.group(1)
+                return
+        sys.exit("running_hub.py: the hub does not listen")
+
+    def ask(self, path):
+        """The body that it answers."""
+        with urllib.request.urlopen(f"http://{self.address}{path}", timeout=60) as answer:
+            return answer.read()
+
+    def accepted(self):
+        """How many messages it has accepted."""
+        return int(self.ask("/status").split(b"\n")[0].split(b"\t")[1])
+
+    def wait_for(self, count, pause=0.01):
+        while self.accepted() < count:
+            time.sleep(pause)
+
+    def memory(self):
+        """The memory that it has now, and the most that it had, in MiB."""
+        with open(f"/proc/{self.process.pid}/status", encoding="utf-8") as file:
+            said = file.read()
+        return [int(re.search(rf"{word}:\s+(\d+)", said).group(1)) / 1024 for word in ("VmRSS", "VmHWM")]
+
+    def seconds(self):
+        """The CPU seconds that it took so far."""
+        with open(f"/proc/{self.process.pid}/stat", encoding="utf-8") as file:
+            words = file.read().rsplit(")", 1)[1].split()
+        return (int(words[11]) + int(words[12])) / os.sysconf("SC_CLK_TCK")
+
+    def close(self):
+        self.process.terminate()
+        self.process.wait()
+        self.work.cleanup()
