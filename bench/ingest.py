@@ -13,7 +13,7 @@ import sys
 import tempfile
 import time
 
-from running_hub import BENCH, YESTERDAY, Hub, Sender, changes, frames
+from running_hub import BENCH, YESTERDAY, Hub, Sender, changes, frames, made_trips
 
 PROGRAM = sys.argv[1]
 MESSAGES = int(sys.argv[2]) if len(sys.argv) > 2 else 8000
@@ -29,7 +29,7 @@ PARTS = {
 
 def senders_of(feeds, count):
     """A sender for each feed, of its part of the messages."""
-    return [Sender([frames(changes(count // feeds, TRIPS, shift=13 * feed))]) for feed in range(feeds)]
+    return [Sender([frames(changes(count // feeds, made_trips(TRIPS), shift=13 * feed))]) for feed in range(feeds)]
 
 
 def readers_at_work(hub, count):
@@ -73,7 +73,7 @@ def replayed():
         with open(config, "w", encoding="utf-8") as out:
             out.write(said + '[[feed]]\nname = "f0"\nschedule = "city"\n')
         seconds = []
-        for messages in ([], changes(MESSAGES, TRIPS)):
+        for messages in ([], changes(MESSAGES, made_trips(TRIPS))):
             script = os.path.join(work, "script")
             with open(script, "wb") as out:
                 out.write(b"".join(b"M f0 %d\n%s\n" % (len(payload), payload) for payload in messages) + b"E\n")

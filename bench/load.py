@@ -5,6 +5,7 @@ usage: load.py PROGRAM [SECONDS]   the seconds of each measurement, by default 5
 With 1, 2 and 4 readers, each at work for one connection of wrk, and again while 200 messages a second come in. The
 numbers are those of wrk: answers a second, and the median and the 99th of a hundred of the times that they took.
 """
+import csv
 import os
 import re
 import shutil
@@ -13,12 +14,12 @@ import sys
 import tempfile
 import time
 
-from running_hub import Hub, Sender, changes, frames
+from running_hub import BENCH, Hub, Sender, changes, frames
 
 PROGRAM = sys.argv[1]
 SECONDS = int(sys.argv[2]) if len(sys.argv) > 2 else 5
-TRIPS = 100
-BOARD = "/board/city/S3?limit=3"
+CITY = os.path.join(os.path.dirname(BENCH), "samples/serve/city")
+BOARD = "/board/city/ST?limit=5"
 EACH_SECOND = 200
 
 
@@ -58,17 +59,19 @@ class Nginx:
 
 
 def trickle(seconds):
-    """The messages of that many seconds, one after another."""
-    return [frames([payload]) for payload in changes(EACH_SECOND * seconds, TRIPS)]
+    """The messages of that many seconds, one after another, each about twenty trips of the city."""
+    with open(os.path.join(CITY, "trips.txt"), encoding="utf-8", newline="") as file:
+        trips = [row["trip_id"].encode() for row in csv.DictReader(file)]
+    return [frames([payload]) for payload in changes(EACH_SECOND * seconds, trips, places=range(1, 4))]
 
 
 def main():
     if not shutil.which("wrk") or not shutil.which("nginx"):
         sys.exit("load.py: it needs wrk and nginx")
-    print(f"answers a second for a board of three rows, over {TRIPS:,} trips; the median and the 99th of a hundred")
+    print("answers a second for a board of the city of samples/serve; the median and the 99th of a hundred")
     for readers in (1, 2, 4):
         sender = Sender(trickle(4 * SECONDS), 1 / EACH_SECOND)
-        hub = Hub(PROGRAM, TRIPS, readers, [sender])
+        hub = Hub(PROGRAM, CITY, readers, [sender])
         url = f"http://{hub.address}{BOARD}"
         still = measured(url, readers)
         sender.begin.set()

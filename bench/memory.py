@@ -6,15 +6,15 @@ An hour's worth of whole data sets, one each ten seconds, is sent as fast as the
 """
 import sys
 
-from running_hub import FIRST, Hub, Sender, entities_of, frames, header, late
+from running_hub import FIRST, Hub, Sender, entities_of, frames, header, late, made_trips
 
 TRIPS, ENTITIES, MESSAGES = 6000, 3000, 360
 
 
 def data_sets(feed):
     """The messages of a feed: all its trips, in turns of ten as late as they are then."""
-    turns = [entities_of([late(feed * ENTITIES + k, (m * 37 + k * 11) % 600) for k in range(ENTITIES)])
-             for m in range(10)]
+    trips = made_trips(TRIPS)[feed * ENTITIES:][:ENTITIES]
+    turns = [entities_of([late(trip, (m * 37 + k * 11) % 600) for k, trip in enumerate(trips)]) for m in range(10)]
     return (frames([header(FIRST + m, whole=True) + turns[m % 10]]) for m in range(MESSAGES))
 
 

@@ -31,16 +31,21 @@ def entities_of(pairs):
     return b"".join(run(2, run(1, name) + payload) for name, payload in pairs)
 
 
-def late(trip, delay):
-    """An entity by which a trip of make_timetable.py is late today, and later at each of four more places."""
-    places = b"".join(run(2, number(1, 1 + 4 * k) + run(3, number(1, delay + 10 * k))) for k in range(5))
-    return b"e%d" % trip, run(3, run(1, run(1, b"T%d" % trip) + run(3, DATE)) + places)
+def made_trips(count):
+    """The first trips of make_timetable.py."""
+    return [b"T%d" % k for k in range(count)]
 
 
-def changes(count, trips, entities=20, shift=0):
+def late(trip, delay, places=range(1, 21, 4)):
+    """An entity by which a trip is late today, and later at each of these places."""
+    told = b"".join(run(2, number(1, place) + run(3, number(1, delay + 10 * place))) for place in places)
+    return trip, run(3, run(1, run(1, trip) + run(3, DATE)) + told)
+
+
+def changes(count, trips, entities=20, shift=0, places=range(1, 21, 4)):
     """So many differential messages, each of which changes some of the trips."""
     return [header(FIRST + m)
-            + entities_of([late((m * 7919 + k * 97 + shift) % trips, (m * 37 + k * 11) % 600)
+            + entities_of([late(trips[(m * 7919 + k * 97 + shift) % len(trips)], (m * 37 + k * 11) % 600, places)
                            for k in range(entities)])
             for m in range(count)]
 
@@ -81,12 +86,16 @@ class Sender:
 
 
 class Hub:
-    """A hub of a timetable of make_timetable.py, with that many readers, and a stream feed for each sender."""
+    """A hub with that many readers, and a stream feed for each sender, of the timetable in a folder, or of one of
+    make_timetable.py with that many trips. `before` are words in front of its own, as valgrind's."""
 
-    def __init__(self, program, trips, readers, senders, before=()):
+    def __init__(self, program, timetable, readers, senders, before=()):
         self.work = tempfile.TemporaryDirectory()
-        folder = os.path.join(self.work.name, "city")
-        subprocess.run([sys.executable, os.path.join(BENCH, "make_timetable.py"), str(trips), folder], check=True)
+        folder = timetable
+        if isinstance(timetable, int):
+            folder = os.path.join(self.work.name, "city")
+            words = [os.path.join(BENCH, "make_timetable.py"), str(timetable), folder]
+            subprocess.run([sys.executable, *words], check=True)
         config = os.path.join(self.work.name, "hub.toml")
         with open(config, "w", encoding="utf-8") as out:
             out.write(f'readers = {readers}\nlisten = "127.0.0.1:0"\n')
