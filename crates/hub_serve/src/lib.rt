@@ -20,6 +20,8 @@
 
 mod closing;
 #[cfg(test)]
+mod cut_tests;
+#[cfg(test)]
 mod fault_tests;
 mod feeds;
 #[cfg(test)]

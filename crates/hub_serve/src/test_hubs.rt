@@ -29,7 +29,7 @@ pub(crate) const UPDATE: [u8; 47] = [
 ];
 
 /// A request for one row of the board of the harbour.
-const ASK: &str = "GET /board/city/S3?limit=1 HTTP/1.1\r\nHost: h\r\n\r\n";
+pub(crate) const ASK: &str = "GET /board/city/S3?limit=1 HTTP/1.1\r\nHost: h\r\n\r\n";
 
 /// The responses to it after no message, after that of stamp 5, and after the update too.
 const SERVED: [&str; 3] = [

@@ -1,9 +1,9 @@
 -- One pass more.
 use Rattle.std.proofs.Common.{◌≡◌, ◌++◌, ◌∷◌, [], List, sym, ap, ◌∙◌, append_assoc, append-nil, arith}
 use Rattle.std.proofs.lemmas.Grind.{common_steps}
+use Rattle.std.proofs.lemmas.List.Elements.{All-rest}
 use Rattle.snapshot_cell.specs.Seen.{PassSeen}
 use Rattle.hub_shared.specs.Calls.{IsFresh}
-use Rattle.hub_serve.proofs.Opened.{all_rest}
 use Rattle.hub_serve.proofs.opening.passes_at.Goals as goal
 
 pub loop-pass-preserved : goal.loop-pass-preserved
@@ -15,7 +15,7 @@ loop-pass-preserved g c =
           ∙ ap (λ (p : PassSeen). c.loop-pass.same.items ++ (p ∷ c.next.new.self.rest.items)) c.new.ensures
           ∙ ap (λ (zs : List PassSeen). c.loop-pass.same.items ++ zs) (sym step)
           ∙ c.loop-pass.invariant.all;
-      fresh = all_rest (λ (pass : PassSeen). IsFresh g.H.OfHub.ties pass) c.in-Some.pass c.next.new.self.rest.items c.loop-pass.pass-iterator.rest.items step c.loop-pass.invariant.fresh;
+      fresh = All-rest (λ (pass : PassSeen). IsFresh g.H.OfHub.ties pass) c.in-Some.pass c.next.new.self.rest.items c.loop-pass.pass-iterator.rest.items step c.loop-pass.invariant.fresh;
     }
 
 pub returns : goal.returns
