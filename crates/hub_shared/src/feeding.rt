@@ -38,6 +38,7 @@ pub fn ingest_port<R: Wait, P: FeedPort>(
         (P.faults port.old) (P.faults port.new)
         (tally_of result.accepted result.refused result.starved result.too_long) result.end }
     ensures unasked { result.end ≡ NoMemory → port.new ≡ port.old }
+    ensures kept { result.end ≡ NoMemory → seat.new ≡ seat.old }
 {
     let mut buffer = Buf::new(alloc);
     if buffer.reserve(LONGEST_MESSAGE).is_err() {
@@ -61,6 +62,7 @@ pub fn ingest_all<R: Wait, P: FeedPort>(
         (P.faults port.old) (P.faults port.new)
         (tally_of result.accepted result.refused result.starved result.too_long) result.end }
     ensures unasked { result.end ≡ NoMemory → port.new ≡ port.old }
+    ensures kept { result.end ≡ NoMemory → result.seat ≡ seat }
 {
     let mut seat = seat;
     let report = ingest_port(rt, alloc, hub, &mut seat, port);
