@@ -1,4 +1,5 @@
-//! The lists beside a board, of the small city and of a hub without a timetable, with ample memory.
+//! The lists beside a board, and the row of an added trip, of the small city and of a hub without a
+//! timetable, with ample memory.
 use crate::board_tests::plays;
 use crate::tests::replayed;
 use std::alloc::Global;
@@ -54,6 +55,21 @@ fn alerts_on_a_route_are_listed_with_its_rows(rt: HostRuntime) -> Result<(), Fai
 #[test]
 fn updates_of_unknown_trips_are_listed(rt: HostRuntime) -> Result<(), Fail> {
     assert!(rt; plays(rt.alloc(), STRANGER, STRANGER_TOLD)?);
+    Ok(())
+}
+
+/// An added trip of the route R7 that leaves S3 at 08:01:40 and arrives at S4 five minutes later. It tells no
+/// date.
+const ADDED_TRIP: &[u8] =
+    b"M a 62\n\x0a\x0d\x0a\x032.0\x10\x00\x18\xd0\xb8\xa3\xbf\x06\x12-\x0a\x01u\x1a(\x0a\x0a\x0a\x02X9 \x01*\x02R7\x12\x0c\x1a\x06\x10\xc4\xbc\xa3\xbf\x06\"\x02S3\x12\x0c\x12\x06\x10\xf0\xbe\xa3\xbf\x06\"\x02S4\nB city S3 1743314000 3600 50 text\nU city\nE\n";
+
+/// It has a row in front of the timetable's, and isn't unmatched.
+const ADDED_TRIP_TOLD: &str =
+    "accepted 1\nboard 168\nstop\tS3\tHarbour\nexpected\tscheduled\tdelay\tstate\troute\theadsign\ttrip\tdate\tplatform\n1743314500\t-\t-\tadded\t7\t\tX9\t\tS3\n1743315000\t1743315000\t-\tscheduled\t7\tHill\tT1\t20250330\tS3\n\nunmatched 20\nfeed\tid\tkind\treason\n\n";
+
+#[test]
+fn an_added_trip_has_a_row(rt: HostRuntime) -> Result<(), Fail> {
+    assert!(rt; plays(rt.alloc(), ADDED_TRIP, ADDED_TRIP_TOLD)?);
     Ok(())
 }
 
