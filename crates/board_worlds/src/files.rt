@@ -22,7 +22,7 @@ fn stops(in_station: bool) -> &'static str {
 }
 
 /// A time of a day as HH:MM:SS.
-fn time(alloc: Global, seconds: u32) -> Result<String, AllocError> {
+pub(crate) fn time(alloc: Global, seconds: u32) -> Result<String, AllocError> {
     let hours = seconds / 3600;
     let minutes = seconds / 60 % 60;
     format!(in alloc; "{hours:02}:{minutes:02}:00")
@@ -52,11 +52,17 @@ fn stop_times(alloc: Global, world: &World) -> Result<String, AllocError> {
     Ok(text)
 }
 
-/// trips.txt: each trip has a service of its own, with the same id.
+/// The rows of trips.txt: each trip has a service of its own, with the same id.
+const TRIP_ROWS: [&str; 3] = ["R7,T0,T0,Hill,0\n", "R7,T1,T1,Hill,0\n", "R8,T2,T2,Hill,\n"];
+
+/// trips.txt.
 fn trips(alloc: Global, world: &World) -> Result<String, AllocError> {
-    let mut text = String::from_str(alloc, "route_id,service_id,trip_id,trip_headsign\n")?;
-    for (_, id) in world.trips.iter().zip(TRIPS) {
-        text.push_str(format!(in alloc; "R7,{id},{id},Hill\n")?.as_str())?;
+    let mut text = String::from_str(
+        alloc,
+        "route_id,service_id,trip_id,trip_headsign,direction_id\n",
+    )?;
+    for (_, row) in world.trips.iter().zip(TRIP_ROWS) {
+        text.push_str(row)?;
     }
     Ok(text)
 }
@@ -77,12 +83,16 @@ fn days(alloc: Global, world: &World) -> Result<String, AllocError> {
 /// The folder `city` with the timetable of a world.
 pub(crate) fn folder(alloc: Global, world: &World) -> Result<MemoryFiles, AllocError> {
     let files = vec![in alloc;
-        file(alloc, "city/agency.txt", "agency_id,agency_name\nA,City\n")?,
+        file(
+            alloc,
+            "city/agency.txt",
+            "agency_id,agency_name\nA,City\nB,Tram\n"
+        )?,
         file(alloc, "city/stops.txt", stops(world.in_station))?,
         file(
             alloc,
             "city/routes.txt",
-            "route_id,agency_id,route_short_name,route_type\nR7,A,7,3\n"
+            "route_id,agency_id,route_short_name,route_type\nR7,A,7,3\nR8,B,8,0\n"
         )?,
         file(alloc, "city/trips.txt", trips(alloc, world)?.as_str())?,
         file(

@@ -4,15 +4,13 @@ ghost use Rattle.std.specs.Prelude.{◌≡◌, ◌+◌, ◌<◌, Some, IfOk, IsT
 ghost use Rattle.feed_defs.specs.History.{stamp_of};
 ghost use Rattle.text_defs.specs.Moments.{is_stamp};
 
+use crate::entities::{entities, no_bytes};
 use crate::files::folder;
-use crate::world::{DATES, MadeStop, MadeUpdate, STOPS, TRIPS, World};
+use crate::world::World;
 use board_core::HubView;
 use delay_rule::Steps;
 use feed_view::FeedView;
-use rt_types::{
-    Bytes, Entities, Entity, Event, FeedMessage, Header, Incrementality, Shared, StopUpdate,
-    StopUpdates, Text, TripRef, TripUpdate,
-};
+use rt_types::{Entities, Entity, FeedMessage, Header, Incrementality, Text};
 use sched_load::{PlanConf, load};
 use sched_types::{NamedFeed, NamedPlan, Plan, PlanName, Plans};
 use std::alloc::{AllocError, Global};
@@ -57,105 +55,6 @@ fn schedules(alloc: Global, plan: Plan) -> Result<Plans, AllocError> {
     let plans = vec![in alloc; named(alloc, "city", plan)?]?;
     let feeds = vec![in alloc; feed(alloc, "a")?, feed(alloc, "b")?]?;
     Ok(Plans::new(plans, feeds))
-}
-
-fn no_bytes(alloc: Global) -> Bytes {
-    Bytes::from_vec(Vec::new(alloc))
-}
-
-/// What is told of an arrival or a departure, if anything.
-fn event(alloc: Global, delay: Option<i32>, time: Option<i64>) -> Option<Event> {
-    if delay.is_none() && time.is_none() {
-        return None;
-    }
-    Some(Event {
-        delay,
-        time,
-        uncertainty: None,
-        unknown: no_bytes(alloc),
-    })
-}
-
-/// The stop_id of a call, if there is one.
-fn stop_id(alloc: Global, made: MadeStop) -> Result<Option<Text>, AllocError> {
-    match made.call {
-        Some(call) => {
-            let id = STOPS.get(call.stop as usize).copied().unwrap_or("Z");
-            Ok(Some(Text::new(alloc, id)?))
-        }
-        None => Ok(None),
-    }
-}
-
-fn stop_update(alloc: Global, made: MadeStop) -> Result<StopUpdate, AllocError> {
-    let arrives = made.call.and_then(|call| call.arrives);
-    let leaves = made.call.and_then(|call| call.leaves);
-    Ok(StopUpdate {
-        stop_sequence: Some(made.sequence),
-        arrival: event(alloc, made.arrival, arrives),
-        departure: event(alloc, made.departure, leaves),
-        stop_id: stop_id(alloc, made)?,
-        relation: made.relation,
-        properties: None,
-        unknown: no_bytes(alloc),
-    })
-}
-
-fn stop_updates(alloc: Global, made: &[MadeStop]) -> Result<StopUpdates, AllocError> {
-    let mut stops = Vec::new(alloc);
-    for stop in made {
-        stops.push(stop_update(alloc, *stop)?)?;
-    }
-    Ok(StopUpdates::new(stops))
-}
-
-/// The descriptor of a trip on a day; past the last of either it names one that isn't there.
-fn trip_ref(alloc: Global, made: &MadeUpdate) -> Result<TripRef, AllocError> {
-    let trip = TRIPS.get(made.trip as usize).copied().unwrap_or("T9");
-    let date = DATES.get(made.day as usize).copied().unwrap_or("20250401");
-    Ok(TripRef {
-        trip_id: Some(Text::new(alloc, trip)?),
-        start_time: None,
-        start_date: Some(Text::new(alloc, date)?),
-        relation: made.relation,
-        route_id: None,
-        direction_id: None,
-        unknown: no_bytes(alloc),
-    })
-}
-
-fn trip_update(alloc: Global, made: &MadeUpdate) -> Result<TripUpdate, AllocError> {
-    Ok(TripUpdate {
-        trip: trip_ref(alloc, made)?,
-        stop_time_update: stop_updates(alloc, made.stops.as_slice())?,
-        vehicle: None,
-        timestamp: made.stamp,
-        delay: made.delay,
-        unknown: no_bytes(alloc),
-    })
-}
-
-fn entity(alloc: Global, made: &MadeUpdate) -> Result<Entity, AllocError> {
-    let update = trip_update(alloc, made)?;
-    Ok(Entity {
-        id: Text::new(alloc, made.id)?,
-        is_deleted: None,
-        trip_update: Some(Shared::new(alloc, update)?),
-        vehicle: None,
-        alert: None,
-        unknown: no_bytes(alloc),
-    })
-}
-
-/// The entities of a feed.
-fn entities(alloc: Global, world: &World, feed: u32) -> Result<Vec<Entity>, AllocError> {
-    let mut entities = Vec::new(alloc);
-    for made in &world.updates {
-        if made.feed == feed {
-            entities.push(entity(alloc, made)?)?;
-        }
-    }
-    Ok(entities)
 }
 
 /// A whole data set of that stamp.

@@ -1,6 +1,8 @@
 //! The rows of a board by going over everything.
 
-use crate::world::{BASES, FIRST_STAMP, MadePlace, MadeStop, MadeTrip, MadeUpdate, World};
+use crate::world::{
+    BASES, FIRST_STAMP, MadePlace, MadeStop, MadeTrip, MadeUpdate, TRIP_ROUTES, World,
+};
 use board_core::RowState;
 use rt_types::{StopRelation, TripRelation};
 use std::alloc::{AllocError, Global};
@@ -25,7 +27,7 @@ pub(crate) struct Key {
     pub(crate) place: u32,
 }
 
-/// A row, with trip, day and stop by their numbers.
+/// A row, with trip, day, stop and route by their numbers.
 #[derive(Clone, Copy)]
 pub(crate) struct Seen {
     pub(crate) key: Key,
@@ -33,6 +35,7 @@ pub(crate) struct Seen {
     pub(crate) delay: Option<i64>,
     pub(crate) state: RowState,
     pub(crate) stop: u32,
+    pub(crate) route: Option<u32>,
 }
 
 /// A state, and a delay where it is known.
@@ -42,17 +45,23 @@ struct Sign {
     delay: Option<i64>,
 }
 
-/// Whether an update speaks of a run: added trips and those without a timetable are no runs.
+/// Whether an update speaks of a run: added trips, those without a timetable and those that take the place of
+/// others are no runs.
 fn is_about(update: &MadeUpdate, trip: u32, day: u32) -> bool {
     let is_run = match update.relation {
-        Some(TripRelation::Added | TripRelation::Unscheduled) => false,
+        Some(
+            TripRelation::Added
+            | TripRelation::Unscheduled
+            | TripRelation::Replacement
+            | TripRelation::Duplicated,
+        ) => false,
         _ => true,
     };
     is_run && update.trip == trip && update.day == day
 }
 
 /// The stamp of an update: its own, else that of its feed's message.
-fn stamp_of(world: &World, update: &MadeUpdate) -> u64 {
+pub(crate) fn stamp_of(world: &World, update: &MadeUpdate) -> u64 {
     let message = world.stamps.get(update.feed as usize).copied();
     update.stamp.or(message).unwrap_or(FIRST_STAMP)
 }
@@ -161,10 +170,14 @@ fn sign_at(update: Option<&MadeUpdate>, trip: &MadeTrip, place: usize) -> Option
     }
 }
 
+/// Whether a stop lies in another, which is the station then.
+pub(crate) fn lies_in(world: &World, stop: u32, other: u32) -> bool {
+    other == 3 && (stop == 0 || (stop == 1 && world.in_station))
+}
+
 /// Whether a stop is the asked one or lies in it.
 fn is_asked(world: &World, asked: u32, stop: u32) -> bool {
-    let in_station = stop == 0 || (stop == 1 && world.in_station);
-    stop == asked || (asked == 3 && in_station)
+    stop == asked || lies_in(world, stop, asked)
 }
 
 /// Whether an instant is one of the asked ones.
@@ -189,6 +202,7 @@ fn row(place: MadePlace, trip: u32, day: u32, number: usize, sign: Sign) -> Seen
         delay: sign.delay,
         state: sign.state,
         stop: place.stop,
+        route: TRIP_ROUTES.get(trip as usize).copied(),
     }
 }
 
@@ -294,6 +308,14 @@ fn calls(alloc: Global, update: &MadeUpdate) -> Result<Vec<Call>, AllocError> {
     Ok(calls)
 }
 
+/// The number of a route that is there.
+fn known_route(route: Option<u32>) -> Option<u32> {
+    match route {
+        Some(route) if route < 2 => Some(route),
+        _ => None,
+    }
+}
+
 /// The row of a call of an added trip.
 fn added_row(update: &MadeUpdate, call: Call, number: usize) -> Seen {
     Seen {
@@ -308,6 +330,7 @@ fn added_row(update: &MadeUpdate, call: Call, number: usize) -> Seen {
         delay: None,
         state: RowState::Added,
         stop: call.stop,
+        route: known_route(update.route),
     }
 }
 
@@ -334,7 +357,7 @@ fn with_added(
 }
 
 /// Whether a trip runs on a day.
-fn runs(world: &World, trip: u32, day: u32) -> bool {
+pub(crate) fn runs(world: &World, trip: u32, day: u32) -> bool {
     match world.trips.get(trip as usize) {
         Some(made) => made.runs.get(day as usize).copied().unwrap_or(false),
         None => false,

@@ -3,12 +3,20 @@
 use crate::dice::Dice;
 use crate::hub::hub;
 use crate::scan::{Question, Seen, scan};
-use crate::world::{BASES, DATES, STOPS, TRIPS, World, made_world};
+use crate::world::{DATES, ROUTE_NAMES, STOPS, TRIPS, World, made_world, moment};
 use board_core::{BoardQuery, HubView, Row, RowState, RowsFault, Subject, rows, subjects};
 use rt_types::Text;
 use std::alloc::Global;
 use std::test::Fail;
 use texts::LAST_MOMENT;
+
+/// The short name of a route; empty where there is none.
+fn route_name(route: Option<u32>) -> &'static str {
+    match route {
+        Some(route) => ROUTE_NAMES.get(route as usize).copied().unwrap_or(""),
+        None => "",
+    }
+}
 
 /// Whether a row says what was seen.
 fn is_seen(row: &Row, seen: &Seen) -> bool {
@@ -23,7 +31,7 @@ fn is_seen(row: &Row, seen: &Seen) -> bool {
                 .copied()
                 .unwrap_or("20250401")
         && STOPS.get(seen.stop as usize).copied() == Some(row.platform.as_str())
-        && row.route.as_str() == if seen.key.is_added { "" } else { "7" }
+        && row.route.as_str() == route_name(seen.route)
         && row.headsign.as_str() == if seen.key.is_added { "" } else { "Hill" }
 }
 
@@ -64,7 +72,7 @@ fn is_about(subject: &Subject<'_>, seen: &Seen) -> bool {
                         .get(seen.key.day as usize)
                         .copied()
                         .unwrap_or("20250401")
-                && key.route.is_none()
+                && key.route == seen.route
                 && stop == seen.stop
         }
         Subject::Stop(_) => false,
@@ -114,13 +122,11 @@ fn agrees(
 }
 
 /// A question for some stop, from some moment of the morning of some day on.
-fn question(dice: &mut Dice) -> Question {
-    let day = dice.below(3);
-    let base = BASES.get(day as usize).copied().unwrap_or(0);
-    let at = u64::try_from(base).unwrap_or(0);
+pub(crate) fn question(dice: &mut Dice) -> Question {
+    let at = moment(dice);
     Question {
         stop: dice.below(4),
-        at: at + 27_600 + 300 * u64::from(dice.below(8)),
+        at,
         span: 600 * (1 + dice.below(12)),
         limit: 1 + dice.below(8),
     }
@@ -205,7 +211,7 @@ fn boards_are_what_a_scan_sees(rt: HostRuntime) -> Result<(), Fail> {
     }
     assert!(rt; count.scheduled > 500 && count.live > 100, "{count:?}");
     assert!(rt;
-        count.skipped > 5 && count.canceled > 50 && count.added > 20,
+        count.skipped > 5 && count.canceled > 30 && count.added > 20,
         "{count:?}"
     );
     Ok(())

@@ -1,6 +1,7 @@
 //! A timetable of four stops and up to three trips, and what two feeds say of it.
 
 use crate::dice::Dice;
+use crate::notice::{Known, MadeAlert, MadeVehicle, alerts, vehicles};
 use rt_types::{StopRelation, TripRelation};
 use std::alloc::{AllocError, Global};
 
@@ -9,6 +10,27 @@ pub(crate) const STOPS: [&str; 4] = ["A", "B", "C", "P"];
 
 /// The trips, in order of their ids.
 pub(crate) const TRIPS: [&str; 3] = ["T0", "T1", "T2"];
+
+/// The routes, in order of their ids, and their short names.
+pub(crate) const ROUTES: [&str; 2] = ["R7", "R8"];
+
+pub(crate) const ROUTE_NAMES: [&str; 2] = ["7", "8"];
+
+/// The agency and the route_type of each route.
+pub(crate) const ROUTE_AGENCIES: [u32; 2] = [0, 1];
+
+pub(crate) const ROUTE_KINDS: [i32; 2] = [3, 0];
+
+/// The agencies, in order of their ids.
+pub(crate) const AGENCIES: [&str; 2] = ["A", "B"];
+
+/// The route and the direction of each trip.
+pub(crate) const TRIP_ROUTES: [u32; 3] = [0, 0, 1];
+
+pub(crate) const TRIP_DIRECTIONS: [Option<u32>; 3] = [Some(0), Some(0), None];
+
+/// The ids that updates and vehicles may have, in order.
+pub(crate) const ENTITY_IDS: [&str; 4] = ["w", "x", "y", "z"];
 
 /// The days of the window. On the second the clock goes forward.
 pub(crate) const DATES: [&str; 3] = ["20250329", "20250330", "20250331"];
@@ -54,7 +76,7 @@ pub(crate) struct MadeStop {
     pub(crate) call: Option<MadeCall>,
 }
 
-/// An update of a trip on a day, either of which the timetable may lack.
+/// An update of a trip on a day, either of which the timetable may lack, as it may the route.
 #[derive(Drop)]
 pub(crate) struct MadeUpdate {
     pub(crate) feed: u32,
@@ -63,17 +85,59 @@ pub(crate) struct MadeUpdate {
     pub(crate) trip: u32,
     pub(crate) day: u32,
     pub(crate) relation: Option<TripRelation>,
+    pub(crate) route: Option<u32>,
     pub(crate) delay: Option<i32>,
     pub(crate) stops: Vec<MadeStop>,
 }
 
-/// A world: a timetable, the stamps of the messages of two feeds, and the updates in these.
+/// A world: a timetable, the stamps of the messages of two feeds, and the updates, vehicles and alerts in these.
 #[derive(Drop)]
 pub(crate) struct World {
     pub(crate) in_station: bool,
     pub(crate) trips: Vec<MadeTrip>,
     pub(crate) stamps: [u64; 2],
     pub(crate) updates: Vec<MadeUpdate>,
+    pub(crate) vehicles: Vec<MadeVehicle>,
+    pub(crate) alerts: Vec<MadeAlert>,
+}
+
+impl World {
+    /// The update of that id of a feed, if there is one.
+    pub(crate) fn update(&self, feed: u32, id: &str) -> Option<&MadeUpdate> {
+        for made in &self.updates {
+            if made.feed == feed && made.id == id {
+                return Some(made);
+            }
+        }
+        None
+    }
+
+    /// The vehicle of that id of a feed, if there is one.
+    pub(crate) fn vehicle(&self, feed: u32, id: &str) -> Option<MadeVehicle> {
+        for made in &self.vehicles {
+            if made.feed == feed && made.id == id {
+                return Some(*made);
+            }
+        }
+        None
+    }
+
+    /// The alert of that id of a feed, if there is one.
+    pub(crate) fn alert(&self, feed: u32, id: &str) -> Option<&MadeAlert> {
+        for made in &self.alerts {
+            if made.feed == feed && made.id == id {
+                return Some(made);
+            }
+        }
+        None
+    }
+}
+
+/// A moment of the morning of some day.
+pub(crate) fn moment(dice: &mut Dice) -> u64 {
+    let day = dice.below(3);
+    let base = BASES.get(day as usize).copied().unwrap_or(0);
+    u64::try_from(base).unwrap_or(0) + 27_600 + 300 * u64::from(dice.below(8))
 }
 
 /// A delay of some minutes, early or late, or none. Few values make for ties.
@@ -147,13 +211,15 @@ fn stop(dice: &mut Dice, call: Option<MadeCall>) -> MadeStop {
 }
 
 /// What an update says of its trip.
-fn relation(dice: &mut Dice) -> Option<TripRelation> {
-    match dice.below(14) {
+pub(crate) fn relation(dice: &mut Dice) -> Option<TripRelation> {
+    match dice.below(18) {
         0 | 1 => Some(TripRelation::Canceled),
         2 => Some(TripRelation::Deleted),
         3 | 4 | 5 => Some(TripRelation::Added),
         6 => Some(TripRelation::Unscheduled),
         7 => Some(TripRelation::Scheduled),
+        8 => Some(TripRelation::Replacement),
+        9 => Some(TripRelation::Duplicated),
         _ => None,
     }
 }
@@ -189,18 +255,19 @@ fn update(
         trip: if dice.one_in(9) { 3 } else { dice.below(trips) },
         day,
         relation,
+        route: match dice.below(6) {
+            0 => Some(0),
+            1 => Some(1),
+            2 => Some(2),
+            _ => None,
+        },
         delay: delay(dice),
         stops,
     })
 }
 
-/// A world of one to three trips, and up to three updates of each feed.
-pub(crate) fn made_world(alloc: Global, dice: &mut Dice) -> Result<World, AllocError> {
-    let count = 1 + dice.below(3);
-    let mut trips = Vec::new(alloc);
-    for _ in 0..count {
-        trips.push(trip(alloc, dice)?)?;
-    }
+/// Up to three updates of each feed.
+fn updates(alloc: Global, dice: &mut Dice, count: u32) -> Result<Vec<MadeUpdate>, AllocError> {
     let mut updates = Vec::new(alloc);
     for feed in 0..2u32 {
         // They stand in the message against the order of their ids.
@@ -210,6 +277,30 @@ pub(crate) fn made_world(alloc: Global, dice: &mut Dice) -> Result<World, AllocE
             }
         }
     }
+    Ok(updates)
+}
+
+/// So many trips.
+fn trips(alloc: Global, dice: &mut Dice, count: u32) -> Result<Vec<MadeTrip>, AllocError> {
+    let mut trips = Vec::new(alloc);
+    for _ in 0..count {
+        trips.push(trip(alloc, dice)?)?;
+    }
+    Ok(trips)
+}
+
+/// A world of one to three trips, and of what two feeds say.
+pub(crate) fn made_world(alloc: Global, dice: &mut Dice) -> Result<World, AllocError> {
+    let count = 1 + dice.below(3);
+    let trips = trips(alloc, dice, count)?;
+    let updates = updates(alloc, dice, count)?;
+    let known = Known {
+        trips: trips.as_slice(),
+        count,
+        updates: updates.as_slice(),
+    };
+    let vehicles = vehicles(alloc, dice, known)?;
+    let alerts = alerts(alloc, dice, known)?;
     let stamps = [
         FIRST_STAMP + u64::from(dice.below(2)),
         FIRST_STAMP + u64::from(dice.below(2)),
@@ -219,5 +310,7 @@ pub(crate) fn made_world(alloc: Global, dice: &mut Dice) -> Result<World, AllocE
         trips,
         stamps,
         updates,
+        vehicles,
+        alerts,
     })
 }
