@@ -27,13 +27,13 @@ const MOMENT: u64 = 1_743_314_900;
 
 /// How many messages each feed offers. Every fifth is refused: in turns it is cut short, or no newer than
 /// the one before.
-const OFFERED: u64 = 200;
+const OFFERED: u64 = 500;
 
 /// How many of them are accepted.
-const ACCEPTED: u64 = 160;
+const ACCEPTED: u64 = 400;
 
 /// How many links each reader serves.
-const LINKS: u64 = 40;
+const LINKS: u64 = 100;
 
 /// So many messages of each feed go beside two links of each reader.
 const BATCH: u64 = 10;
@@ -47,7 +47,7 @@ const REFUSED: u64 = 9999;
 
 /// What is written where all goes well.
 const LINES: &str =
-    "feed a accepted 160 refused 40 starved 0 toolong 0 last 288\nfeed b accepted 160 refused 40 starved 0 toolong 0 last 288\nfeed c accepted 160 refused 40 starved 0 toolong 0 last 288\nfeed d accepted 160 refused 40 starved 0 toolong 0 last 288\nreaders 4 connections 160 responses 160 starved 0\n";
+    "feed a accepted 400 refused 100 starved 0 toolong 0 last 528\nfeed b accepted 400 refused 100 starved 0 toolong 0 last 528\nfeed c accepted 400 refused 100 starved 0 toolong 0 last 528\nfeed d accepted 400 refused 100 starved 0 toolong 0 last 528\nreaders 4 connections 400 responses 400 starved 0\n";
 
 /// A feed, and the trip and the day of the run of which it tells.
 #[derive(Clone, Copy)]
