@@ -37,7 +37,7 @@ pub fn ingest_port<R: Wait, P: FeedPort>(
     ensures ingests { Ingests seat.old seat.new (P.ahead port.old) (P.ahead port.new)
         (P.faults port.old) (P.faults port.new)
         (tally_of result.accepted result.refused result.starved result.too_long) result.end }
-    ensures unasked { result.end ≡ NoMemory → port.new ≡ port.old }
+    ensures unasked { result.end ≡ NoMemory → (port.new ≡ port.old) × (seat.new ≡ seat.old) }
 {
     let mut buffer = Buf::new(alloc);
     if buffer.reserve(LONGEST_MESSAGE).is_err() {
@@ -60,7 +60,7 @@ pub fn ingest_all<R: Wait, P: FeedPort>(
     ensures ingests { Ingests seat result.seat (P.ahead port.old) (P.ahead port.new)
         (P.faults port.old) (P.faults port.new)
         (tally_of result.accepted result.refused result.starved result.too_long) result.end }
-    ensures unasked { result.end ≡ NoMemory → port.new ≡ port.old }
+    ensures unasked { result.end ≡ NoMemory → (port.new ≡ port.old) × (result.seat ≡ seat) }
 {
     let mut seat = seat;
     let report = ingest_port(rt, alloc, hub, &mut seat, port);
