@@ -113,6 +113,17 @@ fn put_all<R: Wait>(rt: &R, alloc: Global, shower: &mut Shower, puts: u64) -> u6
     put
 }
 
+/// Looks once, and counts the look if it answered: the pass made no fewer.
+fn look_once(pass: &mut Pass) -> u64
+    ensures few { result ≤ 1 }
+    ensures made { pass.old.reads + result ≤ pass.new.reads }
+{
+    match pass.look() {
+        Ok(_) => 1,
+        Err(_) => 0,
+    }
+}
+
 /// Looks so often, and counts the looks that answered: the pass made no fewer.
 fn look_often(pass: &mut Pass, looks: u64) -> u64
     ensures few { result ≤ looks }
@@ -120,9 +131,7 @@ fn look_often(pass: &mut Pass, looks: u64) -> u64
 {
     let mut found = 0;
     for _ in 0..looks {
-        if pass.look().is_ok() {
-            found += 1;
-        }
+        found += look_once(pass);
     }
     found
 }
@@ -160,8 +169,15 @@ pub fn run<R: Threads + Wait + Sync>(rt: &R, alloc: Global, task: &Task) -> Resu
     let (mut shower, passes) = opened(rt, alloc, threads as u32)?;
     let (counts, put) = join(
         rt,
-        || look_all(rt, passes, looks),
-        || put_all(rt, alloc, &mut shower, puts),
+        || -> Result<Vec<u64>, NoMemory>
+            requires { IsSync R.row }
+            ensures { IfOk result (λ counts. (vec_len counts ≡ vec_len passes)
+                × All (λ n. n ≤ looks) counts.items) }
+        { look_all(rt, passes, looks) },
+        || -> u64
+            requires { IsSync R.row }
+            ensures { result ≤ puts }
+        { put_all(rt, alloc, &mut shower, puts) },
     );
     let Shower { publisher, view: _ } = shower;
     publisher.close(rt)?.end(rt);

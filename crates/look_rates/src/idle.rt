@@ -1,6 +1,7 @@
 //! Threads that do nothing.
 
 ghost use Rattle.std.specs.Prelude.{◌≡◌, vec_len, IfOk};
+ghost use denote.Param.Send.{IsSync};
 
 use crate::tally::Tally;
 use crate::words::Task;
@@ -16,6 +17,7 @@ pub fn run<R: Threads + Sync>(rt: &R, alloc: Global, task: &Task) -> Result<Tall
     let (looks, puts) = join(
         rt,
         || -> Result<Vec<u64>, NoMemory>
+            requires { IsSync R.row }
             ensures { IfOk result (λ counts. vec_len counts ≡ threads) }
         { map_indices(rt, alloc, threads, &|_| 0) },
         || -> u64

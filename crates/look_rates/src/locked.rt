@@ -31,8 +31,10 @@ impl Putter {
         if stamp >= LAST_MOMENT {
             return Err(NoMemory);
         }
-        let next = view_after(alloc, &self.view, message_at(alloc, stamp + 1)?)?;
-        *held.lock(rt) = Arc::try_clone(&next)?;
+        let message = message_at(alloc, stamp + 1)?;
+        let next = view_after(alloc, &self.view, message)?;
+        let shared = Arc::try_clone(&next)?;
+        *held.lock(rt) = shared;
         self.view = next;
         Ok(())
     }
@@ -86,8 +88,15 @@ pub fn run<R: Threads + Wait + Sync>(rt: &R, alloc: Global, task: &Task) -> Resu
     } = *task;
     let (counts, put) = join(
         rt,
-        || look_all(rt, alloc, &held, threads, looks),
-        || put_all(rt, alloc, &held, &mut putter, puts),
+        || -> Result<Vec<u64>, NoMemory>
+            requires { IsSync R.row }
+            ensures { IfOk result (λ counts. (vec_len counts ≡ threads)
+                × All (λ n. n ≤ looks) counts.items) }
+        { look_all(rt, alloc, &held, threads, looks) },
+        || -> u64
+            requires { IsSync R.row }
+            ensures { result ≤ puts }
+        { put_all(rt, alloc, &held, &mut putter, puts) },
     );
     Ok(Tally {
         looks: counts?,

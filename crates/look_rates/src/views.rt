@@ -46,8 +46,9 @@ pub fn first_view(alloc: Global) -> Result<Arc<HubView>, NoMemory>
     ensures one { IfOk result (λ view. length (arc_value view).plans.feeds ≡ 1) }
 {
     let plans = one_feed(alloc)?;
-    let view = HubView::first(alloc, plans)?;
-    Ok(Arc::new(alloc, view)?)
+    let first = HubView::first(alloc, plans)?;
+    let view = Arc::new(alloc, first)?;
+    Ok(view)
 }
 
 /// A whole data set without entities, made at that stamp.
