@@ -1,6 +1,7 @@
 //! What the threads of a run counted.
 
 ghost use Rattle.std.specs.Prelude.{◌≡◌, ◌++◌, codes, IfOk, IfSome};
+ghost use Rattle.std.specs.String.{string_bytes};
 ghost use Rattle.std.specs.Fmt.{decimal};
 ghost use Rattle.std.specs.List.{sum};
 ghost use Rattle.look_rates.specs.Lines.{tally_line};
@@ -20,7 +21,7 @@ impl Tally {
     /// The line that tells the looks of all threads and the puts. Of a sum past the numbers of 64 bits there is
     /// none, which is told as want of memory.
     pub fn line(&self, alloc: Global) -> Result<String, NoMemory>
-        ensures { IfOk result (λ line. line ≡ tally_line self.now.looks.items self.now.puts) }
+        ensures { IfOk result (λ line. string_bytes line ≡ tally_line self.now.looks.items self.now.puts) }
     {
         let looks = sum_of(&self.looks).ok_or(NoMemory)?;
         line_with(alloc, looks, self.puts)
@@ -39,7 +40,7 @@ fn sum_of(counts: &[u64]) -> Option<u64>
 }
 
 fn line_with(alloc: Global, looks: u64, puts: u64) -> Result<String, NoMemory>
-    ensures { IfOk result (λ line. line ≡ codes "looks " ++ decimal looks ++ codes " puts "
+    ensures { IfOk result (λ line. string_bytes line ≡ codes "looks " ++ decimal looks ++ codes " puts "
         ++ decimal puts ++ codes "\n") }
 {
     format!(in alloc; "looks {looks} puts {puts}\n")
