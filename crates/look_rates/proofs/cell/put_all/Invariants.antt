@@ -3,4 +3,4 @@ use Rattle.std.proofs.Common.{◌≤◌}
 use Rattle.look_rates.proofs.cell.put_all.Given as goal
 
 abbrev pub invariant-loop : goal.invariant-loop
-invariant-loop l = l.put ≤ l.counter
+invariant-loop _ l = l.put ≤ l.counter

@@ -3,4 +3,4 @@ use Rattle.std.proofs.Common.{◌≤◌}
 use Rattle.look_rates.proofs.locked.look_often.Given as goal
 
 abbrev pub invariant-loop : goal.invariant-loop
-invariant-loop l = l.found ≤ l.counter
+invariant-loop _ l = l.found ≤ l.counter
