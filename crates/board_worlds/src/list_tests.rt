@@ -3,9 +3,9 @@
 use crate::descriptor::named_by;
 use crate::dice::Dice;
 use crate::hub::hub;
-use crate::lists::{Fate, Stranger, fate_of, listed, strangers};
+use crate::lists::{AlertKey, Fate, Stranger, fate_of, listed, strangers};
 use crate::meaning::meant;
-use crate::notice::{MadeAlert, MadeWords};
+use crate::notice::MadeWords;
 use crate::scan::{Question, Seen, scan, stamp_of};
 use crate::tests::question;
 use crate::world::{STOPS, World, made_world};
@@ -47,8 +47,11 @@ fn number(place: Option<u32>) -> Option<u32> {
     }
 }
 
-/// Whether a row tells of an alert.
-fn tells_of(row: &AlertRow, made: &MadeAlert) -> bool {
+/// Whether a row tells of the alert of that key.
+fn tells_of(world: &World, row: &AlertRow, key: AlertKey) -> bool {
+    let Some(made) = world.alert(key.feed, key.id) else {
+        return false;
+    };
     row.feed == made.feed
         && row.id.as_str() == made.id
         && row.cause == number(made.cause)
@@ -91,7 +94,7 @@ fn alerts_agree(
             && rows
                 .iter()
                 .zip(listed.as_slice())
-                .all(|(row, one)| tells_of(row, *one)),
+                .all(|(row, key)| tells_of(world, row, *key)),
     )
 }
 

@@ -162,18 +162,25 @@ pub(crate) fn fate_of(world: &World, alert: &MadeAlert, question: Question, rows
     }
 }
 
+/// By what an alert of a world is found: its feed and its id.
+#[derive(Clone, Copy)]
+pub(crate) struct AlertKey {
+    pub(crate) feed: u32,
+    pub(crate) id: &'static str,
+}
+
 /// Appends the alerts of a feed that are listed.
-fn push_listed<'a>(
-    world: &'a World,
+fn push_listed(
+    world: &World,
     feed: u32,
     question: Question,
     rows: &[Seen],
-    listed: &mut Vec<&'a MadeAlert>,
+    listed: &mut Vec<AlertKey>,
 ) -> Result<(), AllocError> {
     for id in ALERT_IDS {
         if let Some(alert) = world.alert(feed, id) {
             if fate_of(world, alert, question, rows) == Fate::Listed {
-                listed.push(alert)?;
+                listed.push(AlertKey { feed, id })?;
             }
         }
     }
@@ -181,12 +188,12 @@ fn push_listed<'a>(
 }
 
 /// The alerts that are listed beside a board of those rows, by feed and then by id.
-pub(crate) fn listed<'a>(
+pub(crate) fn listed(
     alloc: Global,
-    world: &'a World,
+    world: &World,
     question: Question,
     rows: &[Seen],
-) -> Result<Vec<&'a MadeAlert>, AllocError> {
+) -> Result<Vec<AlertKey>, AllocError> {
     let mut listed = Vec::new(alloc);
     for feed in 0..2u32 {
         push_listed(world, feed, question, rows, &mut listed)?;
