@@ -22,8 +22,9 @@ use std::test::Fail;
 use std::thread::Threads;
 use texts::read_number;
 
-/// The moment of all clocks: 08:08:20 on 30 March 2025 in the city.
-const MOMENT: u64 = 1_743_314_900;
+/// The moment of all clocks: 08:10 on 30 March 2025 in the city. The run of the next day stays on the boards of
+/// a day from there on, however late these messages make it.
+const MOMENT: u64 = 1_743_315_000;
 
 /// How many messages each feed offers. Every fifth is refused: in turns it is cut short, or no newer than
 /// the one before.
