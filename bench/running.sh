@@ -2,7 +2,7 @@
 # Measures a running hub: how many messages a second it takes (ingest), how fast it answers beside nginx (load), and
 # its memory over an hour's worth of messages (memory), and what it takes by size (sizes). The words say which, all
 # four where there are none.
-# Needs the program built (./hub) and python3; load needs wrk and nginx, ingest needs wrk and counts where valgrind is.
+# Needs python3 and the program built (./hub), or HUB, the path of another; load needs wrk and nginx, ingest needs wrk and counts where valgrind is.
 set -eu
 bench=$(cd "$(dirname "$0")" && pwd)
 program=${HUB:-$bench/../crates/hub/out/hub}

@@ -2,17 +2,18 @@
 # Times how fast requests are answered: scripts with 20 connections of 1,000 requests each, for a board of one row, for
 # one as JSON, and for what isn't there. Prints responses and MB a second of `hub replay`, less the time of a script that
 # ends at once, and beside it how long `cat` takes to copy what was written.
-# Needs the program built (./hub) and python3.
+# Needs python3 and the program built (./hub), or HUB, the path of another.
 set -eu
 top=$(cd "$(dirname "$0")/.." && pwd)
 work=$(mktemp -d)
 trap 'rm -rf "$work"' EXIT
 cd "$top"
-"$top/hub" > /dev/null 2>&1 < /dev/null || true   # builds it where it is missing
+hub=${HUB:-$top/hub}
+"$hub" > /dev/null 2>&1 < /dev/null || true   # builds it where it is missing
 
 # one measurement: what it is, and the target of its requests
 measure() {
-  python3 - "$top/hub" "$work" "$1" "$2" <<'PY'
+  python3 - "$hub" "$work" "$1" "$2" <<'PY'
 import subprocess, sys, time
 program, work, what, target = sys.argv[1:]
 connections, requests = 20, 1000
