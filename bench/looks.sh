@@ -3,10 +3,11 @@
 # view (mutex), in 1 thread and in 4, alone and while views are put. Prints looks a second of all threads together, best
 # of five runs less the best of a run whose threads do nothing, and how many times faster the passes are.
 #   bench/looks.sh [LOOKS [PUTS]]      the looks of each thread (2,000,000), and the views that are put meanwhile (2,000)
-# Needs nothing but bash and awk; builds the program where it is missing, which proves every crate below it.
+# Needs nothing but bash and awk; LOOK_RATES names the program. Without that it is built where it is missing, which
+# proves every crate below it.
 set -euo pipefail
 top=$(cd "$(dirname "$0")/.." && pwd)
-program=$top/crates/look_rates/out/look_rates
+program=${LOOK_RATES:-$top/crates/look_rates/out/look_rates}
 looks=${1:-2000000}
 puts=${2:-2000}
 
