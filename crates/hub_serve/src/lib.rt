@@ -29,6 +29,8 @@ mod gate_tests;
 mod naming;
 mod opening;
 mod readers;
+#[cfg(test)]
+mod receipt_tests;
 mod running;
 #[cfg(test)]
 mod side_tests;

@@ -32,7 +32,7 @@ pub(crate) const UPDATE: [u8; 47] = [
 pub(crate) const ASK: &str = "GET /board/city/S3?limit=1 HTTP/1.1\r\nHost: h\r\n\r\n";
 
 /// The responses to it after no message, after that of stamp 5, and after the update too.
-const SERVED: [&str; 3] = [
+pub(crate) const SERVED: [&str; 3] = [
     "HTTP/1.1 200 OK\r\nContent-Type: text/plain; charset=utf-8\r\nContent-Length: 137\r\nX-Hub-Sequence: 0\r\nX-Hub-Moment: 1743314000\r\nConnection: keep-alive\r\n\r\nstop\tS3\tHarbour\nexpected\tscheduled\tdelay\tstate\troute\theadsign\ttrip\tdate\tplatform\n1743315000\t1743315000\t-\tscheduled\t7\tHill\tT1\t20250330\tS3\n",
     "HTTP/1.1 200 OK\r\nContent-Type: text/plain; charset=utf-8\r\nContent-Length: 137\r\nX-Hub-Sequence: 1\r\nX-Hub-Moment: 1743314000\r\nConnection: keep-alive\r\n\r\nstop\tS3\tHarbour\nexpected\tscheduled\tdelay\tstate\troute\theadsign\ttrip\tdate\tplatform\n1743315000\t1743315000\t-\tscheduled\t7\tHill\tT1\t20250330\tS3\n",
     "HTTP/1.1 200 OK\r\nContent-Type: text/plain; charset=utf-8\r\nContent-Length: 134\r\nX-Hub-Sequence: 2\r\nX-Hub-Moment: 1743314000\r\nConnection: keep-alive\r\n\r\nstop\tS3\tHarbour\nexpected\tscheduled\tdelay\tstate\troute\theadsign\ttrip\tdate\tplatform\n1743315300\t1743315000\t300\tlive\t7\tHill\tT1\t20250330\tS3\n",

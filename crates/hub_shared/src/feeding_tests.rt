@@ -8,13 +8,14 @@ ghost use Rattle.feed_defs.specs.History.{longest_message};
 ghost use Rattle.hub_outside.specs.Buffer.{room_of};
 ghost use Rattle.feed_port.specs.Ports.{Answers, GoesOnToTell, HasPortCause};
 
+use crate::tests::feed;
 use crate::{
     FeedSeat, Hub, IngestReport, NoMemory, Opened, PortEnd, close_hub, ingest_all, open_hub,
 };
 use board_core::Oracle;
 use feed_port::{FeedPort, MemoryPort, PortAnswer};
 use hub_outside::Buf;
-use sched_types::{NamedFeed, NamedPlan, Plan, PlanName, Plans};
+use sched_types::{NamedPlan, Plan, PlanName, Plans};
 use snapshot_cell::Pass;
 use std::alloc::Global;
 use std::sync::{Arc, Wait};
@@ -31,16 +32,6 @@ const UPDATE: [u8; 47] = [
     0x1e, 0x0a, 0x01, 0x75, 0x1a, 0x19, 0x0a, 0x0e, 0x0a, 0x02, 0x54, 0x31, 0x1a, 0x08, 0x32, 0x30,
     0x32, 0x35, 0x30, 0x33, 0x33, 0x30, 0x12, 0x07, 0x08, 0x01, 0x1a, 0x03, 0x08, 0xac, 0x02,
 ];
-
-/// A feed of the first timetable.
-fn feed(alloc: Global, name: &str) -> Result<NamedFeed, NoMemory>
-    ensures { IfOk result (λ feed. feed ≡ record { name = name.now; plan = 0 }) }
-{
-    Ok(NamedFeed {
-        name: PlanName::new(alloc, name)?,
-        plan: 0,
-    })
-}
 
 /// The feed `a` of a timetable without rows.
 fn one_feed(alloc: Global) -> Result<Arc<Plans>, NoMemory>

@@ -29,6 +29,8 @@ mod opening;
 mod publishing;
 mod report;
 mod seat;
+#[cfg(test)]
+mod sharing_tests;
 mod tag;
 #[cfg(test)]
 mod tests;

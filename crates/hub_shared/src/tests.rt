@@ -19,7 +19,8 @@ use std::thread::{Threads, for_each_mut, join};
 /// How many messages each feed offers; every fifth is as old as the one before.
 const OFFERED: u32 = 500;
 
-fn feed(alloc: Global, name: &str) -> Result<NamedFeed, NoMemory>
+/// A feed of the first timetable.
+pub(crate) fn feed(alloc: Global, name: &str) -> Result<NamedFeed, NoMemory>
     ensures { IfOk result (λ feed. feed ≡ record { name = name.now; plan = 0 }) }
 {
     Ok(NamedFeed {
@@ -49,7 +50,7 @@ fn four_feeds(alloc: Global) -> Result<Arc<Plans>, NoMemory>
 }
 
 /// A message of version 2.0 without entities, with a stamp below 16384.
-fn message(stamp: u32) -> [u8; 12] {
+pub(crate) fn message(stamp: u32) -> [u8; 12] {
     let low = (stamp % 128) as u8 + 128;
     let high = (stamp / 128 % 128) as u8;
     [
