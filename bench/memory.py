@@ -2,14 +2,12 @@
 
 usage: memory.py PROGRAM
 
-An hour's worth of whole data sets, one each ten seconds, is sent as fast as the hub takes them. The hub runs once as it
-is started by hand, and once with the environment of samples/operating/hub@.service.
+An hour's worth of whole data sets, one each ten seconds, is sent as fast as the hub takes them.
 """
-import re
 import sys
 import time
 
-from running_hub import BENCH, FIRST, Hub, Sender, entities_of, frames, header, late, made_trips
+from running_hub import FIRST, Hub, Sender, entities_of, frames, header, late, made_trips
 
 TRIPS, ENTITIES, MESSAGES = 6000, 3000, 360
 
@@ -19,12 +17,6 @@ def data_sets(feed):
     trips = made_trips(TRIPS)[feed * ENTITIES:][:ENTITIES]
     turns = [entities_of([late(trip, (m * 37 + k * 11) % 600) for k, trip in enumerate(trips)]) for m in range(10)]
     return (frames([header(FIRST + m, whole=True) + turns[m % 10]]) for m in range(MESSAGES))
-
-
-def of_service():
-    """The environment of the service."""
-    with open(f"{BENCH}/../samples/operating/hub@.service", encoding="utf-8") as file:
-        return dict(re.findall(r"^Environment=(\w+)=(.*)$", file.read(), re.M))
 
 
 def memory_until(hub, count):
@@ -37,29 +29,21 @@ def memory_until(hub, count):
     return sum(seen) / len(seen)
 
 
-def measure(program, environment):
+def main():
     senders = [Sender(data_sets(feed)) for feed in range(2)]
-    hub = Hub(program, TRIPS, 2, senders, environment=environment)
-    print(f"with {environment or 'nothing set'}: {hub.memory()[0]:.0f} MiB with its timetable alone")
+    hub = Hub(sys.argv[1], TRIPS, 2, senders)
+    size = len(next(data_sets(0)))
+    print(f"two feeds of {ENTITIES:,} entities, of each {MESSAGES} whole data sets of {size:,} bytes")
+    print(f"  with its timetable of {20 * TRIPS:,} stop times alone: {hub.memory()[0]:.0f} MiB")
     for sender in senders:
         sender.begin.set()
     means = [memory_until(hub, 2 * MESSAGES * tenths // 10) for tenths in range(1, 11)]
     print("  in each tenth of the messages, in the mean: " + ", ".join(f"{mean:.0f}" for mean in means) + " MiB")
-    behind = means[1:]
-    growth = sum(behind[-3:]) / sum(behind[:3])
-    print(f"  at most {hub.memory()[1]:.0f} MiB; the last three tenths to the three behind the first: {growth:.2f}")
+    print(f"  at most {hub.memory()[1]:.0f} MiB; growth from the second tenth to the last: {means[9] / means[1]:.2f}")
     print(f"  {hub.seconds():.1f} s of CPU")
     for sender in senders:
         sender.close()
     hub.close()
-
-
-def main():
-    size = len(next(data_sets(0)))
-    print(f"two feeds of {ENTITIES:,} entities, of each {MESSAGES} whole data sets of {size:,} bytes,")
-    print(f"on a timetable of {20 * TRIPS:,} stop times")
-    for environment in ({}, of_service()):
-        measure(sys.argv[1], environment)
 
 
 main()

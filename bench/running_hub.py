@@ -87,10 +87,9 @@ class Sender:
 
 class Hub:
     """A hub with that many readers, and a stream feed for each sender, of the timetable in a folder, or of one of
-    make_timetable.py with that many trips. `before` are words in front of its own, as valgrind's, and `environment` is
-    what is set beside the caller's."""
+    make_timetable.py with that many trips. `before` are words in front of its own, as valgrind's."""
 
-    def __init__(self, program, timetable, readers, senders, before=(), environment=None):
+    def __init__(self, program, timetable, readers, senders, before=()):
         self.work = tempfile.TemporaryDirectory()
         folder = timetable
         if isinstance(timetable, int):
@@ -104,7 +103,7 @@ class Hub:
             for place, sender in enumerate(senders):
                 out.write(f'[[feed]]\nname = "f{place}"\nschedule = "city"\nkind = "stream"\nplace = "{sender.address}"\n')
         self.process = subprocess.Popen([*before, program, "serve", config], stdout=subprocess.DEVNULL,
-                                        stderr=subprocess.PIPE, text=True, env={**os.environ, **(environment or {})})
+                                        stderr=subprocess.PIPE, text=True)
         for line in self.process.stderr:
             found = re.match("hub: listening on (.*)", line)
             if found:
