@@ -32,8 +32,16 @@ pub trait Oracle {
         ensures plans { plans self.new ≡ plans self.old }
         ensures steady { steady self.new ≡ steady self.old };
 
-    /// The view that the last look found.
+    /// The view that the last look found; where that was released, one of the same timetables and feeds.
     fn view(&self) -> &HubView
         ensures view { result.now ≡ shown self.now }
         ensures plans { result.now.plans ≡ plans self.now };
+
+    /// Lets go of the view that the last look found, so that nobody who waits keeps in memory what is out of
+    /// date. What is known of the history stays.
+    fn release(&mut self)
+        ensures history { history self.new ≡ history self.old }
+        ensures plans { plans self.new ≡ plans self.old }
+        ensures reads { reads self.new ≡ reads self.old }
+        ensures steady { steady self.new ≡ steady self.old };
 }

@@ -15,7 +15,8 @@
 //!   sink rose; before a read fault every request that came whole was answered, and a response that
 //!   was cut is a front of the one that is due;
 //! - at [`End::NoMemory`] whole responses were written;
-//! - over an oracle whose history stands still it is the same at the end.
+//! - over an oracle whose history stands still it is the same at the end;
+//! - behind each response the oracle is told to let go of the view that it found.
 //!
 //! [`serve_bytes`] serves a connection in memory at one moment. Over a history that stands still what
 //! it writes is a matter of definition (`IsTranscript` of `specs/Transcript`), and it fails for want

@@ -20,9 +20,31 @@ pub(crate) enum Unwritten {
     Starved,
 }
 
+/// Answers the item at a place of its connection, and lets go of the view that was looked up for it.
+pub(crate) fn reply<K: Sink, O: Oracle, C: Clock>(
+    place: u16,
+    item: &Item,
+    responder: &mut Responder,
+    notes: &mut Notes,
+    sink: &mut K,
+    oracle: &mut O,
+    clock: &mut C,
+) -> Result<(), Unwritten>
+    ensures { Replies place
+        (setting (K.written sink.old) (K.faults sink.old) (C.ahead clock.old)
+        (O.plans oracle.old) (O.history oracle.old) (O.reads oracle.old) (O.steady oracle.old))
+        (setting (K.written sink.new) (K.faults sink.new) (C.ahead clock.new)
+        (O.plans oracle.new) (O.history oracle.new) (O.reads oracle.new) (O.steady oracle.new))
+        item.now (noted_in notes.old) (noted_in notes.new) result }
+{
+    let replied = reply_once(place, item, responder, notes, sink, oracle, clock);
+    oracle.release();
+    replied
+}
+
 /// Answers the item at a place of its connection: a look, a reading of the clock, and then the
 /// response, which is made whole before it is written. It is noted once it is written.
-pub(crate) fn reply<K: Sink, O: Oracle, C: Clock>(
+fn reply_once<K: Sink, O: Oracle, C: Clock>(
     place: u16,
     item: &Item,
     responder: &mut Responder,

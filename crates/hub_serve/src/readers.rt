@@ -75,6 +75,10 @@ impl<H: OfHub> Oracle for HubPass<H> {
     fn view(&self) -> &HubView {
         self.pass.view()
     }
+
+    fn release(&mut self) {
+        self.pass.release();
+    }
 }
 
 /// Where a reader stands: its clock, and what it made of its door.

@@ -110,6 +110,9 @@ impl Oracle for ReplayHub {
     fn view(&self) -> &HubView {
         self.core.view()
     }
+
+    /// Does nothing: the hub itself keeps its view.
+    fn release(&mut self) {}
 }
 
 /// The stamp of the last message of the feed of that number, in seconds since 1970; 0 if it sent none.

@@ -7,6 +7,7 @@
 //!   message at the end; where it finds no memory nothing happened;
 //! - after a look that answers, a pass knows the history that was published, which begins with all
 //!   that it knew, and its view stands for it; so a look after [`Pass::learn`] shows what was learned;
+//! - a pass that is told to let go of its view (`Oracle::release`) goes on to know the same history;
 //! - [`Publisher::show`] tells a pass all that was published, [`Publisher::tell`] a receipt of it;
 //! - [`Publisher::close`] marks the end, behind which nothing is published, and [`Pass::finish`] makes
 //!   a pass know the ended history.

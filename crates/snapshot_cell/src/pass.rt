@@ -23,9 +23,12 @@ pub struct Pass {
     pub(crate) reader: Option<SnapReader>,
     pub(crate) line: Line,
     pub(crate) view: Arc<HubView, Global>,
+    // That of the hub before its first message, which holds no entity.
+    pub(crate) first: Arc<HubView, Global>,
 }
 
 impl Model for Pass {
+    ghost use Rattle.std.specs.Prelude.{◌≡◌};
     ghost use Rattle.std.specs.Arc.{arc_value};
     ghost use Rattle.left_right.specs.Sides as sides;
     ghost use Rattle.snapshot_cell.specs.Seen.{PassSeen, Knows, at_some, AtSome};
@@ -39,7 +42,8 @@ impl Model for Pass {
     } };
 
     ghost invariant = { λ pass. AtSome pass.reader
-        (λ reader. Knows (sides.view reader.place) (arc_value pass.view) pass.line) };
+        (λ reader. Knows (sides.view reader.place) (arc_value pass.view) pass.line)
+        × ((arc_value pass.first).plans ≡ (arc_value pass.view).plans) };
 }
 
 impl Pass {
@@ -119,5 +123,18 @@ impl Oracle for Pass {
 
     fn view(&self) -> &HubView {
         &self.view
+    }
+
+    /// From now on the view is that of the hub before its first message.
+    fn release(&mut self)
+        ensures history { history_of self.new.line ≡ history_of self.old.line }
+        ensures plans { self.new.shown.plans ≡ self.old.shown.plans }
+        ensures reads { self.new.reads ≡ self.old.reads }
+        ensures steady { false ≡ false }
+        ensures line { self.new.line ≡ self.old.line }
+    {
+        if let Ok(first) = Arc::try_clone(&self.first) {
+            self.view = first;
+        }
     }
 }

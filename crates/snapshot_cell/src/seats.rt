@@ -135,6 +135,7 @@ fn pass_at(
     ensures place { client_view writer.new.desk.place ≡ client_view writer.old.desk.place }
     ensures pass { IfOk result (λ pass. pass ≡ fresh_pass line.now (arc_value view.now)) }
 {
+    let first = Arc::try_clone(view)?;
     let view = Arc::try_clone(view)?;
     let mut reader = writer.factory().reader()?;
     let note = writer.tell::<Tells>();
@@ -143,5 +144,6 @@ fn pass_at(
         reader: Some(reader),
         line: line.again(),
         view,
+        first,
     })
 }

@@ -201,14 +201,14 @@ pub(crate) fn opened<R: Wait>(
 }
 
 /// What two passes see while two messages are published: the first looks before and after it learns of
-/// the first message, the second is shown both and then looks.
+/// the first message, the second is shown both, looks, and lets go of what it found.
 fn seen_by_two<R: Wait>(
     rt: &R,
     alloc: Global,
     shower: &mut Shower,
     first: &mut Pass,
     second: &mut Pass,
-) -> Result<[u64; 8], NoMemory>
+) -> Result<[u64; 9], NoMemory>
     requires first { AreOne first.old.line shower.old }
     requires second { AreOne second.old.line shower.old }
     ensures hub { AreOne shower.new shower.old }
@@ -224,6 +224,8 @@ fn seen_by_two<R: Wait>(
     shower.publisher.show(second);
     let unseen = second.view().entries();
     let found = second.look()?;
+    second.release();
+    let released = second.view().entries();
     Ok([
         before,
         receipt.number(),
@@ -233,6 +235,7 @@ fn seen_by_two<R: Wait>(
         next.number(),
         unseen,
         found,
+        released,
     ])
 }
 
@@ -252,7 +255,7 @@ fn ended<R: Wait>(rt: &R, shower: Shower, pass: &mut Pass) -> Option<[u64; 2]>
 }
 
 /// The whole run of a hub with two passes on one thread, or none where no memory was found.
-fn run_of_two<R: Wait>(rt: &R, alloc: Global) -> Option<([u64; 8], [u64; 2])> {
+fn run_of_two<R: Wait>(rt: &R, alloc: Global) -> Option<([u64; 9], [u64; 2])> {
     let Ok((mut shower, mut passes)) = opened(rt, alloc, 2) else {
         return None;
     };
@@ -270,6 +273,6 @@ fn run_of_two<R: Wait>(rt: &R, alloc: Global) -> Option<([u64; 8], [u64; 2])> {
 #[test]
 fn passes_see_what_was_published(rt: HostRuntime) -> Result<(), Fail> {
     let run = run_of_two(&rt, rt.alloc());
-    assert_eq!(rt; run, Some(([0, 1, 0, 1, 1, 2, 0, 2], [2, 2])));
+    assert_eq!(rt; run, Some(([0, 1, 0, 1, 1, 2, 0, 2, 0], [2, 2])));
     Ok(())
 }
