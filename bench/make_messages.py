@@ -72,10 +72,11 @@ def offer(out, payload):
     out.write(b"M a %d\n%s\n" % (len(payload), payload))
 
 
-def messages(out, count, entities, incrementality, ids=50000):
+def messages(out, count, entities, incrementality, ids=50000, stride=997):
     for m in range(1, count + 1):
         stamp = 1743285600 + m
-        offer(out, header(stamp, incrementality) + b"".join(entity((m * 7919 + k * 997) % ids, stamp) for k in range(entities)))
+        chosen = ((m * 7919 + k * stride) % ids for k in range(entities))
+        offer(out, header(stamp, incrementality) + b"".join(entity(k, stamp) for k in chosen))
 
 
 def main():
@@ -89,7 +90,8 @@ def main():
         count, entities, ids = map(int, words[1:])
         stamp = 1743285600
         offer(out, header(stamp, 0) + b"".join(entity(k, stamp) for k in range(ids)))
-        messages(out, count, entities, 1, ids)
+        # By the golden section the ids of a message are spread over the table, however many there are.
+        messages(out, count, entities, 1, ids, ids * 618 // 1000 | 1)
     else:
         if words[0] == "stale":
             offer(out, header(253402300799, 1))

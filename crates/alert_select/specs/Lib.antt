@@ -1,3 +1,3 @@
 pub mod Subjects
 pub mod Aims
-pub mod Ids
+pub mod FeedAlerts

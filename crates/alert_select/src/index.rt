@@ -1,68 +1,80 @@
 //! The alerts of a feed.
 
-ghost use Rattle.std.specs.Prelude.{◌≡◌, [], IfOk};
-ghost use Rattle.alert_select.specs.Ids.{alert_ids};
+ghost use Rattle.std.specs.Prelude.{◌≡◌, [], map, IfOk};
+ghost use Rattle.feed_defs.specs.History.{entities_after};
+ghost use Rattle.alert_select.specs.FeedAlerts.{alerts_of, alerts_with};
 
 use crate::NoMemory;
-use entity_table::Table;
-use rt_types::{Copied, Shared, Text};
+use entity_table::{Table, TableIter};
+use rt_types::{Entity, FeedMessage};
 use std::alloc::Global;
 use std::marker::Model;
 
-/// The ids of a feed's alerts, which its copies share. A contract sees the list of ids.
+/// What a feed holds that has an alert, kept beside the table of all that it holds. A contract sees the list of
+/// pairs of id and stored entity, in byte order of the ids.
 #[derive(Drop)]
 pub struct AlertIndex {
-    // None of a feed that holds nothing.
-    ids: Option<Shared<Vec<Text>>>,
+    alerts: Table,
 }
 
 impl Model for AlertIndex {
-    ghost use Rattle.std.specs.Prelude.{List, ℕ};
-    ghost use Rattle.alert_select.specs.Ids.{kept_ids};
+    ghost use Rattle.std.specs.Prelude.{List};
+    ghost use Rattle.feed_defs.specs.History.{Change};
 
-    ghost Value = { List (List ℕ) };
+    ghost Value = { List Change };
 
-    ghost view = { λ index. kept_ids index.ids };
+    ghost view = { λ index. index.alerts };
 }
 
 impl AlertIndex {
     /// The index of a feed that holds nothing. It takes no memory.
-    pub fn empty() -> AlertIndex
+    pub fn empty(alloc: Global) -> AlertIndex
         ensures { result ≡ [] }
     {
-        AlertIndex { ids: None }
+        AlertIndex {
+            alerts: Table::empty(alloc),
+        }
     }
 
-    /// The ids of the entities that have an alert, in byte order; or want of memory.
-    pub fn build(alloc: Global, table: &Table) -> Result<AlertIndex, NoMemory>
-        ensures { IfOk result (λ index. index ≡ alert_ids table.now) }
+    /// The index of what the feed holds after the message, where this is the index of the table before it; or want
+    /// of memory. It looks at the message's entities alone, and shares with this index what they leave.
+    pub fn after(
+        &self,
+        alloc: Global,
+        table: &Table,
+        message: &FeedMessage,
+    ) -> Result<AlertIndex, NoMemory>
+        requires { self.now ≡ alerts_of table.now }
+        ensures { IfOk result (λ next. next ≡ alerts_of (entities_after message.now table.now)) }
     {
-        let mut ids = Vec::new(alloc);
-        for stored in table.iter() {
-            if stored.entity.alert.is_some() {
-                ids.push(stored.entity.id.copy()?)?;
-            }
+        table.sound();
+        let mut alerts = self.alerts.start(alloc, message)?;
+        let stamp = message.header.timestamp.unwrap_or(0);
+        for entity in message.entity.as_slice() {
+            alerts = change(alloc, alerts, entity, stamp)?;
         }
-        Ok(AlertIndex {
-            ids: Some(Shared::new(alloc, ids)?),
-        })
+        Ok(AlertIndex { alerts })
     }
 
-    /// The ids, in byte order.
-    pub fn ids(&self) -> &[Text]
-        ensures { result.now ≡ self.now }
+    /// Those that have an alert, in byte order of their ids, which are their entities' own.
+    pub fn iter(&self) -> TableIter<'_>
+        ensures items { result ≡ map (λ change. change.1) self.entry.now }
+        ensures keyed { map (λ stored. (stored.entity.id, stored)) (map
+            (λ change. change.1) self.entry.now)
+            ≡ self.entry.now }
     {
-        match &self.ids {
-            Some(ids) => ids.get().as_slice(),
-            None => &[],
-        }
+        self.alerts.iter()
     }
 }
 
-impl Copied for AlertIndex {
-    fn copy(&self) -> Result<Self, NoMemory> {
-        Ok(AlertIndex {
-            ids: self.ids.copy()?,
-        })
+/// The alerts, changed by one entity of a message of that stamp. What has no alert takes one away that its id had.
+fn change(alloc: Global, alerts: Table, entity: &Entity, stamp: u64) -> Result<Table, NoMemory>
+    ensures { IfOk result (λ next. next
+        ≡ alerts_with alerts (entity.now.id, record { entity = entity.now; stamp = stamp })) }
+{
+    if entity.alert.is_some() {
+        alerts.with(alloc, entity, stamp)
+    } else {
+        alerts.without(entity.id.as_str())
     }
 }

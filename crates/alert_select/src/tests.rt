@@ -1,10 +1,10 @@
-//! Periods, and the alerts of a small table.
+//! Periods, and the alerts of a small table after two messages.
 
 use crate::{AlertIndex, NoMemory, active};
 use entity_table::{Table, apply};
 use rt_types::{
     Alert, Bytes, Entities, Entity, FeedMessage, Header, Incrementality, Period, Periods,
-    Selectors, Shared, Text,
+    Selectors, Shared, StopUpdates, Text, TripRef, TripUpdate,
 };
 use std::alloc::Global;
 use std::test::Fail;
@@ -49,45 +49,129 @@ fn a_period_holds_from_its_start_up_to_its_end(rt: HostRuntime) -> Result<(), Fa
     Ok(())
 }
 
-/// An entity of that id, with an alert or without.
-fn entity(alloc: Global, id: &str, alert: Option<Shared<Alert>>) -> Result<Entity, NoMemory> {
+/// An update of trip T1.
+fn trip_update(alloc: Global) -> Result<TripUpdate, NoMemory> {
+    Ok(TripUpdate {
+        trip: TripRef {
+            trip_id: Some(Text::new(alloc, "T1")?),
+            start_time: None,
+            start_date: None,
+            relation: None,
+            route_id: None,
+            direction_id: None,
+            unknown: Bytes::from_vec(Vec::new(alloc)),
+        },
+        stop_time_update: StopUpdates::new(Vec::new(alloc)),
+        vehicle: None,
+        timestamp: None,
+        delay: None,
+        unknown: Bytes::from_vec(Vec::new(alloc)),
+    })
+}
+
+/// An entity of that id.
+fn entity(
+    alloc: Global,
+    id: &str,
+    deleted: Option<bool>,
+    trip_update: Option<Shared<TripUpdate>>,
+    alert: Option<Shared<Alert>>,
+) -> Result<Entity, NoMemory> {
     Ok(Entity {
         id: Text::new(alloc, id)?,
-        is_deleted: None,
-        trip_update: None,
+        is_deleted: deleted,
+        trip_update,
         vehicle: None,
         alert,
         unknown: Bytes::from_vec(Vec::new(alloc)),
     })
 }
 
-/// The index of a table of the alerts `c` and `a`, and of `b`, which is none.
-fn index(alloc: Global) -> Result<AlertIndex, NoMemory> {
-    let first = Shared::new(alloc, alert(alloc, None, None)?)?;
-    let second = Shared::new(alloc, alert(alloc, None, None)?)?;
-    let entities = vec![in alloc;
-        entity(alloc, "c", Some(first))?,
-        entity(alloc, "b", None)?,
-        entity(alloc, "a", Some(second))?,
-    ]?;
-    let message = FeedMessage {
+/// The entity that a word tells: an alert as `!id`, a trip update as `+id`, and `-id` takes an id away.
+fn told(alloc: Global, word: &str) -> Result<Entity, NoMemory> {
+    if let Some(id) = word.strip_prefix("!") {
+        let alert = Shared::new(alloc, alert(alloc, None, None)?)?;
+        return entity(alloc, id, None, None, Some(alert));
+    }
+    if let Some(id) = word.strip_prefix("+") {
+        let update = Shared::new(alloc, trip_update(alloc)?)?;
+        return entity(alloc, id, None, Some(update), None);
+    }
+    let id = word.strip_prefix("-").unwrap_or(word);
+    entity(alloc, id, Some(true), None, None)
+}
+
+/// The message of these words.
+fn message(alloc: Global, kind: Incrementality, words: &[&str]) -> Result<FeedMessage, NoMemory> {
+    let mut entities = Vec::new(alloc);
+    for word in words {
+        entities.push(told(alloc, word)?)?;
+    }
+    Ok(FeedMessage {
         header: Header {
             version: Text::new(alloc, "2.0")?,
-            incrementality: Some(Incrementality::FullDataset),
+            incrementality: Some(kind),
             timestamp: Some(5),
             unknown: Bytes::from_vec(Vec::new(alloc)),
         },
         entity: Entities::new(entities),
         unknown: Bytes::from_vec(Vec::new(alloc)),
-    };
-    AlertIndex::build(alloc, &apply(alloc, &Table::empty(alloc), &message)?)
+    })
+}
+
+/// The index after two messages.
+fn index(alloc: Global, first: &FeedMessage, second: &FeedMessage) -> Result<AlertIndex, NoMemory> {
+    let nothing = Table::empty(alloc);
+    let index = AlertIndex::empty(alloc).after(alloc, &nothing, first)?;
+    let table = apply(alloc, &nothing, first)?;
+    index.after(alloc, &table, second)
+}
+
+/// Whether an index holds just the alerts of these ids, in their order.
+fn holds(index: &AlertIndex, ids: &[&str]) -> bool {
+    let mut place = 0usize;
+    for stored in index.iter() {
+        match ids.get(place) {
+            Some(id) => {
+                if stored.entity.id.as_str() != *id || stored.entity.alert.is_none() {
+                    return false;
+                }
+            }
+            None => return false,
+        }
+        place = place.wrapping_add(1);
+    }
+    place == ids.len()
+}
+
+/// Whether the alerts `c`, `a` and `e` and a trip update `b`, and then that message, leave the alerts of these ids.
+fn leave(
+    alloc: Global,
+    kind: Incrementality,
+    words: &[&str],
+    ids: &[&str],
+) -> Result<bool, NoMemory> {
+    let first = message(
+        alloc,
+        Incrementality::FullDataset,
+        &["!c", "+b", "!a", "!e"],
+    )?;
+    let second = message(alloc, kind, words)?;
+    Ok(holds(&index(alloc, &first, &second)?, ids))
 }
 
 #[test]
-fn the_index_lists_alerts_by_their_ids(rt: HostRuntime) -> Result<(), Fail> {
-    let index = index(rt.alloc())?;
-    assert_eq!(rt; index.ids().len(), 2);
-    assert_eq!(rt; index.ids().first().map(|id| id.as_str()), Some("a"));
-    assert_eq!(rt; index.ids().last().map(|id| id.as_str()), Some("c"));
+fn the_index_goes_from_message_to_message(rt: HostRuntime) -> Result<(), Fail> {
+    let alloc = rt.alloc();
+    assert!(rt; leave(alloc, Incrementality::Differential, &[], &["a", "c", "e"])?);
+    assert!(rt;
+        leave(
+            alloc,
+            Incrementality::Differential,
+            &["!d", "+a", "-e", "!b"],
+            &["b", "c", "d"]
+        )?
+    );
+    assert!(rt; leave(alloc, Incrementality::FullDataset, &["+c", "!x"], &["x"])?);
     Ok(())
 }

@@ -1,11 +1,7 @@
 -- The alerts that are active at a moment, before it is asked what they touch.
-use Rattle.std.specs.Prelude.{ℕ, if◌then◌else◌, List, [], Option, Some, None}
+use Rattle.std.specs.Prelude.{ℕ, if◌then◌else◌, List, Option, Some, None}
 use Rattle.std.specs.List.{filter_map}
-use Rattle.std.specs.Ordering.{nat_cmp}
-use Rattle.std.specs.Cmp.Lexicographic.{slice_cmp}
-use Rattle.std.specs.FinMap.{find}
 use Rattle.rt_types.specs.declared.alert.Alert.{Alert}
-use Rattle.feed_defs.specs.declared.history.Stored.{Stored}
 use Rattle.feed_defs.specs.History.{Change}
 use Rattle.sched_types.specs.declared.plans.NamedFeed.{NamedFeed}
 use Rattle.sched_types.specs.Timetable.{Timetable}
@@ -31,14 +27,6 @@ active_if at feed change (Some alert) =
 
 abbrev pub active_in : ℕ → ℕ → Change → List Active
 active_in at feed change = listed (active_if at feed change change.1.entity.alert)
-
--- of what is held under an id
-abbrev pub active_held : ℕ → ℕ → Option Stored → List Active
-active_held at feed None = []
-active_held at feed (Some stored) = active_in at feed (stored.entity.id, stored)
-
-abbrev pub active_under : ℕ → ℕ → List Change → List ℕ → List Active
-active_under at feed entities id = active_held at feed (find (slice_cmp nat_cmp) id entities)
 
 -- of all feeds of a schedule, the first of which has that number
 abbrev pub active_from : ℕ → ℕ → ℕ → List NamedFeed → List FeedFold → List Active

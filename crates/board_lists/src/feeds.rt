@@ -3,9 +3,8 @@
 ghost use Rattle.std.specs.Prelude.{◌≡◌, ◌≤◌, ◌++◌, length, map, IfOk, OnOk};
 ghost use Rattle.std.specs.Arc.{arc_value};
 ghost use Rattle.std.specs.List.{flat_map};
-ghost use Rattle.std.specs.Option.{option_copied};
 ghost use Rattle.alert_defs.specs.Alerts.{listed};
-ghost use Rattle.board_lists.specs.Active.{active_if, active_in, active_held, active_from};
+ghost use Rattle.board_lists.specs.Active.{active_if, active_in, active_from};
 ghost use Rattle.board_lists.specs.Strangers.{under_id, over_feed};
 
 use crate::NoMemory;
@@ -110,7 +109,7 @@ fn push_feed<'a>(
     Ok(())
 }
 
-/// Appends those of a feed of that number, which are found by the ids that its view keeps.
+/// Appends those of a feed of that number, which are among the alerts that its view keeps.
 fn push_view<'a>(
     at: u64,
     feed: u32,
@@ -120,29 +119,10 @@ fn push_view<'a>(
     ensures { OnOk result (out.new.items ≡ out.old.items
         ++ flat_map (active_in at feed) view.entry.now.fold.entities) }
 {
-    let table = view.table();
-    table.sound();
-    let _all = table.iter();
-    for id in view.alerts().ids() {
-        push_held(at, feed, table.get(id.as_str()), out)?;
+    for stored in view.alerts().iter() {
+        push_some(active_of(at, feed, stored), out)?;
     }
     Ok(())
-}
-
-/// Appends what is held, where it is an active alert.
-fn push_held<'a>(
-    at: u64,
-    feed: u32,
-    held: Option<&'a Stored>,
-    out: &mut Vec<ActiveAlert<'a>>,
-) -> Result<(), NoMemory>
-    ensures { OnOk result (out.new.items ≡ out.old.items
-        ++ active_held at feed (option_copied held.entry)) }
-{
-    match held {
-        Some(stored) => push_some(active_of(at, feed, stored), out),
-        None => Ok(()),
-    }
 }
 
 /// Appends an alert, if there is one.

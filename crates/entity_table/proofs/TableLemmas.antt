@@ -29,14 +29,19 @@ drop_past zero (x ∷ xs) h = absurd (omega arith)
 drop_past (suc i) [] h = refl
 drop_past (suc i) (x ∷ xs) h = drop_past i xs (omega arith)
 
--- when none is left, the message is applied
+-- when no entity is left, each was a step from the start
+pub all_stepped : (step : List Change → Change → List Change) (now start : List Change) (stamp : ℕ) (m : FeedMessage) (items : List Entity) (i : ℕ) → length items ≤ i → items ≡ m.entity → stamp ≡ stamp_of m → fold step now (map (change_of stamp) (drop i items)) ≡ fold step start (map (change_of stamp) items) → now ≡ fold step start (changes_in m)
+all_stepped step now start stamp m items i past all own so_far =
+    ap (λ xs. fold step now (map (change_of stamp) xs)) (sym (drop_past i items past))
+    ∙ so_far
+    ∙ ap (λ xs. fold step start (map (change_of stamp) xs)) all
+    ∙ ap (λ s. fold step start (map (change_of s) m.entity)) own
+
+-- so the message is applied
 pub change_end : (now start table : List Change) (stamp : ℕ) (m : FeedMessage) (items : List Entity) (i : ℕ) → length items ≤ i → items ≡ m.entity → stamp ≡ stamp_of m → start ≡ (if is_full m then [] else table) → fold changes_with now (map (change_of stamp) (drop i items)) ≡ fold changes_with start (map (change_of stamp) items) → now ≡ entities_after m table
 unfolding entities_after
 change_end now start table stamp m items i past all own begun so_far =
-    ap (λ xs. fold changes_with now (map (change_of stamp) xs)) (sym (drop_past i items past))
-    ∙ so_far
-    ∙ ap (λ xs. fold changes_with start (map (change_of stamp) xs)) all
-    ∙ ap (λ s. fold changes_with start (map (change_of s) m.entity)) own
+    all_stepped changes_with now start stamp m items i past all own so_far
     ∙ ap (λ es. fold changes_with es (changes_in m)) begun
 
 -- the table that stands for the messages before stands for them and the message

@@ -1,7 +1,13 @@
 //! One message more.
 
 ghost use Rattle.std.specs.Prelude.{◌≡◌, ◌∷◌, ◌++◌, [], List, if◌then◌else◌, unwrap_or, false, IfOk};
-ghost use Rattle.feed_defs.specs.History.{entities_after, changes_with, entities_of, is_full};
+ghost use Rattle.feed_defs.specs.History.{
+  entities_after,
+  changes_with,
+  changes_without,
+  entities_of,
+  is_full,
+};
 ghost use Rattle.rt_types.specs.declared.message.FeedMessage.{FeedMessage};
 
 use crate::NoMemory;
@@ -9,7 +15,6 @@ use crate::stored::SharedStored;
 use crate::table::Table;
 use feed_defs::Stored;
 use rt_types::{Copied, Entity, FeedMessage, Incrementality};
-use shared_list::SharedList;
 use std::alloc::Global;
 
 /// The table after the message (GTFS Realtime 2.0, FeedHeader, `incrementality`). A whole data set starts from
@@ -20,46 +25,54 @@ pub fn apply(alloc: Global, table: &Table, message: &FeedMessage) -> Result<Tabl
     ensures stands { (ms : List FeedMessage) → table.now
         ≡ entities_of ms → IfOk result (λ next. next ≡ entities_of (ms ++ message.now ∷ [])) }
 {
-    let mut list = start(alloc, table, message)?;
+    let mut next = table.start(alloc, message)?;
     let stamp = message.header.timestamp.unwrap_or(0);
     for entity in message.entity.as_slice() {
-        list = change(alloc, list, entity, stamp)?;
+        next = next.with(alloc, entity, stamp)?;
     }
-    Ok(Table { list })
+    Ok(next)
 }
 
-/// What the message goes on from.
-fn start(
-    alloc: Global,
-    table: &Table,
-    message: &FeedMessage,
-) -> Result<SharedList<SharedStored>, NoMemory>
-    ensures { IfOk result (λ list. list ≡ (if is_full message.now then [] else table.now)) }
-{
-    match message.header.incrementality {
-        Some(Incrementality::Differential) => table.list.share(),
-        Some(Incrementality::FullDataset) | None => Ok(SharedList::empty(alloc)),
+impl Table {
+    /// What the message goes on from: nothing, where it is a whole data set, and else a share of this table; or
+    /// want of memory.
+    pub fn start(&self, alloc: Global, message: &FeedMessage) -> Result<Table, NoMemory>
+        ensures { IfOk result (λ start. start ≡ (if is_full message.now then [] else self.now)) }
+    {
+        match message.header.incrementality {
+            Some(Incrementality::Differential) => self.share(),
+            Some(Incrementality::FullDataset) | None => Ok(Table::empty(alloc)),
+        }
     }
-}
 
-/// What is held, changed by one entity.
-fn change(
-    alloc: Global,
-    list: SharedList<SharedStored>,
-    entity: &Entity,
-    stamp: u64,
-) -> Result<SharedList<SharedStored>, NoMemory>
-    ensures { IfOk result (λ next. next
-        ≡ changes_with list (entity.now.id, record { entity = entity.now; stamp = stamp })) }
-{
-    if is_deleted(entity) {
-        return list.without(entity.id.as_str());
+    /// The table, changed by one entity of a message of that stamp, in seconds since 1970. One that says that it
+    /// is deleted takes its id away; any other takes the place of what its id had. Or want of memory.
+    pub fn with(self, alloc: Global, entity: &Entity, stamp: u64) -> Result<Table, NoMemory>
+        ensures { IfOk result (λ next. next
+            ≡ changes_with self (entity.now.id, record { entity = entity.now; stamp = stamp })) }
+    {
+        if is_deleted(entity) {
+            return self.without(entity.id.as_str());
+        }
+        let stored = Stored {
+            entity: entity.copy()?,
+            stamp,
+        };
+        let Table { list } = self;
+        Ok(Table {
+            list: list.with(SharedStored::new(alloc, stored)?)?,
+        })
     }
-    let stored = Stored {
-        entity: entity.copy()?,
-        stamp,
-    };
-    list.with(SharedStored::new(alloc, stored)?)
+
+    /// The table with nothing under the id, or want of memory.
+    pub fn without(self, id: &str) -> Result<Table, NoMemory>
+        ensures { IfOk result (λ next. next ≡ changes_without id.now self) }
+    {
+        let Table { list } = self;
+        Ok(Table {
+            list: list.without(id)?,
+        })
+    }
 }
 
 /// Whether the entity says that it is deleted.

@@ -3,7 +3,9 @@
 //! A contract sees a `Table` as the list of its ids in byte order, each with its entity and the stamp of the
 //! message that brought it: the list that `feed_defs` calls `entities_of`. `apply` makes the table after one message
 //! more and leaves the given one; the two share every entity that the message does not touch, and what they
-//! take up together grows with the message and hardly with the table.
+//! take up together grows with the message and hardly with the table. Its steps can be taken one by one: `start` is
+//! what a message goes on from, `with` and `without` change a table at one id, and `share` keeps the table that is
+//! changed.
 //!
 //! It stands on `shared_list` for the order and the sharing, and on `feed_defs` for what a message changes.
 #![tactic(auto)]

@@ -1,6 +1,6 @@
 //! The table of a feed.
 
-ghost use Rattle.std.specs.Prelude.{◌≡◌, List, [], length, map, T as IsSo};
+ghost use Rattle.std.specs.Prelude.{◌≡◌, List, [], length, map, T as IsSo, IfOk};
 ghost use Rattle.std.specs.Cmp.Lexicographic.{slice_cmp};
 ghost use Rattle.std.specs.FinMap.{find, is_sorted};
 ghost use Rattle.std.specs.Iterator.{YieldsFirstRef, item_count};
@@ -9,6 +9,7 @@ ghost use Rattle.std.specs.Ordering.{nat_cmp};
 ghost use Rattle.rt_types.specs.declared.message.FeedMessage.{FeedMessage};
 ghost use Rattle.feed_defs.specs.History.{entities_of, entity_at};
 
+use crate::NoMemory;
 use crate::stored::SharedStored;
 use feed_defs::Stored;
 use shared_list::{Iter, SharedList};
@@ -39,6 +40,15 @@ impl Table {
         Table {
             list: SharedList::empty(alloc),
         }
+    }
+
+    /// The same table, which shares with this one all that it holds; or want of memory.
+    pub fn share(&self) -> Result<Table, NoMemory>
+        ensures { IfOk result (λ same. same ≡ self.now) }
+    {
+        Ok(Table {
+            list: self.list.share()?,
+        })
     }
 
     /// What is held under the id; `None` exactly where nothing is.

@@ -142,6 +142,23 @@ fn the_given_table_stays(rt: HostRuntime) -> Result<(), Fail> {
     Ok(())
 }
 
+/// Whether a share that is changed entity by entity holds what is told, and the given table stays.
+fn changes_one_by_one(alloc: Global) -> Result<bool, NoMemory> {
+    let old = after(alloc, &Table::empty(alloc), 7, "~ +a +b +c")?;
+    let new = old.share()?;
+    let new = new.with(alloc, &entity(alloc, "d", None, b'x')?, 9)?;
+    let new = new.with(alloc, &entity(alloc, "a", Some(true), b'y')?, 9)?;
+    let new = new.without("b")?;
+    let told = holds(&new, &[("c", 7, b'3'), ("d", 9, b'x')]);
+    Ok(told && holds(&old, &[("a", 7, b'1'), ("b", 7, b'2'), ("c", 7, b'3')]))
+}
+
+#[test]
+fn a_share_is_changed_by_one_entity(rt: HostRuntime) -> Result<(), Fail> {
+    assert!(rt; changes_one_by_one(rt.alloc())?);
+    Ok(())
+}
+
 /// So many of 997 ids in an order far from rising.
 fn many(alloc: Global, count: u64, deleted: Option<bool>) -> Result<Vec<Entity>, NoMemory> {
     let mut entities = Vec::new(alloc);

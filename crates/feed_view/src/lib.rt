@@ -4,14 +4,13 @@
 //! message more, and leaves the old one as it was, so that readers may go on with it; the two share what the
 //! message doesn't touch.
 //!
-//! It knows the ids of the feed's alerts, so that a reader of alerts need not go over all that the feed holds. A
-//! message that brings no alert and replaces none leaves them as they are (`specs/Quiet`), and the two views share them.
+//! It keeps the feed's alerts beside the table of all that the feed holds, so that a reader of alerts need not go over
+//! the whole table. Both go on with a message entity by entity, so that no message costs such a walk either.
 //!
-//! It stands on `entity_table`, whose table holds the entities, on `alert_select` for the ids of alerts, and on the
+//! It stands on `entity_table`, whose table holds the entities, on `alert_select` for the alerts among them, and on the
 //! definitions of `board_defs`.
 #![tactic(auto)]
 
-mod quiet;
 #[cfg(test)]
 mod tests;
 mod view;

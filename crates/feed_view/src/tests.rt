@@ -1,18 +1,40 @@
-//! A feed that speaks twice.
+//! A feed that speaks of an alert, and then of something else.
 
 ghost use Rattle.std.specs.Prelude.{◌≡◌, ◌<◌, Some, IfOk};
 
 use super::*;
 use delay_rule::Steps;
-use rt_types::{Bytes, Entities, Entity, FeedMessage, Header, Incrementality, Text};
+use rt_types::{
+    Alert, Bytes, Entities, Entity, FeedMessage, Header, Incrementality, Periods, Selectors,
+    Shared, Text,
+};
 use sched_types::Plan;
 use std::alloc::Global;
 use std::marker::Brand;
 use std::sync::ledger::{Blank, Ledger};
 use std::test::Fail;
 
+/// An alert that says nothing.
+fn alert(alloc: Global) -> Result<Shared<Alert>, NoMemory> {
+    let alert = Alert {
+        active_period: Periods::new(Vec::new(alloc)),
+        informed_entity: Selectors::new(Vec::new(alloc)),
+        cause: None,
+        effect: None,
+        header_text: None,
+        description_text: None,
+        unknown: Bytes::from_vec(Vec::new(alloc)),
+    };
+    Ok(Shared::new(alloc, alert)?)
+}
+
 /// A message that adds an entity of that id.
-fn message(alloc: Global, stamp: u64, id: &str) -> Result<FeedMessage, NoMemory>
+fn message(
+    alloc: Global,
+    stamp: u64,
+    id: &str,
+    alert: Option<Shared<Alert>>,
+) -> Result<FeedMessage, NoMemory>
     ensures { IfOk result (λ message. message.header.timestamp ≡ Some stamp) }
 {
     let entity = Entity {
@@ -20,7 +42,7 @@ fn message(alloc: Global, stamp: u64, id: &str) -> Result<FeedMessage, NoMemory>
         is_deleted: None,
         trip_update: None,
         vehicle: None,
-        alert: None,
+        alert,
         unknown: Bytes::from_vec(Vec::new(alloc)),
     };
     Ok(FeedMessage {
@@ -44,8 +66,20 @@ fn counted<L: Ledger>(alloc: Global, blank: Blank) -> Result<FeedView, NoMemory>
     let plan = Plan::plain(alloc);
     let mut steps = Steps::<L>::new(blank);
     let none = FeedView::empty(alloc);
-    let first = FeedView::next(alloc, &plan, &none, message(alloc, 5, "a")?, &mut steps)?;
-    FeedView::next(alloc, &plan, &first, message(alloc, 7, "b")?, &mut steps)
+    let first = FeedView::next(
+        alloc,
+        &plan,
+        &none,
+        message(alloc, 5, "a", Some(alert(alloc)?))?,
+        &mut steps,
+    )?;
+    FeedView::next(
+        alloc,
+        &plan,
+        &first,
+        message(alloc, 7, "b", None)?,
+        &mut steps,
+    )
 }
 
 /// The same view.
@@ -59,5 +93,6 @@ fn a_view_goes_on_from_the_one_before(rt: HostRuntime) -> Result<(), Fail> {
     assert_eq!(rt; view.count(), 2);
     assert_eq!(rt; view.stamp(), 7);
     assert_eq!(rt; view.table().len(), 2);
+    assert_eq!(rt; view.alerts().iter().count(), 1);
     Ok(())
 }

@@ -1,17 +1,16 @@
 //! The view of a feed.
 
 ghost use Rattle.std.specs.Prelude.{◌≡◌, ◌+◌, ◌*◌, ◌<◌, ◌≤◌, length, IfOk, IsTrue};
-ghost use Rattle.alert_select.specs.Ids.{alert_ids};
-ghost use Rattle.feed_defs.specs.History.{stamp_of, entities_after};
+ghost use Rattle.alert_select.specs.FeedAlerts.{alerts_of};
+ghost use Rattle.feed_defs.specs.History.{stamp_of};
 ghost use Rattle.text_defs.specs.Moments.{last_moment, is_stamp};
 ghost use Rattle.board_defs.specs.Views.{nothing_kept, feed_after};
 
 use crate::NoMemory;
-use crate::quiet::stays_quiet;
 use alert_select::AlertIndex;
 use delay_rule::Steps;
 use entity_table::{Table, apply};
-use rt_types::{Copied, FeedMessage};
+use rt_types::FeedMessage;
 use sched_types::Plan;
 use std::alloc::Global;
 use std::marker::Model;
@@ -21,7 +20,7 @@ use std::sync::ledger::Ledger;
 #[derive(Drop)]
 pub struct FeedView {
     table: Table,
-    // The ids of the table's alerts.
+    // What of the table has an alert.
     alerts: AlertIndex,
     // The stamp of the last message, 0 if there is none.
     stamp: u64,
@@ -33,7 +32,7 @@ impl Model for FeedView {
     ghost use Rattle.std.specs.Prelude.{◌≡◌, ◌≤◌};
     ghost use Rattle.text_defs.specs.Moments.{last_moment};
     ghost use Rattle.board_defs.specs.Views.{FeedKept};
-    ghost use Rattle.feed_view.specs.Quiet.{AreKept};
+    ghost use Rattle.feed_view.specs.Kept.{AreKept};
 
     ghost Value = { FeedKept };
 
@@ -55,15 +54,15 @@ impl FeedView {
     {
         FeedView {
             table: Table::empty(alloc),
-            alerts: AlertIndex::empty(),
+            alerts: AlertIndex::empty(alloc),
             stamp: 0,
             count: 0,
         }
     }
 
     /// The view after one message more, whose stamp is a moment behind the last one; or want of memory. The
-    /// feed is one of the given timetable. The count of steps rises by up to two for each entity. Where neither the
-    /// message nor what it replaces has an alert, the old view's alerts are shared.
+    /// feed is one of the given timetable. The count of steps rises by up to two for each entity. The two views share
+    /// what the message doesn't touch.
     pub fn next<L: Ledger>(
         alloc: Global,
         _plan: &Plan,
@@ -77,7 +76,7 @@ impl FeedView {
         ensures few { _steps.new ≤ _steps.old + 2 * length message.entity }
     {
         let table = apply(alloc, &old.table, &message)?;
-        let alerts = alerts_after(alloc, &old.alerts, &old.table, &message, &table)?;
+        let alerts = old.alerts.after(alloc, &old.table, &message)?;
         let stamp = message.header.timestamp.unwrap_or(0);
         Ok(FeedView {
             table,
@@ -94,9 +93,9 @@ impl FeedView {
         &self.table
     }
 
-    /// The ids of the alerts that it holds.
+    /// What of it has an alert.
     pub fn alerts(&self) -> &AlertIndex
-        ensures { result.now ≡ alert_ids self.now.fold.entities }
+        ensures { result.now ≡ alerts_of self.now.fold.entities }
     {
         &self.alerts
     }
@@ -116,25 +115,5 @@ impl FeedView {
         ensures moment { result ≤ last_moment }
     {
         self.count
-    }
-}
-
-/// The alerts of a table after a message; those of the table before it, where the message leaves them.
-fn alerts_after(
-    alloc: Global,
-    old: &AlertIndex,
-    table: &Table,
-    message: &FeedMessage,
-    next: &Table,
-) -> Result<AlertIndex, NoMemory>
-    requires old { old.now ≡ alert_ids table.now }
-    requires next { next.now ≡ entities_after message.now table.now }
-    ensures { IfOk result (λ alerts. alerts ≡ alert_ids next.now) }
-{
-    table.sound();
-    if stays_quiet(old, table, message) {
-        old.copy()
-    } else {
-        AlertIndex::build(alloc, next)
     }
 }

@@ -9,6 +9,7 @@ use Rattle.std.proofs.lemmas.List.{take-append-drop, set_split}
 use Rattle.shared_list.specs.Order.{key_cmp, entries, all_entries, without, AllBelow, AllAbove, IsGap, IsAt, IsHome, Rises, AreParts, lead}
 use Rattle.shared_list.proofs.Middle.{put_middle, without_middle, find_middle, above_less, below_less, below_equal, sorted_behind, sorted_before, sorted_back, sorted_front, below_back, second_so, first_so, both_so}
 use Rattle.shared_list.proofs.Places.{split_here}
+use Rattle.shared_list.proofs.Each.{each_back, each_at}
 
 module _ {X : Type 0} (key : X → List ℕ) where
   -- a key below the lead of parts in order is below all of them
@@ -20,20 +21,10 @@ module _ {X : Type 0} (key : X → List ℕ) where
   all_entries_split : (parts : List (List X)) (i : ℕ) → all_entries key parts ≡ all_entries key (take i parts) ++ all_entries key (drop i parts)
   all_entries_split parts i = ap (all_entries key) (sym (take-append-drop i parts)) ∙ flat_map-append (entries key) (take i parts) (drop i parts)
 
-  filled_back : (n : ℕ) (parts : List (List X)) → AllByRecursion (λ part. 0 < length part) parts → AllByRecursion (λ part. 0 < length part) (drop n parts)
-  filled_back zero parts all = all
-  filled_back (suc n) [] all = tt
-  filled_back (suc n) (part ∷ parts) all = filled_back n parts all.1
-
-  filled_front : (n : ℕ) (parts : List (List X)) → AllByRecursion (λ part. 0 < length part) parts → AllByRecursion (λ part. 0 < length part) (take n parts)
-  filled_front zero parts all = tt
-  filled_front (suc n) [] all = tt
-  filled_front (suc n) (part ∷ parts) all = (all.0, filled_front n parts all.1)
-
   parts_back : (n : ℕ) (parts : List (List X)) → AreParts key parts → AreParts key (drop n parts)
   parts_back n parts are = record {
     sorted = sorted_back (all_entries key (take n parts)) (all_entries key (drop n parts)) (subst (λ es. T (is_sorted key_cmp es)) (all_entries_split parts n) are.sorted);
-    filled = filled_back n parts are.filled;
+    filled = each_back (λ part. 0 < length part) n parts are.filled;
   }
 
   -- what stands before a part is below its lead
@@ -41,16 +32,11 @@ module _ {X : Type 0} (key : X → List ℕ) where
   below_lead front parts [] sorted h = absurd (omega arith)
   below_lead front parts (x ∷ xs) sorted h = sorted_before front (key x, x) (entries key xs ++ all_entries key parts) sorted
 
-  filled_at : (i : ℕ) (parts : List (List X)) (d : List X) → i < length parts → AllByRecursion (λ part. 0 < length part) parts → 0 < length (get_or parts i d)
-  filled_at i [] d h all = absurd (omega arith)
-  filled_at zero (part ∷ parts) d h all = all.0
-  filled_at (suc i) (part ∷ parts) d h all = filled_at i parts d (omega arith) all.1
-
   below_lead_at : (parts : List (List X)) (i : ℕ) (d : List X) → AreParts key parts → i < length parts → AllBelow (lead key (get_or parts i d)) (all_entries key (take i parts))
   below_lead_at parts i d are h =
       below_lead (all_entries key (take i parts)) (drop (suc i) parts) (get_or parts i d)
       (subst (λ es. T (is_sorted key_cmp es)) (all_entries_split parts i ∙ ap (λ ps. all_entries key (take i parts) ++ all_entries key ps) (split_here (lead key) parts i d h)) are.sorted)
-      (filled_at i parts d h are.filled)
+      (each_at (λ part. 0 < length part) i parts d h are.filled)
 
   -- the part whose lead is the key
   pub home_at : (k : List ℕ) (parts : List (List X)) (i : ℕ) → AreParts key parts → IsAt (lead key) k parts i → IsHome key k parts i
@@ -146,30 +132,8 @@ module _ {X : Type 0} (key : X → List ℕ) where
   pub without_home_all : (k : List ℕ) (parts : List (List X)) (i : ℕ) (d : List X) → IsHome key k parts i → [] ≡ without k (entries key (get_or parts i d)) → all_entries key (remove parts i) ≡ without k (all_entries key parts)
   without_home_all k parts i d home is = flat_map-append (entries key) (take i parts) (drop (suc i) parts) ∙ without_parts k parts i d [] home is
 
-  -- where the part has not the key, nothing goes
-  pub without_home_none : (k : List ℕ) (parts : List (List X)) (i : ℕ) (d : List X) → IsHome key k parts i → without k (entries key (get_or parts i d)) ≡ entries key (get_or parts i d) → without k (all_entries key parts) ≡ all_entries key parts
-  without_home_none k parts i d home is = sym (without_parts k parts i d (entries key (get_or parts i d)) home (sym is)) ∙ sym (at_home parts i d home.within)
-
   pub find_home : (k : List ℕ) (parts : List (List X)) (i : ℕ) (d : List X) → IsHome key k parts i → find key_cmp k (all_entries key parts) ≡ find key_cmp k (entries key (get_or parts i d))
   find_home k parts i d home = ap (find key_cmp k) (at_home parts i d home.within) ∙ find_middle k (all_entries key (take i parts)) (entries key (get_or parts i d)) (all_entries key (drop (suc i) parts)) home.before home.behind
-
-  -- ---- no part is empty
-
-  pub filled_set : (parts : List (List X)) (i : ℕ) (part : List X) → AllByRecursion (λ part. 0 < length part) parts → 0 < length part → AllByRecursion (λ part. 0 < length part) (set parts i part)
-  filled_set [] i part all h = all
-  filled_set (p ∷ parts) zero part all h = (h, all.1)
-  filled_set (p ∷ parts) (suc i) part all h = (all.0, filled_set parts i part all.1 h)
-
-  pub filled_insert : (parts : List (List X)) (i : ℕ) (part : List X) → AllByRecursion (λ part. 0 < length part) parts → 0 < length part → AllByRecursion (λ part. 0 < length part) (insert parts i part)
-  filled_insert parts zero part all h = (h, all)
-  filled_insert [] (suc i) part all h = (h, tt)
-  filled_insert (p ∷ parts) (suc i) part all h = (all.0, filled_insert parts i part all.1 h)
-
-  pub filled_remove : (parts : List (List X)) (i : ℕ) → AllByRecursion (λ part. 0 < length part) parts → AllByRecursion (λ part. 0 < length part) (remove parts i)
-  filled_remove [] zero all = tt
-  filled_remove [] (suc i) all = tt
-  filled_remove (p ∷ parts) zero all = all.1
-  filled_remove (p ∷ parts) (suc i) all = (all.0, filled_remove parts i all.1)
 
   -- a part is in order
   pub Rises-part : (parts : List (List X)) (i : ℕ) (d : List X) → AreParts key parts → i < length parts → Rises key (get_or parts i d)

@@ -1,5 +1,6 @@
 pub mod Middle
 pub mod Places
+pub mod Each
 pub mod Homes
-pub mod ChunkLemmas
+pub mod PartLemmas
 pub mod ListLemmas

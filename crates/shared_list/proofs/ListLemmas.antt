@@ -1,7 +1,6 @@
--- What a list's parts make of its count, its items and its order.
-use Rattle.std.proofs.Common.{◌≡◌, ℕ, ◌+◌, ◌-◌, ◌<◌, List, [], ◌∷◌, ◌++◌, Bool, true, false, cond, not, Option, Some, None, length, take, map, get_or, refl, sym, ap, ◌∙◌, subst, arith}
+-- What a list's nodes make of its count, its items and its order.
+use Rattle.std.proofs.Common.{◌≡◌, ℕ, ◌+◌, ◌-◌, List, [], ◌∷◌, Bool, true, false, cond, not, Option, Some, None, length, refl, sym, ap, ◌∙◌, subst, arith}
 use Rattle.std.specs.Prelude.{T, is_some, is_none, if◌then◌else◌, Vec}
-use Rattle.std.specs.List.{flat_map, AllByRecursion}
 use Rattle.std.specs.Option.{option_copied}
 use Rattle.std.specs.Str.{bytes_eq}
 use Rattle.std.specs.Ordering.{eq_by_cmp}
@@ -10,45 +9,13 @@ use Rattle.std.specs.FinMap.Entries.{is_sorted-put, is_sorted-where_key, length-
 use Rattle.std.specs.declared.sync.Arc.{Arc}
 use Rattle.std.specs.declared.alloc.Global.{Global}
 use Rattle.std.proofs.lemmas.Cmp.{nat_list_cmp_total}
-use Rattle.std.proofs.lemmas.List.{map-append, take_more}
 use Rattle.std.proofs.lemmas.Map.Text.{is_eq-slice_cmp}
-use Rattle.shared_list.specs.Order.{key_cmp, entries, all_entries, without, AreParts}
+use Rattle.shared_list.specs.declared.node.Node.{Node}
+use Rattle.shared_list.specs.Order.{key_cmp, entries, without, Rises}
 use denote.Ref.{Bor}
-use Rattle.shared_list.specs.Parts.{parts_of, AreChunks}
+use Rattle.shared_list.specs.Parts.{items_in, node_items, IsFilled, AreSound, AreNodes}
 
 module _ {X : Type 0} (key : X → List ℕ) where
-  -- the entries of the items are the list
-  keyed_entries : (xs : List X) → entries key (map (λ e. e.1) (entries key xs)) ≡ entries key xs
-  keyed_entries [] = refl
-  keyed_entries (x ∷ xs) = ap (λ es. (key x, x) ∷ es) (keyed_entries xs)
-
-  pub keyed_joined : (parts : List (List X)) → entries key (map (λ e. e.1) (all_entries key parts)) ≡ all_entries key parts
-  keyed_joined [] = refl
-  keyed_joined (part ∷ parts) =
-      ap (entries key) (map-append (λ e. e.1) (entries key part) (all_entries key parts))
-      ∙ map-append (λ x. (key x, x)) (map (λ e. e.1) (entries key part)) (map (λ e. e.1) (all_entries key parts))
-      ∙ ap (λ es. es ++ entries key (map (λ e. e.1) (all_entries key parts))) (keyed_entries part)
-      ∙ ap (λ es. entries key part ++ es) (keyed_joined parts)
-
-  -- the items of the list are those of its parts
-  items_entries : (xs : List X) → map (λ e. e.1) (entries key xs) ≡ xs
-  items_entries [] = refl
-  items_entries (x ∷ xs) = ap (λ ys. x ∷ ys) (items_entries xs)
-
-  pub items_joined : (parts : List (List X)) → flat_map (λ part. part) parts ≡ map (λ e. e.1) (all_entries key parts)
-  items_joined [] = refl
-  items_joined (part ∷ parts) =
-      ap (λ xs. part ++ xs) (items_joined parts)
-      ∙ ap (λ xs. xs ++ map (λ e. e.1) (all_entries key parts)) (sym (items_entries part))
-      ∙ sym (map-append (λ e. e.1) (entries key part) (all_entries key parts))
-
-  -- the same parts are the same list
-  pub AreChunks-same : (old new : List (Arc (Vec X Global) Global)) (len : ℕ) → parts_of new ≡ parts_of old → AreChunks key old len → AreChunks key new len
-  AreChunks-same old new len same are = record {
-    parts = subst (λ parts. AreParts key parts) (sym same) are.parts;
-    counted = subst (λ parts. len ≡ length (all_entries key parts)) (sym same) are.counted;
-  }
-
   copied_none : (o : Option (Bor X)) → is_none (option_copied o) ≡ is_none o
   copied_none None = refl
   copied_none (Some x) = refl
@@ -57,18 +24,16 @@ module _ {X : Type 0} (key : X → List ℕ) where
   counted_put None is_new n before now new e f = e ∙ ap (λ b. if b then before + 1 else before) new ∙ sym f
   counted_put (Some x) is_new n before now new e f = e ∙ ap (λ b. if b then before + 1 else before) new ∙ sym f
 
-  pub AreChunks-put : (old new : List (Arc (Vec X Global) Global)) (k : List ℕ) (v : X) (got : Option (Bor X)) (is_new : Bool) (before len : ℕ) → AreChunks key old before → option_copied got ≡ find key_cmp k (all_entries key (parts_of old)) → is_new ≡ is_none got → len ≡ (if is_new then before + 1 else before) → all_entries key (parts_of new) ≡ put key_cmp k v (all_entries key (parts_of old)) → AllByRecursion (λ part. 0 < length part) (parts_of new) → AreChunks key new len
-  AreChunks-put old new k v got is_new before len are found asked count is filled =
-      let es = all_entries key (parts_of old) in
+  pub AreNodes-put : (old new : List (Arc (Node (Vec X Global)) Global)) (k : List ℕ) (v : X) (got : Option (Bor X)) (is_new : Bool) (before len : ℕ) → AreNodes key old before → option_copied got ≡ find key_cmp k (entries key (items_in node_items old)) → is_new ≡ is_none got → len ≡ (if is_new then before + 1 else before) → entries key (items_in node_items new) ≡ put key_cmp k v (entries key (items_in node_items old)) → AreSound node_items IsFilled new → AreNodes key new len
+  AreNodes-put old new k v got is_new before len are found asked count is sound =
+      let es = entries key (items_in node_items old) in
       record {
-        parts = record {
-          sorted = subst (λ xs. T (is_sorted key_cmp xs)) (sym is) (is_sorted-put key_cmp nat_list_cmp_total k v es are.parts.sorted);
-          filled = filled;
-        };
-        counted = counted_put (find key_cmp k es) is_new len (length es) (length (all_entries key (parts_of new)))
+        sound = sound;
+        rising = record { sorted = subst (λ xs. T (is_sorted key_cmp xs)) (sym is) (is_sorted-put key_cmp nat_list_cmp_total k v es are.rising.sorted) };
+        counted = counted_put (find key_cmp k es) is_new len (length es) (length (entries key (items_in node_items new)))
             (asked ∙ sym (copied_none got) ∙ ap is_none found)
             (count ∙ ap (λ n. if is_new then n + 1 else n) are.counted)
-            (ap length is ∙ length-put key_cmp nat_list_cmp_total k v es are.parts.sorted);
+            (ap length is ∙ length-put key_cmp nat_list_cmp_total k v es are.rising.sorted);
       }
 
 -- what isn't found isn't taken away
@@ -96,29 +61,25 @@ some_taken None less n asked e = absurd (apart asked)
     apart h = cc
 some_taken (Some x) less n asked e = omega arith
 
-pub AreChunks-without : {X : Type 0} (key : X → List ℕ) (old new : List (Arc (Vec X Global) Global)) (k : List ℕ) (got : Option (Bor X)) (before : ℕ) → AreChunks key old before → option_copied got ≡ find key_cmp k (all_entries key (parts_of old)) → is_none got ≡ false → all_entries key (parts_of new) ≡ without k (all_entries key (parts_of old)) → AllByRecursion (λ part. 0 < length part) (parts_of new) → AreChunks key new (before - 1)
-AreChunks-without key old new k got before are found asked is filled =
-    let es = all_entries key (parts_of old) in
+pub AreNodes-without : {X : Type 0} (key : X → List ℕ) (old new : List (Arc (Node (Vec X Global)) Global)) (k : List ℕ) (got : Option (Bor X)) (before : ℕ) → AreNodes key old before → option_copied got ≡ find key_cmp k (entries key (items_in node_items old)) → is_none got ≡ false → entries key (items_in node_items new) ≡ without k (entries key (items_in node_items old)) → AreSound node_items IsFilled new → AreNodes key new (before - 1)
+AreNodes-without key old new k got before are found asked is sound =
+    let es = entries key (items_in node_items old) in
     record {
-      parts = record {
-        sorted = subst (λ xs. T (is_sorted key_cmp xs)) (sym is) (is_sorted-where_key key_cmp (λ x. not (bytes_eq k x)) es are.parts.sorted);
-        filled = filled;
-      };
+      sound = sound;
+      rising = record { sorted = subst (λ xs. T (is_sorted key_cmp xs)) (sym is) (is_sorted-where_key key_cmp (λ x. not (bytes_eq k x)) es are.rising.sorted) };
       counted =
           ap (λ n. n - 1) are.counted
-          ∙ some_taken (find key_cmp k es) (length (where_key key_cmp (λ x. not (eq_by_cmp key_cmp k x)) es)) (length es) (sym (ap is_none found) ∙ copied_none key got ∙ asked) (length_without key_cmp nat_list_cmp_total k es are.parts.sorted)
+          ∙ some_taken (find key_cmp k es) (length (where_key key_cmp (λ x. not (eq_by_cmp key_cmp k x)) es)) (length es) (sym (ap is_none found) ∙ copied_none key got ∙ asked) (length_without key_cmp nat_list_cmp_total k es are.rising.sorted)
           ∙ sym (ap length (is ∙ without_is k es));
     }
 
--- a chunk more is shared
-pub share_more : {X : Type 0} (shared items : List (Arc (Vec X Global) Global)) (i : ℕ) (chunk copy : Arc (Vec X Global) Global) → i < length items → chunk ≡ get_or items i chunk → copy.value ≡ chunk.value → parts_of shared ≡ parts_of (take i items) → parts_of (shared ++ copy ∷ []) ≡ parts_of (take (i + 1) items)
-share_more shared items i chunk copy within is same so_far =
-    map-append (λ c. c.value.items) shared (copy ∷ [])
-    ∙ ap (λ parts. parts ++ copy.value.items ∷ []) so_far
-    ∙ ap (λ v. parts_of (take i items) ++ v.items ∷ []) same
-    ∙ sym (map-append (λ c. c.value.items) (take i items) (chunk ∷ []))
-    ∙ ap (λ c. parts_of (take i items ++ c ∷ [])) is
-    ∙ ap parts_of (sym (take_more items i chunk within))
+-- shares of the same nodes are the same list
+pub AreNodes-same : {X : Type 0} (key : X → List ℕ) (old new : List (Arc (Node (Vec X Global)) Global)) (len : ℕ) → items_in node_items new ≡ items_in node_items old → AreSound node_items IsFilled new → AreNodes key old len → AreNodes key new len
+AreNodes-same key old new len same sound are = record {
+  sound = sound;
+  rising = subst (λ xs. Rises key xs) (sym same) are.rising;
+  counted = subst (λ xs. len ≡ length (entries key xs)) (sym same) are.counted;
+}
 
 pub absent : {X : Type 0} (got : Option (Bor X)) (found : Option X) → option_copied got ≡ found → is_none got ≡ true → found ≡ None
 absent None found e h = sym e

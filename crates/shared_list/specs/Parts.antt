@@ -1,19 +1,65 @@
--- The chunks of a list, as the lists that they are.
-use Rattle.std.specs.Prelude.{◌≡◌, ℕ, List, [], length, map, Vec, Option, Some, None}
+-- The parts of a list, as the lists that they are.
+use Rattle.std.specs.Prelude.{◌≡◌, ℕ, ◌<◌, List, [], ◌∷◌, ◌++◌, length, map, Vec, Option, Some, None, Bool, true, false, refl}
+use Rattle.std.proofs.Common.{◌∙◌, arith}
+use Rattle.std.specs.List.{flat_map, AllByRecursion}
 use Rattle.std.specs.declared.sync.Arc.{Arc}
 use Rattle.std.specs.declared.alloc.Global.{Global}
-use Rattle.shared_list.specs.Order.{all_entries, AreParts}
+use Rattle.shared_list.specs.declared.node.Node.{Node}
+use Rattle.shared_list.specs.Order.{lead, entries, Rises}
 
-abbrev pub parts_of : {X : Type 0} → List (Arc (Vec X Global) Global) → List (List X)
-parts_of chunks = map (λ chunk. chunk.value.items) chunks
+-- the items of each part that is shared
+abbrev pub parts_of : {P X : Type 0} → (P → List X) → List (Arc P Global) → List (List X)
+parts_of items shares = map (λ share. items share.value) shares
 
--- the items of a vector, if there is one
-abbrev pub items_of : {X : Type 0} → Option (Vec X Global) → List X
-items_of None = []
-items_of (Some rest) = rest.items
+-- the same one after another
+abbrev pub items_in : {P X : Type 0} → (P → List X) → List (Arc P Global) → List X
+items_in items shares = flat_map (λ part. part) (parts_of items shares)
 
--- what is true of the chunks of a list with so many items
-pub record AreChunks {X : Type 0} (key : X
-    → List ℕ) (chunks : List (Arc (Vec X Global) Global)) (len : ℕ) : Type 0 where
-  pub parts : AreParts key (parts_of chunks)
-  pub counted : len ≡ length (all_entries key (parts_of chunks))
+-- the items of a part, if there is one
+abbrev pub items_if_some : {P X : Type 0} → (P → List X) → Option P → List X
+items_if_some items None = []
+items_if_some items (Some rest) = items rest
+
+-- whether no items are left
+abbrev pub TellsLeft : {X : Type 0} → Bool → List X → Type 0
+TellsLeft true xs = xs ≡ []
+TellsLeft false xs = 0 < length xs
+
+-- each part is sound, and not empty
+abbrev pub AreSound : {P X : Type 0} → (P → List X) → (P → Type 0) → List (Arc P Global) → Type 0
+AreSound items sound shares =
+    AllByRecursion (λ share. (sound share.value) × (0 < length (items share.value))) shares
+
+-- the key by which the first part is found is that of the first item of all
+pub first_leads : {P X : Type 0} (key : X → List ℕ) (items : P → List X) (sound : P
+    → Type 0) (first_key : P → List ℕ) → ((part : P) → sound part
+    → first_key part ≡ lead key (items part)) → (shares : List (Arc P Global))
+    → AreSound items sound shares
+    → lead (λ share. first_key share.value) shares ≡ lead key (items_in items shares)
+first_leads key items sound first_key leads [] are = refl
+first_leads {P} {X} key items sound first_key leads (share ∷ shares) are =
+    leads share.value are.0.0 ∙ before (items share.value) (items_in items shares) are.0.1
+  where
+    before : (front back : List X) → 0 < length front → lead key front ≡ lead key (front ++ back)
+    before [] back some = absurd (omega arith)
+    before (x ∷ xs) back some = refl
+
+-- the items of leaves, and of nodes of leaves
+abbrev pub leaf_items : {X : Type 0} → Vec X Global → List X
+leaf_items leaf = leaf.items
+
+abbrev pub IsPlain : {X : Type 0} → Vec X Global → Type 0
+IsPlain leaf = Unit {0}
+
+abbrev pub node_items : {X : Type 0} → Node (Vec X Global) → List X
+node_items node = items_in leaf_items node.parts.items
+
+abbrev pub IsFilled : {X : Type 0} → Node (Vec X Global) → Type 0
+IsFilled node = AreSound leaf_items IsPlain node.parts.items
+
+-- what is true of the nodes of a list with so many items
+pub record AreNodes {X : Type 0} (key : X
+    → List ℕ) (nodes : List (Arc (Node (Vec X Global)) Global)) (len : ℕ) : Type 0 where
+  pub sound : AreSound node_items IsFilled nodes
+  pub rising : Rises key (items_in node_items nodes)
+  pub counted : len ≡ length (entries key (items_in node_items nodes))

@@ -1,10 +1,10 @@
 //! The items of a list in order.
 
-ghost use Rattle.std.specs.Prelude.{◌≡◌, ◌<◌, length};
-ghost use Rattle.std.specs.List.{flat_map, AllByRecursion};
-ghost use Rattle.shared_list.specs.Parts.{parts_of};
+ghost use Rattle.std.specs.Prelude.{◌≡◌};
+ghost use Rattle.shared_list.specs.Parts.{items_in, node_items, AreSound, IsFilled};
 ghost use Rattle.std.specs.Iterator.{YieldsFirstRef, item_count};
 
+use crate::node::Node;
 use std::marker::Model;
 use std::sync::Arc;
 
@@ -12,7 +12,8 @@ use std::sync::Arc;
 #[derive(Drop)]
 pub struct Iter<'a, T> {
     items: &'a [T],
-    chunks: &'a [Arc<Vec<T>>],
+    leaves: &'a [Arc<Vec<T>>],
+    nodes: &'a [Arc<Node<Vec<T>>>],
 }
 
 impl<'a, T> Model for Iter<'a, T> {
@@ -20,22 +21,28 @@ impl<'a, T> Model for Iter<'a, T> {
 
     ghost Value = { List T };
 
-    ghost use Rattle.std.specs.Prelude.{◌<◌, ◌++◌, length};
-    ghost use Rattle.std.specs.List.{flat_map, AllByRecursion};
-    ghost use Rattle.shared_list.specs.Parts.{parts_of};
+    ghost use Rattle.std.specs.Prelude.{◌++◌};
+    ghost use Rattle.shared_list.specs.Parts.{items_in, leaf_items, node_items};
+    ghost use Rattle.shared_list.specs.Parts.{AreSound, IsPlain, IsFilled};
 
-    ghost view = { λ it. it.items.now ++ flat_map (λ part. part) (parts_of it.chunks.now) };
+    ghost view = { λ it. it.items.now
+        ++ (items_in leaf_items it.leaves.now ++ items_in node_items it.nodes.now) };
 
-    ghost invariant = { λ it. AllByRecursion (λ part. 0 < length part) (parts_of it.chunks.now) };
+    ghost invariant = { λ it. (AreSound leaf_items IsPlain it.leaves.now)
+        × (AreSound node_items IsFilled it.nodes.now) };
 }
 
 impl<'a, T> Iter<'a, T> {
-    /// The items of the chunks, none of which is empty.
-    pub(crate) fn over(chunks: &'a [Arc<Vec<T>>]) -> Iter<'a, T>
-        requires { AllByRecursion (λ part. 0 < length part) (parts_of chunks.now) }
-        ensures { result ≡ flat_map (λ part. part) (parts_of chunks.entry.now) }
+    /// The items of the nodes, none of which is empty, nor a leaf of them.
+    pub(crate) fn over(nodes: &'a [Arc<Node<Vec<T>>>]) -> Iter<'a, T>
+        requires { AreSound node_items IsFilled nodes.now }
+        ensures { result ≡ items_in node_items nodes.entry.now }
     {
-        Iter { items: &[], chunks }
+        Iter {
+            items: &[],
+            leaves: &[],
+            nodes,
+        }
     }
 }
 
@@ -51,10 +58,18 @@ impl<'a, T> Iterator for Iter<'a, T> {
             self.items = rest;
             return Some(first);
         }
-        let (chunk, chunks) = self.chunks.split_first()?;
-        let (first, rest) = chunk.split_first()?;
+        if let Some((leaf, leaves)) = self.leaves.split_first() {
+            let (first, rest) = leaf.split_first()?;
+            self.items = rest;
+            self.leaves = leaves;
+            return Some(first);
+        }
+        let (node, nodes) = self.nodes.split_first()?;
+        let (leaf, leaves) = node.parts.split_first()?;
+        let (first, rest) = leaf.split_first()?;
         self.items = rest;
-        self.chunks = chunks;
+        self.leaves = leaves;
+        self.nodes = nodes;
         Some(first)
     }
 }

@@ -3,18 +3,25 @@
 //! A contract sees a `SharedList` as the list of its items, each with its key, with the words of std's
 //! finite maps: `with` is `put`, `get` is `find`. A version is made of another by `share`, and then
 //! changed item by item; the other stays. The cost of a change hardly grows with the list: the items
-//! stand in chunks of at most 128, `share` takes one share of each chunk, and a change copies the one
-//! chunk in which the key stands, and that only once for each version.
+//! stand in leaves of at most 32, the leaves in nodes of at most 32, and the nodes in one list. `share`
+//! takes one share of each node. A change copies the node in which the key stands, which is one share of
+//! each of its leaves, and the one leaf in which the key stands, and each only once for each version.
 //!
-//! It stands on `copying` for `Copied`, by which the items of a chunk are copied, and on nothing else of
+//! Both floors are one piece of code: a leaf and a node are each a part (`Part`), a node is made over any
+//! kind of part, and what is done to parts that versions may share is written for whatever they are.
+//!
+//! It stands on `copying` for `Copied`, by which the items of a leaf are copied, and on nothing else of
 //! this repository.
 #![tactic(auto)]
 
-mod chunks;
-mod items;
 mod iter;
 mod keyed;
+mod leaf;
 mod list;
+mod node;
+mod part;
+mod shared;
+mod split;
 #[cfg(test)]
 mod tests;
 

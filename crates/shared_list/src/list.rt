@@ -1,4 +1,4 @@
-//! A list that shares its chunks with other versions of it.
+//! A list that shares its parts with other versions of it.
 
 ghost use Rattle.std.specs.Prelude.{◌≡◌, ◌+◌, [], length, map, T as IsSo, if◌then◌else◌, IfOk};
 ghost use Rattle.std.specs.FinMap.{put, find, is_sorted};
@@ -6,9 +6,10 @@ ghost use Rattle.std.specs.Option.{option_copied};
 ghost use Rattle.shared_list.specs.Order.{key_cmp, entries, without};
 
 use crate::NoMemory;
-use crate::chunks::{item_in, put_chunks, take_out};
 use crate::iter::Iter;
 use crate::keyed::Keyed;
+use crate::node::Node;
+use crate::shared::{item_in, put_shared, share, take_out_shared};
 use std::alloc::Global;
 use std::marker::Model;
 use std::sync::Arc;
@@ -16,8 +17,8 @@ use std::sync::Arc;
 /// Items in the byte order of their keys, each key once. A contract sees them as a list of pairs of key and item.
 #[derive(Drop)]
 pub struct SharedList<T: Keyed> {
-    // None of them is empty.
-    chunks: Vec<Arc<Vec<T>>>,
+    // Neither a node nor a leaf within one is empty.
+    nodes: Vec<Arc<Node<Vec<T>>>>,
     len: usize,
 }
 
@@ -26,12 +27,12 @@ impl<T: Keyed> Model for SharedList<T> {
 
     ghost Value = { List (List ℕ × T) };
 
-    ghost use Rattle.shared_list.specs.Order.{all_entries};
-    ghost use Rattle.shared_list.specs.Parts.{parts_of, AreChunks};
+    ghost use Rattle.shared_list.specs.Order.{entries};
+    ghost use Rattle.shared_list.specs.Parts.{items_in, node_items, AreNodes};
 
-    ghost view = { λ list. all_entries T.key_of (parts_of list.chunks.items) };
+    ghost view = { λ list. entries T.key_of (items_in node_items list.nodes.items) };
 
-    ghost invariant = { λ list. AreChunks T.key_of list.chunks.items list.len };
+    ghost invariant = { λ list. AreNodes T.key_of list.nodes.items list.len };
 }
 
 impl<T: Keyed> SharedList<T> {
@@ -40,21 +41,17 @@ impl<T: Keyed> SharedList<T> {
         ensures { result ≡ [] }
     {
         SharedList {
-            chunks: Vec::new(alloc),
+            nodes: Vec::new(alloc),
             len: 0,
         }
     }
 
-    /// The same list, with all its chunks shared, or want of memory.
+    /// The same list, with all its nodes shared, or want of memory.
     pub fn share(&self) -> Result<Self, NoMemory>
         ensures { IfOk result (λ same. same ≡ self.now) }
     {
-        let mut chunks = Vec::with_capacity(*self.chunks.allocator(), self.chunks.len())?;
-        for chunk in &self.chunks {
-            chunks.push(Arc::try_clone(chunk)?)?;
-        }
         Ok(SharedList {
-            chunks,
+            nodes: share(&self.nodes)?,
             len: self.len,
         })
     }
@@ -65,10 +62,10 @@ impl<T: Keyed> SharedList<T> {
         ensures { IfOk result (λ list. list ≡ put key_cmp (T.key_of item) item self) }
     {
         let is_new = self.get(item.key()).is_none();
-        let SharedList { mut chunks, len } = self;
+        let SharedList { mut nodes, len } = self;
         let len = len_with(len, is_new)?;
-        put_chunks(&mut chunks, item)?;
-        Ok(SharedList { chunks, len })
+        put_shared(&mut nodes, item)?;
+        Ok(SharedList { nodes, len })
     }
 
     /// The list without the item of that key, or want of memory.
@@ -78,10 +75,10 @@ impl<T: Keyed> SharedList<T> {
         if self.get(key).is_none() {
             return Ok(self);
         }
-        let SharedList { mut chunks, len } = self;
-        take_out(&mut chunks, key)?;
+        let SharedList { mut nodes, len } = self;
+        take_out_shared(&mut nodes, key)?;
         Ok(SharedList {
-            chunks,
+            nodes,
             len: len - 1,
         })
     }
@@ -90,7 +87,7 @@ impl<T: Keyed> SharedList<T> {
     pub fn get(&self, key: &str) -> Option<&T>
         ensures { option_copied result ≡ find key_cmp key.now self.entry.now }
     {
-        item_in(self.chunks.as_slice(), key)
+        item_in(self.nodes.as_slice(), key)
     }
 
     /// The items in the order of their keys, which strictly rise; each is under its own key.
@@ -99,7 +96,7 @@ impl<T: Keyed> SharedList<T> {
         ensures rising { IsSo (is_sorted key_cmp self.entry.now) }
         ensures keyed { entries T.key_of (map (λ entry. entry.1) self.entry.now) ≡ self.entry.now }
     {
-        Iter::over(self.chunks.as_slice())
+        Iter::over(self.nodes.as_slice())
     }
 
     /// How many items there are.

@@ -70,3 +70,86 @@ fn versions_share_what_they_have_in_common(rt: HostRuntime) -> Result<(), Fail> 
     assert!(rt; versions(rt.alloc())?);
     Ok(())
 }
+
+/// How many numbers are put; a prime.
+const NUMBERS: u32 = 3001;
+
+/// The numbers below `NUMBERS`, each at one place below it, in an order that jumps.
+fn jumping(place: u32) -> u32 {
+    place.wrapping_mul(1009) % NUMBERS
+}
+
+/// The number as a key, so that the order of keys is that of numbers below 9,000.
+fn key_of(alloc: Global, number: u32) -> Result<String, NoMemory> {
+    let key = number.wrapping_add(1000);
+    format!(in alloc; "{key}")
+}
+
+/// The list with the numbers at those places, each under its key.
+fn with_places(
+    alloc: Global,
+    list: SharedList<Numbered>,
+    from: u32,
+    to: u32,
+) -> Result<SharedList<Numbered>, NoMemory> {
+    let mut list = list;
+    for place in from..to {
+        let number = jumping(place);
+        list = with(alloc, list, key_of(alloc, number)?.as_str(), number)?;
+    }
+    Ok(list)
+}
+
+/// The list without the numbers from the one and below the other.
+fn without_numbers(
+    alloc: Global,
+    list: SharedList<Numbered>,
+    from: u32,
+    to: u32,
+) -> Result<SharedList<Numbered>, NoMemory> {
+    let mut list = list;
+    for number in from..to {
+        list = list.without(key_of(alloc, number)?.as_str())?;
+    }
+    Ok(list)
+}
+
+/// How many of all numbers are found under their keys.
+fn found_in(alloc: Global, list: &SharedList<Numbered>) -> Result<u32, NoMemory> {
+    let mut count = 0u32;
+    for number in 0..NUMBERS {
+        let found = list.get(key_of(alloc, number)?.as_str());
+        if found.map(|item| item.number) == Some(number) {
+            count = count.wrapping_add(1);
+        }
+    }
+    Ok(count)
+}
+
+/// Whether a list of so many items that it has several nodes keeps them in order, as they come and go, while
+/// a version of it stays.
+fn many(alloc: Global) -> Result<bool, NoMemory> {
+    let old = with_places(alloc, SharedList::empty(alloc), 0, NUMBERS)?;
+    let back = without_numbers(alloc, old.share()?, 0, 2000)?;
+    let gap = without_numbers(alloc, old.share()?, 500, 2500)?;
+    let whole = with_places(alloc, gap.share()?, 0, NUMBERS)?;
+    Ok(
+        weighed(&old) == 419_067_408
+            && weighed(&whole) == 419_067_408
+            && weighed(&back) == 1_337_336_000
+            && weighed(&gap) == 1_086_836_000
+            && old.len() == 3001
+            && back.len() == 1001
+            && gap.len() == 1001
+            && whole.len() == 3001
+            && found_in(alloc, &old)? == 3001
+            && found_in(alloc, &back)? == 1001
+            && found_in(alloc, &gap)? == 1001,
+    )
+}
+
+#[test]
+fn many_items_stand_in_order(rt: HostRuntime) -> Result<(), Fail> {
+    assert!(rt; many(rt.alloc())?);
+    Ok(())
+}

@@ -1,9 +1,11 @@
--- What was found under the ids that were gone over stands there.
-use Rattle.std.proofs.Common.{◌≡◌, ◌++◌, take}
+-- What is appended and what is left to append are all.
+use Rattle.std.proofs.Common.{◌≡◌, ◌++◌}
 use Rattle.std.specs.List.{flat_map}
-use Rattle.board_lists.specs.Active.{active_under}
+use Rattle.board_lists.specs.Active.{active_in}
+use Rattle.board_lists.specs.Strangers.{under_id}
 use Rattle.board_lists.proofs.feeds.push_view.Given as goal
 
-abbrev pub invariant-loop-id : goal.invariant-loop-id
-invariant-loop-id l =
-    l.out.items ≡ l.initial.out.items ++ flat_map (active_under l.at l.feed l.table) (take l.id-index l.id-items)
+abbrev pub invariant-loop-stored : goal.invariant-loop-stored
+invariant-loop-stored l =
+    l.out.items ++ flat_map (λ stored. active_in l.at l.feed (under_id stored)) l.stored-iterator
+    ≡ l.initial.out.items ++ flat_map (λ stored. active_in l.at l.feed (under_id stored)) l.initial.stored-iterator

@@ -6,4 +6,4 @@ use Rattle.entity_table.proofs.TableLemmas.{change_of}
 use Rattle.entity_table.proofs.changes.apply.Given as goal
 
 abbrev pub invariant-loop-entity : goal.invariant-loop-entity
-invariant-loop-entity l = fold changes_with l.list (map (change_of l.stamp) (drop l.entity-index l.entity-items)) ≡ fold changes_with l.initial.list (map (change_of l.stamp) l.entity-items)
+invariant-loop-entity l = fold changes_with l.next (map (change_of l.stamp) (drop l.entity-index l.entity-items)) ≡ fold changes_with l.initial.next (map (change_of l.stamp) l.entity-items)

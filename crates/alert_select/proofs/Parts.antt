@@ -1,0 +1,134 @@
+-- A part of what a feed holds goes from message to message by itself.
+use Rattle.std.proofs.Common.{◌≡◌, ℕ, ◌≤◌, List, [], ◌∷◌, Bool, true, false, cond, Option, Some, None, length, drop, map, refl, sym, ap, ◌∙◌, subst}
+use Rattle.std.specs.Prelude.{T, filter, fold, not, if◌then◌else◌}
+use Rattle.std.specs.Str.{bytes_eq}
+use Rattle.std.specs.Ordering.{is_lt, is_eq, eq_by_cmp}
+use Rattle.std.specs.declared.cmp.Ordering.{Ordering}
+use Rattle.std.specs.declared.cmp.Ordering.TheVariants.{Less, Equal, Greater}
+use Rattle.std.specs.FinMap.{find, put, is_sorted, slice_cmp-IsAntisymmetric, nat_cmp-IsAntisymmetric}
+use Rattle.std.specs.FinMap.Entries.{below_all, find-put, is_sorted-where_key, same_entries}
+use Rattle.std.proofs.lemmas.Cmp.{nat_list_cmp_total}
+use Rattle.rt_types.specs.declared.message.Entity.{Entity}
+use Rattle.rt_types.specs.declared.message.FeedMessage.{FeedMessage}
+use Rattle.feed_defs.specs.declared.history.Stored.{Stored}
+use Rattle.feed_defs.specs.History.{Change, is_full, is_kept, stamp_of, changes_in, changes_with, changes_without, entities_after}
+use Rattle.feed_defs.proofs.Applied.{sorted_filter, sorted_changed, find-without}
+use Rattle.feed_defs.proofs.Kept.{id_cmp, left, right}
+use Rattle.entity_table.proofs.TableLemmas.{change_of, all_stepped}
+use Rattle.alert_select.specs.FeedAlerts.{has_alert, alerts_of, alerts_with}
+
+less_not_equal : (o : Ordering) → T (is_lt o) → is_eq o ≡ false
+less_not_equal Less p = refl
+less_not_equal Equal p = absurd p
+less_not_equal Greater p = absurd p
+
+equal : (o : Ordering) → is_eq o ≡ true → o ≡ Equal
+equal Less e = cc
+equal Equal e = refl
+equal Greater e = cc
+
+-- what a change leaves under its own id
+abbrev left_of : Change → Option Stored
+left_of c = if is_kept c then Some c.1 else None
+
+find_changed : (q : List ℕ) (es : List Change) (c : Change) → find id_cmp q (changes_with es c) ≡ cond (eq_by_cmp id_cmp q c.0) (left_of c) (find id_cmp q es)
+find_changed q es c = by_kind (is_kept c)
+  where
+    by_kind : (b : Bool) → find id_cmp q (if b then put id_cmp c.0 c.1 es else changes_without c.0 es) ≡ cond (eq_by_cmp id_cmp q c.0) (if b then Some c.1 else None) (find id_cmp q es)
+    by_kind true = find-put id_cmp nat_list_cmp_total q c.0 c.1 es
+    by_kind false = find-without q c.0 es
+
+-- the part of which a test holds
+module _ (test : Stored → Bool) where
+  abbrev is_in : Change → Bool
+  is_in change = test change.1
+
+  abbrev part_with : List Change → Change → List Change
+  part_with part c = if test c.1 then changes_with part c else changes_without c.0 part
+
+  -- an id below all is not found among a part of them
+  below_none : (q : List ℕ) (es : List Change) → T (below_all id_cmp q es) → find id_cmp q (filter is_in es) ≡ None
+  below_none q [] h = refl
+  below_none q (e ∷ es) h = by_test (is_in e) (below_none q es (right _ _ h))
+    where
+      by_test : (b : Bool) → find id_cmp q (filter is_in es) ≡ None → find id_cmp q (cond b (e ∷ filter is_in es) (filter is_in es)) ≡ None
+      by_test true rest = ap (λ b. cond b (Some e.1) (find id_cmp q (filter is_in es))) (less_not_equal _ (left _ _ h)) ∙ rest
+      by_test false rest = rest
+
+  abbrev only : Option Stored → Option Stored
+  only None = None
+  only (Some s) = if test s then Some s else None
+
+  find_only : (q : List ℕ) (es : List Change) → T (is_sorted id_cmp es) → find id_cmp q (filter is_in es) ≡ only (find id_cmp q es)
+  find_only q [] h = refl
+  find_only q (e ∷ es) h = by_tie (find_only q es (right _ _ h)) (eq_by_cmp id_cmp q e.0) refl (is_in e) refl
+    where
+      gone : eq_by_cmp id_cmp q e.0 ≡ true → find id_cmp q (filter is_in es) ≡ None
+      gone tie = subst (λ x. find id_cmp x (filter is_in es) ≡ None) (sym (slice_cmp-IsAntisymmetric nat_cmp-IsAntisymmetric q e.0 (equal _ tie))) (below_none e.0 es (left _ _ h))
+
+      by_tie : find id_cmp q (filter is_in es) ≡ only (find id_cmp q es) → (t : Bool) → eq_by_cmp id_cmp q e.0 ≡ t → (k : Bool) → is_in e ≡ k → find id_cmp q (cond k (e ∷ filter is_in es) (filter is_in es)) ≡ only (cond t (Some e.1) (find id_cmp q es))
+      by_tie rest true tie true kept = ap (λ b. cond b (Some e.1) (find id_cmp q (filter is_in es))) tie ∙ ap (λ b. if b then Some e.1 else None) (sym kept)
+      by_tie rest true tie false kept = gone tie ∙ ap (λ b. if b then Some e.1 else None) (sym kept)
+      by_tie rest false tie true kept = ap (λ b. cond b (Some e.1) (find id_cmp q (filter is_in es))) tie ∙ rest
+      by_tie rest false tie false kept = rest
+
+  sorted_part : (part : List Change) (c : Change) → T (is_sorted id_cmp part) → T (is_sorted id_cmp (part_with part c))
+  sorted_part part c h = elim (test c.1) as (λ b. T (is_sorted id_cmp (if b then changes_with part c else changes_without c.0 part))) [
+    | true ↦ sorted_changed part c h
+    | false ↦ is_sorted-where_key id_cmp (λ id. not (bytes_eq c.0 id)) part h
+  ]
+
+  -- the part of what a change makes is what the change makes of the part
+  part_changed : (es : List Change) (c : Change) → T (is_sorted id_cmp es) → filter is_in (changes_with es c) ≡ part_with (filter is_in es) c
+  part_changed es c h =
+      same_entries id_cmp nat_list_cmp_total (slice_cmp-IsAntisymmetric nat_cmp-IsAntisymmetric) _ _
+      (sorted_filter is_in (changes_with es c) (sorted_changed es c h))
+      (sorted_part (filter is_in es) c (sorted_filter is_in es h))
+      (λ q. find_only q (changes_with es c) (sorted_changed es c h)
+      ∙ ap only (find_changed q es c)
+      ∙ by_test q (test c.1) refl (eq_by_cmp id_cmp q c.0) refl)
+    where
+      taken : test c.1 ≡ true → (b : Bool) → only (if b then Some c.1 else None) ≡ (if b then Some c.1 else None)
+      taken has true = ap (λ b. if b then Some c.1 else None) has
+      taken has false = refl
+
+      let_go : test c.1 ≡ false → (b : Bool) → only (if b then Some c.1 else None) ≡ None
+      let_go has true = ap (λ b. if b then Some c.1 else None) has
+      let_go has false = refl
+
+      by_test : (q : List ℕ) (b : Bool) → test c.1 ≡ b → (t : Bool) → eq_by_cmp id_cmp q c.0 ≡ t
+          → only (cond t (left_of c) (find id_cmp q es)) ≡ find id_cmp q (if b then changes_with (filter is_in es) c else changes_without c.0 (filter is_in es))
+      by_test q true has true tie =
+          taken has (is_kept c)
+          ∙ ap (λ b. cond b (left_of c) (find id_cmp q (filter is_in es))) (sym tie)
+          ∙ sym (find_changed q (filter is_in es) c)
+      by_test q true has false tie =
+          sym (find_only q es h)
+          ∙ ap (λ b. cond b (left_of c) (find id_cmp q (filter is_in es))) (sym tie)
+          ∙ sym (find_changed q (filter is_in es) c)
+      by_test q false has true tie =
+          let_go has (is_kept c)
+          ∙ ap (λ b. cond b None (find id_cmp q (filter is_in es))) (sym tie)
+          ∙ sym (find-without q c.0 (filter is_in es))
+      by_test q false has false tie =
+          sym (find_only q es h)
+          ∙ ap (λ b. cond b None (find id_cmp q (filter is_in es))) (sym tie)
+          ∙ sym (find-without q c.0 (filter is_in es))
+
+  -- so it is for changes one after another
+  part_folds : (cs es : List Change) → T (is_sorted id_cmp es) → filter is_in (fold changes_with es cs) ≡ fold part_with (filter is_in es) cs
+  part_folds [] es h = refl
+  part_folds (c ∷ cs) es h = part_folds cs (changes_with es c) (sorted_changed es c h) ∙ ap (λ xs. fold part_with xs cs) (part_changed es c h)
+
+-- when no entity is left, the alerts are those of what the feed then holds
+pub alerts_then : (now start old table : List Change) (stamp : ℕ) (m : FeedMessage) (items : List Entity) (i : ℕ) → T (is_sorted id_cmp table) → old ≡ alerts_of table → start ≡ (if is_full m then [] else old)
+    → length items ≤ i → items ≡ m.entity → stamp ≡ stamp_of m → fold alerts_with now (map (change_of stamp) (drop i items)) ≡ fold alerts_with start (map (change_of stamp) items) → now ≡ alerts_of (entities_after m table)
+unfolding entities_after
+alerts_then now start old table stamp m items i h are begun past all own so_far =
+    all_stepped alerts_with now start stamp m items i past all own so_far
+    ∙ ap (λ es. fold alerts_with es (changes_in m)) begun
+    ∙ by_kind (is_full m)
+  where
+    by_kind : (b : Bool) → fold alerts_with (if b then [] else old) (changes_in m) ≡ alerts_of (fold changes_with (if b then [] else table) (changes_in m))
+    by_kind true = sym (part_folds has_alert (changes_in m) [] tt)
+    by_kind false = ap (λ es. fold alerts_with es (changes_in m)) are ∙ sym (part_folds has_alert (changes_in m) table h)

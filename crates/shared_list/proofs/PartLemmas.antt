@@ -1,0 +1,283 @@
+-- The laws of parts at parts that are shared.
+use Rattle.std.proofs.Common.{◌≡◌, ℕ, zero, suc, ◌+◌, ◌-◌, ◌<◌, ◌≤◌, List, [], ◌∷◌, ◌++◌, Ok, Err, length, map, take, drop, get_or, set, refl, sym, ap, ◌∙◌, subst, arith, append-nil, Bool, false, nat_eq, Less, Equal, Greater}
+use Rattle.std.specs.Prelude.{T, insert, remove}
+use Rattle.std.specs.FinMap.{find, put, is_sorted}
+use Rattle.std.specs.List.{flat_map, HoldsAt, AllByRecursion}
+use Rattle.std.specs.List.Sorted.{IsNonDecreasingBy, IsPartitionPoint}
+use Rattle.std.specs.Ordering.{ordering_index}
+use Rattle.std.specs.declared.sync.Arc.{Arc}
+use Rattle.std.specs.declared.alloc.Global.{Global}
+use Rattle.std.proofs.Math.Dec.{eqb-suc-zero}
+use Rattle.std.proofs.lemmas.Grind.{flat_map-append}
+use Rattle.std.proofs.lemmas.List.{length-map, map-append, map-set}
+use Rattle.shared_list.specs.Order.{key_cmp, entries, all_entries, without, lead, AllBelow, AllAbove, IsGap, IsAt, IsHome, Rises, AreParts}
+use Rattle.shared_list.specs.Parts.{parts_of, items_in, AreSound, TellsLeft}
+use Rattle.shared_list.proofs.Places.{searched, IsAt-map, IsGap-map, Rises-map}
+use Rattle.shared_list.proofs.Each.{each_front, each_back, each_at, each_set, each_insert, each_remove, each_before, each_behind, remove_set}
+use Rattle.shared_list.proofs.Homes.{Rises-leads, Rises-part, home_at, home_before, home_first, put_home, put_home_split, without_home, without_home_all, find_home}
+
+abbrev Share : Type 0 → Type 0
+Share P = Arc P Global
+
+-- ---- two keys that are the same for each element
+
+module _ {X : Type 0} (f g : X → List ℕ) where
+  entries_same : (xs : List X) → AllByRecursion (λ x. f x ≡ g x) xs → entries f xs ≡ entries g xs
+  entries_same [] all = refl
+  entries_same (x ∷ xs) all = ap (λ k. (k, x) ∷ entries f xs) all.0 ∙ ap (λ es. (g x, x) ∷ es) (entries_same xs all.1)
+
+  front_same : (n : ℕ) (xs : List X) → AllByRecursion (λ x. f x ≡ g x) xs → entries f (take n xs) ≡ entries g (take n xs)
+  front_same n xs all = entries_same (take n xs) (each_front (λ x. f x ≡ g x) n xs all)
+
+  back_same : (n : ℕ) (xs : List X) → AllByRecursion (λ x. f x ≡ g x) xs → entries f (drop n xs) ≡ entries g (drop n xs)
+  back_same n xs all = entries_same (drop n xs) (each_back (λ x. f x ≡ g x) n xs all)
+
+  IsAt-same : (k : List ℕ) (xs : List X) (i : ℕ) → AllByRecursion (λ x. f x ≡ g x) xs → IsAt f k xs i → IsAt g k xs i
+  IsAt-same k xs i all at = record {
+    within = at.within;
+    before = subst (λ es. AllBelow k es) (front_same i xs all) at.before;
+    here = λ d. subst (λ y. key_cmp k y ≡ Equal) (each_at (λ x. f x ≡ g x) i xs d at.within all) (at.here d);
+    behind = subst (λ es. AllAbove k es) (back_same (suc i) xs all) at.behind;
+  }
+
+  IsGap-same : (k : List ℕ) (xs : List X) (i : ℕ) → AllByRecursion (λ x. f x ≡ g x) xs → IsGap f k xs i → IsGap g k xs i
+  IsGap-same k xs i all gap = record {
+    within = gap.within;
+    before = subst (λ es. AllBelow k es) (front_same i xs all) gap.before;
+    behind = subst (λ es. AllAbove k es) (back_same i xs all) gap.behind;
+  }
+
+-- ---- parts that are shared are a list of lists
+
+joined_entries : {X : Type 0} (key : X → List ℕ) (parts : List (List X)) → entries key (flat_map (λ part. part) parts) ≡ all_entries key parts
+joined_entries key [] = refl
+joined_entries key (part ∷ parts) = map-append (λ x. (key x, x)) part (flat_map (λ p. p) parts) ∙ ap (λ es. entries key part ++ es) (joined_entries key parts)
+
+-- the items of the entries, and the entries of these
+pub items_entries : {X : Type 0} (key : X → List ℕ) (xs : List X) → map (λ e. e.1) (entries key xs) ≡ xs
+items_entries key [] = refl
+items_entries key (x ∷ xs) = ap (λ ys. x ∷ ys) (items_entries key xs)
+
+pub keyed_entries : {X : Type 0} (key : X → List ℕ) (xs : List X) → entries key (map (λ e. e.1) (entries key xs)) ≡ entries key xs
+keyed_entries key xs = ap (entries key) (items_entries key xs)
+
+module _ {P X : Type 0} (items : P → List X) where
+  take_parts : (n : ℕ) (shares : List (Share P)) → parts_of items (take n shares) ≡ take n (parts_of items shares)
+  take_parts zero shares = refl
+  take_parts (suc n) [] = refl
+  take_parts (suc n) (share ∷ shares) = ap (λ parts. items share.value ∷ parts) (take_parts n shares)
+
+  drop_parts : (n : ℕ) (shares : List (Share P)) → parts_of items (drop n shares) ≡ drop n (parts_of items shares)
+  drop_parts zero shares = refl
+  drop_parts (suc n) [] = refl
+  drop_parts (suc n) (share ∷ shares) = drop_parts n shares
+
+  set_parts : (shares : List (Share P)) (i : ℕ) (share : Share P) → parts_of items (set shares i share) ≡ set (parts_of items shares) i (items share.value)
+  set_parts shares i share = map-set (λ s. items s.value) shares i share
+
+  insert_parts : (shares : List (Share P)) (i : ℕ) (share : Share P) → parts_of items (insert shares i share) ≡ insert (parts_of items shares) i (items share.value)
+  insert_parts shares i share =
+      map-append (λ s. items s.value) (take i shares) (share ∷ drop i shares)
+      ∙ ap (λ front. front ++ items share.value ∷ parts_of items (drop i shares)) (take_parts i shares)
+      ∙ ap (λ back. take i (parts_of items shares) ++ items share.value ∷ back) (drop_parts i shares)
+
+  remove_parts : (shares : List (Share P)) (i : ℕ) → parts_of items (remove shares i) ≡ remove (parts_of items shares) i
+  remove_parts shares i =
+      map-append (λ s. items s.value) (take i shares) (drop (suc i) shares)
+      ∙ ap (λ front. front ++ parts_of items (drop (suc i) shares)) (take_parts i shares)
+      ∙ ap (λ back. take i (parts_of items shares) ++ back) (drop_parts (suc i) shares)
+
+  part_at : (shares : List (Share P)) (i : ℕ) (share : Share P) → i < length (parts_of items shares) → share ≡ get_or shares i share → items share.value ≡ get_or (parts_of items shares) i []
+  part_at [] i share h is = absurd (omega arith)
+  part_at (s ∷ shares) zero share h is = ap (λ x. items x.value) is
+  part_at (s ∷ shares) (suc i) share h is = part_at shares i share (omega arith) is
+
+  join_parts : (front back whole : List (Share P)) → front ++ back ≡ whole → items_in items front ++ items_in items back ≡ items_in items whole
+  join_parts front back whole is =
+      sym (flat_map-append (λ part. part) (parts_of items front) (parts_of items back))
+      ∙ ap (flat_map (λ part. part)) (sym (map-append (λ s. items s.value) front back))
+      ∙ ap (items_in items) is
+
+-- ---- where the key stands
+
+module _ {P X : Type 0} (key : X → List ℕ) (items : P → List X) (sound : P → Type 0) where
+  filled_parts : (shares : List (Share P)) → AreSound items sound shares → AllByRecursion (λ part. 0 < length part) (parts_of items shares)
+  filled_parts [] are = tt
+  filled_parts (share ∷ shares) are = (are.0.1, filled_parts shares are.1)
+
+  AreParts-shares : (shares : List (Share P)) → AreSound items sound shares → Rises key (items_in items shares) → AreParts key (parts_of items shares)
+  AreParts-shares shares are up = record {
+    sorted = subst (λ es. T (is_sorted key_cmp es)) (joined_entries key (parts_of items shares)) up.sorted;
+    filled = filled_parts shares are;
+  }
+
+  module _ (first_key : P → List ℕ) (leads : (part : P) → sound part → first_key part ≡ lead key (items part)) (k : List ℕ) (shares : List (Share P)) (are : AreSound items sound shares) (up : Rises key (items_in items shares)) where
+    parts : AreParts key (parts_of items shares)
+    parts = AreParts-shares shares are up
+
+    by_leads : (ss : List (Share P)) → AreSound items sound ss → AllByRecursion (λ share. first_key share.value ≡ lead key (items share.value)) ss
+    by_leads [] are = tt
+    by_leads (s ∷ ss) are = (leads s.value are.0.0, by_leads ss are.1)
+
+    leads_up : Rises (λ share. first_key share.value) shares
+    leads_up =
+        let up = Rises-map (lead key) (λ share. items share.value) shares (Rises-leads key (parts_of items shares) parts) in
+        record { sorted = subst (λ es. T (is_sorted key_cmp es)) (sym (entries_same (λ share. first_key share.value) (λ share. lead key (items share.value)) shares (by_leads shares are))) up.sorted }
+
+    -- the part whose first key is the key
+    pub home_found : (i : ℕ) → i < length shares → HoldsAt (λ share. key_cmp (first_key share.value) k ≡ Equal) shares i → IsHome key k (parts_of items shares) i
+    home_found i h found =
+        home_at key k (parts_of items shares) i parts
+        (IsAt-map (lead key) (λ share. items share.value) k shares i
+        (IsAt-same (λ share. first_key share.value) (λ share. lead key (items share.value)) k shares i (by_leads shares are)
+        (searched (λ share. first_key share.value) shares leads_up k (Ok i) h found)))
+
+    -- else the one before the first whose first key is above it
+    pub home_missed : (i at : ℕ) → at ≡ i - 1 → 0 < length shares → i ≤ length shares → (IsNonDecreasingBy (λ share. ordering_index (key_cmp (first_key share.value) k)) shares → IsPartitionPoint (λ share. key_cmp (first_key share.value) k ≡ Less) (λ share. key_cmp (first_key share.value) k ≡ Greater) shares i) → IsHome key k (parts_of items shares) at
+    home_missed i at is some h split =
+        by_place i is
+        (IsGap-map (lead key) (λ share. items share.value) k shares i
+        (IsGap-same (λ share. first_key share.value) (λ share. lead key (items share.value)) k shares i (by_leads shares are)
+        (searched (λ share. first_key share.value) shares leads_up k (Err i) h split)))
+      where
+        long : length (parts_of items shares) ≡ length shares
+        long = length-map shares (λ share. items share.value)
+
+        by_place : (n : ℕ) → at ≡ n - 1 → IsGap (lead key) k (parts_of items shares) n → IsHome key k (parts_of items shares) at
+        by_place zero e gap = let first : at ≡ 0 = omega arith in let l = long in subst (λ m. IsHome key k (parts_of items shares) m) (sym first) (home_first key k (parts_of items shares) parts (omega arith) gap)
+        by_place (suc n) e gap = let before : at ≡ n = omega arith in subst (λ m. IsHome key k (parts_of items shares) m) (sym before) (home_before key k (parts_of items shares) n parts gap.within gap)
+
+  -- ---- the part at its home, and what a change of it makes of all
+
+  module _ (k : List ℕ) (shares : List (Share P)) (i : ℕ) (here : Share P) (home : IsHome key k (parts_of items shares) i) (seen : here ≡ get_or shares i here) where
+    pub sound_here : AreSound items sound shares → sound here.value
+    sound_here are =
+        let long : length (parts_of items shares) ≡ length shares = length-map shares (λ share. items share.value) in
+        let h = home.within in
+        subst (λ share. sound share.value) (sym seen) (each_at (λ share. (sound share.value) × (0 < length (items share.value))) i shares here (omega arith) are).0
+
+    pub Rises-here : AreSound items sound shares → Rises key (items_in items shares) → Rises key (items here.value)
+    Rises-here are up =
+        subst (λ xs. Rises key xs) (sym (part_at items shares i here home.within seen))
+        (Rises-part key (parts_of items shares) i [] (AreParts-shares shares are up) home.within)
+
+    pub find_here : find key_cmp k (entries key (items here.value)) ≡ find key_cmp k (entries key (items_in items shares))
+    find_here =
+        ap (λ xs. find key_cmp k (entries key xs)) (part_at items shares i here home.within seen)
+        ∙ sym (find_home key k (parts_of items shares) i [] home)
+        ∙ ap (find key_cmp k) (sym (joined_entries key (parts_of items shares)))
+
+    -- an item more, or another in its place
+    pub put_kept : (x : X) (after : Share P) → entries key (items after.value ++ []) ≡ put key_cmp k x (entries key (items here.value)) → entries key (items_in items (set shares i after)) ≡ put key_cmp k x (entries key (items_in items shares))
+    put_kept x after is =
+        joined_entries key (parts_of items (set shares i after))
+        ∙ ap (all_entries key) (set_parts items shares i after)
+        ∙ put_home key k x (parts_of items shares) i [] (items after.value) home
+        (ap (entries key) (sym (append-nil (items after.value))) ∙ is ∙ ap (λ xs. put key_cmp k x (entries key xs)) (part_at items shares i here home.within seen))
+        ∙ ap (put key_cmp k x) (sym (joined_entries key (parts_of items shares)))
+
+    -- the same, and the back of the part is cut off
+    pub put_cut : (x : X) (after behind : Share P) (rest : P) (j : ℕ) → j ≡ i + 1 → behind.value ≡ rest → entries key (items after.value ++ items rest) ≡ put key_cmp k x (entries key (items here.value)) → entries key (items_in items (insert (set shares i after) j behind)) ≡ put key_cmp k x (entries key (items_in items shares))
+    put_cut x after behind rest j next held is =
+        joined_entries key (parts_of items (insert (set shares i after) j behind))
+        ∙ ap (all_entries key) (insert_parts items (set shares i after) j behind)
+        ∙ ap (λ parts. all_entries key (insert parts j (items behind.value))) (set_parts items shares i after)
+        ∙ put_home_split key k x (parts_of items shares) i j [] (items after.value) (items behind.value) home (omega arith)
+        (sym (map-append (λ y. (key y, y)) (items after.value) (items behind.value))
+        ∙ ap (λ part. entries key (items after.value ++ items part)) held
+        ∙ is
+        ∙ ap (λ xs. put key_cmp k x (entries key xs)) (part_at items shares i here home.within seen))
+        ∙ ap (put key_cmp k x) (sym (joined_entries key (parts_of items shares)))
+
+    taken_there : (after : Share P) → entries key (items after.value) ≡ without k (entries key (items here.value)) → entries key (items after.value) ≡ without k (entries key (get_or (parts_of items shares) i []))
+    taken_there after is = is ∙ ap (λ xs. without k (entries key xs)) (part_at items shares i here home.within seen)
+
+    -- an item less
+    pub without_kept : (after : Share P) → entries key (items after.value) ≡ without k (entries key (items here.value)) → entries key (items_in items (set shares i after)) ≡ without k (entries key (items_in items shares))
+    without_kept after is =
+        joined_entries key (parts_of items (set shares i after))
+        ∙ ap (all_entries key) (set_parts items shares i after)
+        ∙ without_home key k (parts_of items shares) i [] (items after.value) home (taken_there after is)
+        ∙ ap (without k) (sym (joined_entries key (parts_of items shares)))
+
+    -- the same, and the part in which nothing is left goes
+    pub without_gone : (after : Share P) (rest : List (Share P)) → rest ≡ remove (set shares i after) i → items after.value ≡ [] → entries key (items after.value) ≡ without k (entries key (items here.value)) → entries key (items_in items rest) ≡ without k (entries key (items_in items shares))
+    without_gone after rest gone none is =
+        ap (λ ss. entries key (items_in items ss)) (gone ∙ remove_set shares i after)
+        ∙ joined_entries key (parts_of items (remove shares i))
+        ∙ ap (all_entries key) (remove_parts items shares i)
+        ∙ without_home_all key k (parts_of items shares) i [] home (ap (entries key) (sym none) ∙ taken_there after is)
+        ∙ ap (without k) (sym (joined_entries key (parts_of items shares)))
+
+-- ---- parts stay sound
+
+module _ {P X : Type 0} (items : P → List X) (sound : P → Type 0) where
+  abbrev Good : Share P → Type 0
+  Good share = (sound share.value) × (0 < length (items share.value))
+
+  pub sound_set : (shares : List (Share P)) (i : ℕ) (share : Share P) → AreSound items sound shares → sound share.value → 0 < length (items share.value) → AreSound items sound (set shares i share)
+  sound_set shares i share are good some = each_set Good shares i share are (good, some)
+
+  pub sound_cut : (shares : List (Share P)) (i j : ℕ) (share behind : Share P) (rest : P) → AreSound items sound shares → sound share.value → 0 < length (items share.value) → behind.value ≡ rest → sound rest → 0 < length (items rest) → AreSound items sound (insert (set shares i share) j behind)
+  sound_cut shares i j share behind rest are good some held good_rest some_rest =
+      each_insert Good (set shares i share) j behind (sound_set shares i share are good some)
+      (subst (λ part. sound part) (sym held) good_rest, subst (λ part. 0 < length (items part)) (sym held) some_rest)
+
+  pub sound_gone : (shares rest : List (Share P)) (i : ℕ) (share : Share P) → rest ≡ remove (set shares i share) i → AreSound items sound shares → AreSound items sound rest
+  sound_gone shares rest i share gone are = subst (λ ss. AreSound items sound ss) (sym (gone ∙ remove_set shares i share)) (each_remove Good shares i are)
+
+  pub sound_front : (front back whole : List (Share P)) → front ++ back ≡ whole → AreSound items sound whole → AreSound items sound front
+  sound_front front back whole is are = each_before Good front back (subst (λ ss. AreSound items sound ss) (sym is) are)
+
+  pub sound_back : (front back whole : List (Share P)) → front ++ back ≡ whole → AreSound items sound whole → AreSound items sound back
+  sound_back front back whole is are = each_behind Good front back (subst (λ ss. AreSound items sound ss) (sym is) are)
+
+  -- parts have items
+  pub some_items : (shares : List (Share P)) → AreSound items sound shares → 0 < length shares → 0 < length (items_in items shares)
+  some_items [] are some = absurd (omega arith)
+  some_items (share ∷ shares) are some = before (items share.value) (items_in items shares) are.0.1
+    where
+      before : (front back : List X) → 0 < length front → 0 < length (front ++ back)
+      before [] back h = absurd (omega arith)
+      before (x ∷ xs) back h = omega arith
+
+  -- a node that was cut, where `whole` is what stands in it
+  pub put_halves : (key : X → List ℕ) (x : X) (old : List X) (front back whole : List (Share P)) → front ++ back ≡ whole → entries key (items_in items whole) ≡ put key_cmp (key x) x (entries key old) → entries key (items_in items front ++ items_in items back) ≡ put key_cmp (key x) x (entries key old)
+  put_halves key x old front back whole cut is = ap (entries key) (join_parts items front back whole cut) ∙ is
+
+  pub put_whole : (key : X → List ℕ) (x : X) (old : List X) (kept whole : List (Share P)) → kept ++ [] ≡ whole → entries key (items_in items whole) ≡ put key_cmp (key x) x (entries key old) → entries key (items_in items kept ++ []) ≡ put key_cmp (key x) x (entries key old)
+  put_whole key x old kept whole cut is = ap (entries key) (append-nil (items_in items kept) ∙ ap (items_in items) (sym (append-nil kept) ∙ cut)) ∙ is
+
+  -- whether parts are left tells whether items are
+  pub tells_left : (shares : List (Share P)) (n : ℕ) (b : Bool) → AreSound items sound shares → n ≡ length shares → b ≡ nat_eq n 0 → TellsLeft b (items_in items shares)
+  tells_left [] n b are long is = subst (λ t. TellsLeft t (items_in items [])) (sym (is ∙ ap (λ m. nat_eq m 0) long)) refl
+  tells_left (share ∷ shares) n b are long is = subst (λ t. TellsLeft t (items_in items (share ∷ shares))) (sym (is ∙ ap (λ m. nat_eq m 0) long ∙ other (length shares))) (some_items (share ∷ shares) are (omega arith))
+    where
+      other : (m : ℕ) → nat_eq (suc m) 0 ≡ false
+      other m = eqb-suc-zero m
+
+  -- a list with one item more than none
+  pub only_item : (key : X → List ℕ) (x : X) (old new : List (Share P)) → old ≡ [] → entries key (items_in items new) ≡ put key_cmp (key x) x (entries key (items_in items old)) → items_in items new ≡ x ∷ []
+  only_item key x old new none is =
+      sym (items_entries key (items_in items new))
+      ∙ ap (map (λ e. e.1)) (is ∙ ap (λ shares. put key_cmp (key x) x (entries key (items_in items shares))) none)
+
+  -- ---- shares of the same values
+
+  pub items_same : (new old : List (Share P)) → map (λ share. share.value) new ≡ map (λ share. share.value) old → items_in items new ≡ items_in items old
+  items_same new old same = by_values new ∙ ap (flat_map items) same ∙ sym (by_values old)
+    where
+      by_values : (ss : List (Share P)) → items_in items ss ≡ flat_map items (map (λ share. share.value) ss)
+      by_values [] = refl
+      by_values (s ∷ ss) = ap (λ xs. items s.value ++ xs) (by_values ss)
+
+  pub sound_same : (new old : List (Share P)) → map (λ share. share.value) new ≡ map (λ share. share.value) old → AreSound items sound old → AreSound items sound new
+  sound_same new old same are = to_shares new (subst (λ parts. AllByRecursion (λ part. (sound part) × (0 < length (items part))) parts) (sym same) (to_values old are))
+    where
+      to_values : (ss : List (Share P)) → AreSound items sound ss → AllByRecursion (λ part. (sound part) × (0 < length (items part))) (map (λ share. share.value) ss)
+      to_values [] are = tt
+      to_values (s ∷ ss) are = (are.0, to_values ss are.1)
+
+      to_shares : (ss : List (Share P)) → AllByRecursion (λ part. (sound part) × (0 < length (items part))) (map (λ share. share.value) ss) → AreSound items sound ss
+      to_shares [] are = tt
+      to_shares (s ∷ ss) are = (are.0, to_shares ss are.1)

@@ -1,6 +1,0 @@
--- The items that were gone over are copied.
-use Rattle.std.proofs.Common.{◌≡◌, take}
-use Rattle.shared_list.proofs.items.copy_items.Given as goal
-
-abbrev pub invariant-loop-item : goal.invariant-loop-item
-invariant-loop-item g l = l.same.items ≡ take l.item-index l.items

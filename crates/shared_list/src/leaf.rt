@@ -1,0 +1,99 @@
+//! The lowest parts of a list: items in the order of their keys.
+
+ghost use Rattle.std.specs.Prelude.{◌≡◌, ◌<◌, length, OnOk, MatchResult};
+ghost use Rattle.std.specs.FinMap.{put};
+ghost use Rattle.shared_list.specs.Order.{key_cmp, entries, without, IsAt, IsGap, Rises};
+
+use crate::NoMemory;
+use crate::keyed::{Keyed, key_order};
+use crate::part::Part;
+use crate::split::split_off;
+use std::alloc::Global;
+use std::cmp::Ordering;
+
+/// Where the item with that key stands, or where it would.
+fn place<T: Keyed>(items: &[T], key: &str) -> Result<usize, usize>
+    requires { Rises T.key_of items.now }
+    ensures { MatchResult result (IsAt T.key_of key.now items.now)
+        (IsGap T.key_of key.now items.now) }
+{
+    items.binary_search_by(|item| key_order(item, key))
+}
+
+/// Puts the item in its place, which is that of the item with its key, if there is one.
+fn put_among<T: Keyed>(items: &mut Vec<T>, item: T) -> Result<(), NoMemory>
+    requires { Rises T.key_of items.old.items }
+    ensures put { OnOk result (entries T.key_of items.new.items
+        ≡ put key_cmp (T.key_of item) item (entries T.key_of items.old.items)) }
+    ensures filled { OnOk result (0 < length items.new.items) }
+{
+    match place(items.as_slice(), item.key()) {
+        Ok(at) => items[at] = item,
+        Err(at) => items.insert(at, item)?,
+    }
+    Ok(())
+}
+
+/// Takes the item with that key out, if there is one.
+fn take_among<T: Keyed>(items: &mut Vec<T>, key: &str)
+    requires { Rises T.key_of items.old.items }
+    ensures { entries T.key_of items.new.items
+        ≡ without key.now (entries T.key_of items.old.items) }
+{
+    if let Ok(at) = place(items.as_slice(), key) {
+        items.remove(at);
+    }
+}
+
+impl<T: Keyed> Part for Vec<T> {
+    type Item = T;
+
+    ghost use Rattle.std.specs.Prelude.{refl};
+    ghost use Rattle.shared_list.specs.Order.{lead};
+
+    ghost items = { λ leaf. leaf.items };
+
+    ghost sound = { λ leaf. Unit {0} };
+
+    ghost first_key = { λ leaf. lead T.key_of leaf.items };
+
+    fn of_one(alloc: Global, item: T) -> Result<Self, NoMemory> {
+        let mut items = Vec::new(alloc);
+        items.push(item)?;
+        Ok(items)
+    }
+
+    fn lead_order(&self, key: &str) -> Ordering {
+        match self.first() {
+            Some(item) => key_order(item, key),
+            None => "".cmp(key),
+        }
+    }
+
+    fn item_of(&self, key: &str) -> Option<&T> {
+        match place(self.as_slice(), key) {
+            Ok(at) => Some(&self[at]),
+            Err(_) => None,
+        }
+    }
+
+    fn copied(&self) -> Result<Self, NoMemory> {
+        let mut same = Vec::with_capacity(*self.allocator(), self.len())?;
+        for item in self {
+            same.push(item.copy()?)?;
+        }
+        Ok(same)
+    }
+
+    fn put_item(&mut self, item: T) -> Result<Option<Self>, NoMemory> {
+        put_among(self, item)?;
+        split_off(self)
+    }
+
+    fn take_out(&mut self, key: &str) -> Result<bool, NoMemory> {
+        take_among(self, key);
+        Ok(self.is_empty())
+    }
+
+    ghost leads = { λ leaf sound. refl };
+}

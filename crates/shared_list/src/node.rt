@@ -1,0 +1,67 @@
+//! The upper parts of a list: parts that several versions may share.
+
+use crate::NoMemory;
+use crate::part::Part;
+use crate::shared::{item_in, put_shared, share, take_out_shared};
+use crate::split::split_off;
+use std::alloc::Global;
+use std::cmp::Ordering;
+use std::sync::Arc;
+
+/// Parts one after another, in the order of their keys.
+#[derive(Drop)]
+pub(crate) struct Node<P> {
+    pub(crate) parts: Vec<Arc<P>>,
+}
+
+impl<P: Part> Part for Node<P> {
+    type Item = P::Item;
+
+    ghost use Rattle.shared_list.specs.Order.{lead};
+    ghost use Rattle.shared_list.specs.Parts.{items_in, AreSound, first_leads};
+
+    ghost items = { λ node. items_in P.items node.parts.items };
+
+    ghost sound = { λ node. AreSound P.items P.sound node.parts.items };
+
+    ghost first_key = { λ node. lead (λ part. P.first_key part.value) node.parts.items };
+
+    fn of_one(alloc: Global, item: P::Item) -> Result<Self, NoMemory> {
+        let mut parts = Vec::new(alloc);
+        put_shared(&mut parts, item)?;
+        Ok(Node { parts })
+    }
+
+    fn lead_order(&self, key: &str) -> Ordering {
+        match self.parts.first() {
+            Some(part) => part.lead_order(key),
+            None => "".cmp(key),
+        }
+    }
+
+    fn item_of(&self, key: &str) -> Option<&P::Item> {
+        item_in(self.parts.as_slice(), key)
+    }
+
+    fn copied(&self) -> Result<Self, NoMemory> {
+        Ok(Node {
+            parts: share(&self.parts)?,
+        })
+    }
+
+    fn put_item(&mut self, item: P::Item) -> Result<Option<Self>, NoMemory> {
+        put_shared(&mut self.parts, item)?;
+        match split_off(&mut self.parts)? {
+            Some(parts) => Ok(Some(Node { parts })),
+            None => Ok(None),
+        }
+    }
+
+    fn take_out(&mut self, key: &str) -> Result<bool, NoMemory> {
+        take_out_shared(&mut self.parts, key)?;
+        Ok(self.parts.is_empty())
+    }
+
+    ghost leads = { λ node sound.
+        first_leads P.Item.key_of P.items P.sound P.first_key P.leads node.parts.items sound };
+}

@@ -1,0 +1,74 @@
+//! What a part of a list is, whether items stand in it or parts again.
+
+ghost use Rattle.std.specs.Prelude.{◌≡◌, ℕ, ◌<◌, ◌++◌, List, [], ◌∷◌, length, IfSome, IfOk, OnOk};
+ghost use Rattle.std.specs.FinMap.{put, find};
+ghost use Rattle.std.specs.Option.{option_copied};
+ghost use Rattle.shared_list.specs.Order.{key_cmp, entries, lead, without, Rises};
+ghost use Rattle.shared_list.specs.Parts.{items_if_some, TellsLeft};
+
+use crate::NoMemory;
+use crate::keyed::Keyed;
+use std::alloc::Global;
+use std::cmp::Ordering;
+
+/// A part of a list: some items in the order of their keys.
+pub(crate) trait Part: Drop {
+    /// What stands in it.
+    type Item: Keyed;
+
+    // Its items in order.
+    ghost items: { Self → List Self.Item };
+
+    // What holds of it beside the order of its items: no part within it is empty.
+    ghost sound: { Self → Type 0 };
+
+    // The key by which it is found: that of its first item.
+    ghost first_key: { Self → List ℕ };
+
+    /// A part with that one item.
+    fn of_one(alloc: Global, item: Self::Item) -> Result<Self, NoMemory>
+        ensures items { IfOk result (λ part. items part ≡ item ∷ []) }
+        ensures sound { IfOk result (λ part. sound part) };
+
+    /// How its first key stands to another.
+    fn lead_order(&self, key: &str) -> Ordering
+        ensures { result ≡ key_cmp (first_key self.now) key.now };
+
+    /// The item with that key.
+    fn item_of(&self, key: &str) -> Option<&Self::Item>
+        requires sound { sound self.now }
+        requires rising { Rises Self.Item.key_of (items self.now) }
+        ensures { option_copied result
+            ≡ find key_cmp key.now (entries Self.Item.key_of (items self.entry.now)) };
+
+    /// A part with the same items, which shares with this one what it can.
+    fn copied(&self) -> Result<Self, NoMemory>
+        requires sound { sound self.now }
+        ensures items { IfOk result (λ same. items same ≡ items self.now) }
+        ensures sound { IfOk result (λ same. sound same) };
+
+    /// Puts the item in its place, and takes the back of the part off where it has become too long.
+    fn put_item(&mut self, item: Self::Item) -> Result<Option<Self>, NoMemory>
+        requires sound { sound self.old }
+        requires rising { Rises Self.Item.key_of (items self.old) }
+        ensures put { IfOk result (λ rest.
+            entries Self.Item.key_of (items self.new ++ items_if_some items rest)
+            ≡ put key_cmp (Self.Item.key_of item) item
+            (entries Self.Item.key_of (items self.old))) }
+        ensures front { OnOk result (0 < length (items self.new)) }
+        ensures sound { OnOk result (sound self.new) }
+        ensures back { IfOk result (λ rest. IfSome rest (λ back. 0 < length (items back))) }
+        ensures back_sound { IfOk result (λ rest. IfSome rest (λ back. sound back)) };
+
+    /// Takes the item with that key out, if there is one, and tells whether nothing is left.
+    fn take_out(&mut self, key: &str) -> Result<bool, NoMemory>
+        requires sound { sound self.old }
+        requires rising { Rises Self.Item.key_of (items self.old) }
+        ensures without { OnOk result (entries Self.Item.key_of (items self.new)
+            ≡ without key.now (entries Self.Item.key_of (items self.old))) }
+        ensures sound { OnOk result (sound self.new) }
+        ensures left { IfOk result (λ none_left. TellsLeft none_left (items self.new)) };
+
+    ghost leads: { (part : Self) → sound part
+        → first_key part ≡ lead Self.Item.key_of (items part) };
+}
