@@ -1,5 +1,5 @@
 -- What is told of a check, as the lines of its timetables are put together.
-use Rattle.std.proofs.Common.{◌≡◌, ◌∙◌, ℕ, ◌+◌, ◌≤◌, ◌<◌, refl, sym, ap, subst, List, [], ◌∷◌, ◌++◌, length, drop, Option, Some, None, Result, Ok, Err, Vec}
+use Rattle.std.proofs.Common.{◌≡◌, ◌∙◌, ℕ, ◌+◌, ◌≤◌, ◌<◌, refl, sym, ap, subst, List, [], ◌∷◌, ◌++◌, length, drop, Some, Result, Ok, Err, Vec}
 use Rattle.std.specs.declared.alloc.Global.{Global}
 use Rattle.std.specs.List.{slice_index_or}
 use Rattle.std.proofs.lemmas.List.{append-nil, at_drop_more, drop_all}
@@ -9,9 +9,10 @@ use Rattle.text_defs.specs.Cleaned.{line_feed}
 use Rattle.script_defs.specs.Output.{Output}
 use Rattle.hub_outside.specs.Files.{file_at}
 use Rattle.sched_types.specs.Timetable.{Timetable}
+use Rattle.load_defs.specs.declared.fault.LoadFault.{LoadFault}
 use Rattle.conf_defs.specs.declared.conf.HubConf.{HubConf}
 use Rattle.conf_defs.specs.declared.conf.ScheduleConf.{ScheduleConf}
-use Rattle.command_defs.specs.Checks.{check_output, check_lines, conf_in, counts_line, counts_lines, output_of_check, timetables}
+use Rattle.command_defs.specs.Checks.{check_output, check_lines, conf_in, counts_line, counts_lines, output_of_check, timetable_or_line, timetables}
 use Rattle.hub_load.specs.Told.{IsAsTold, Stored, TellsFault, plan_told, refusal_line, with_front}
 use Rattle.hub_load.specs.declared.fault.HubFault.{HubFault}
 use Rattle.hub_load.specs.declared.fault.HubFault.TheVariants.{Refused, FileFault, NoMemory}
@@ -32,7 +33,7 @@ front_step old new (Err l) more h = absurd (err_ok l new h)
     err_ok x y e = cc
 
 -- a schedule, and those behind it
-item_left : (all : List ScheduleConf) (k : ℕ) (s : ScheduleConf) → k < length all → s ≡ slice_index_or all k s → drop k all ≡ s ∷ drop (k + 1) all
+pub item_left : (all : List ScheduleConf) (k : ℕ) (s : ScheduleConf) → k < length all → s ≡ slice_index_or all k s → drop k all ≡ s ∷ drop (k + 1) all
 item_left all k s lt is = at_drop_more (λ xs. xs) all k s lt ∙ ap (λ x. x ∷ drop (k + 1) all) (sym is)
 
 -- what is told of all schedules is what is told of those that are left, behind the lines so far
@@ -73,6 +74,15 @@ lines_are files [] = refl
 lines_are files (s ∷ more) =
     ap (λ r. line_for files s >>= λ line. with_front line r) (lines_are files more)
     ∙ bind_lines s more (plan_told files s) (timetables files more)
+
+-- a line that was put behind others is that of a timetable that is there
+pub line_there : (name : List ℕ) (told : Result Timetable LoadFault) (make : Timetable → List ℕ) (old new : List ℕ) → with_front old (timetable_or_line name told >>= λ t. Ok (make t)) ≡ Ok new
+    → (t : Timetable) × (told ≡ Ok t)
+line_there name (Ok t) make old new e = (t, refl)
+line_there name (Err fault) make old new e = absurd (none _ new e)
+  where
+    none : (x y : List ℕ) → ◌≡◌ {A = Result (List ℕ) (List ℕ)} (Err x) (Ok y) → ⊥
+    none x y e = cc
 
 -- ---- the whole check
 

@@ -1,6 +1,7 @@
 //! A configuration and its timetables.
 ghost use Rattle.std.specs.Prelude.{◌≡◌, IfSome};
 ghost use Rattle.command_defs.specs.Checks.{check_output};
+ghost use Rattle.hub_load.specs.Stops.{LoadingStopped, StopsWith};
 ghost use Rattle.hub_load.specs.Told.{HasCause};
 ghost use Rattle.hub_check.specs.Told.{Checks};
 
@@ -16,6 +17,8 @@ pub fn check<F: Files>(alloc: Global, files: &mut F, path: &str) -> Result<Vec<u
     ensures told { IfSome (F.contents files.old) (λ fs. Checks (check_output fs path.now) result) }
     ensures cause { HasCause result (F.faults files.old) (F.faults files.new) }
     ensures same { F.contents files.new ≡ F.contents files.old }
+    ensures stops { StopsWith result
+        (LoadingStopped (F.contents files.old) (F.last_fault files.new) path.now) }
 {
     let conf = conf_at(alloc, files, path)?;
     lines_of(alloc, files, conf.schedules.as_slice())

@@ -4,6 +4,7 @@ ghost use Rattle.std.specs.List.{list_all};
 ghost use Rattle.std.specs.String.{string_bytes};
 ghost use Rattle.conf_defs.specs.Right.{has_window};
 ghost use Rattle.command_defs.specs.Checks.{counts_line};
+ghost use Rattle.hub_load.specs.Stops.{PlanStopped, PlansStopped, StopsWith};
 ghost use Rattle.hub_load.specs.Told.{HasCause, IsAsTold};
 ghost use Rattle.hub_check.specs.Told.{Adds, line_for, lines_for, network_text, traffic_text};
 
@@ -25,6 +26,8 @@ pub(crate) fn lines_of<F: Files>(
         (λ fs. IsAsTold (λ lines. lines.items) (lines_for fs schedules.now) result) }
     ensures cause { HasCause result (F.faults files.old) (F.faults files.new) }
     ensures same { F.contents files.new ≡ F.contents files.old }
+    ensures stops { StopsWith result
+        (PlansStopped (F.contents files.old) (F.last_fault files.new) schedules.now) }
 {
     let mut lines = Vec::new(alloc);
     for schedule in schedules {
@@ -45,6 +48,8 @@ fn add_line<F: Files>(
         (λ fs. Adds (line_for fs schedule.now) lines.old.items lines.new.items result) }
     ensures cause { HasCause result (F.faults files.old) (F.faults files.new) }
     ensures same { F.contents files.new ≡ F.contents files.old }
+    ensures stops { StopsWith result
+        (PlanStopped (F.contents files.old) (F.last_fault files.new) schedule.now) }
 {
     let line = line_of(alloc, files, schedule)?;
     lines.extend_from_slice(line.as_slice())?;
@@ -62,6 +67,8 @@ fn line_of<F: Files>(
         (λ fs. IsAsTold (λ line. line.items) (line_for fs schedule.now) result) }
     ensures cause { HasCause result (F.faults files.old) (F.faults files.new) }
     ensures same { F.contents files.new ≡ F.contents files.old }
+    ensures stops { StopsWith result
+        (PlanStopped (F.contents files.old) (F.last_fault files.new) schedule.now) }
 {
     let plan = load_plan(alloc, files, schedule)?;
     Ok(counts_line(alloc, schedule.name.as_str(), &plan)?)

@@ -7,6 +7,7 @@ ghost use Rattle.conf_defs.specs.Lines.{line_of};
 ghost use Rattle.text_defs.specs.Cleaned.{line_feed};
 ghost use Rattle.conf_defs.specs.Right.{IsLegal, has_window};
 ghost use Rattle.command_defs.specs.Checks.{conf_in, conf_or_line};
+ghost use Rattle.hub_load.specs.Stops.{StopsWith};
 ghost use Rattle.hub_load.specs.Told.{HasCause, IsRefusedWith, IsConfRefusal, NeedsNoFile, IsAsTold};
 
 use crate::fault::HubFault;
@@ -28,6 +29,8 @@ pub fn conf_at<F: Files>(alloc: Global, files: &mut F, path: &str) -> Result<Hub
     ensures legal { IfOk result (λ conf. IsLegal conf) }
     ensures cause { HasCause result (F.faults files.old) (F.faults files.new) }
     ensures same { F.contents files.new ≡ F.contents files.old }
+    ensures stops { StopsWith result
+        (IfSome (F.last_fault files.new) (λ place. place ≡ path.now)) }
 {
     let mut bytes = Buf::new(alloc);
     match files.read_file(path, LONGEST_CONF, &mut bytes) {

@@ -4,6 +4,7 @@ ghost use Rattle.std.specs.List.{list_all};
 ghost use Rattle.conf_defs.specs.Right.{IsLegal, has_window};
 ghost use Rattle.command_defs.specs.Hubs.{configured_at, named_feed, schedules_at};
 ghost use Rattle.hub_load.specs.Configuring.{configured_seen};
+ghost use Rattle.hub_load.specs.Stops.{LoadingStopped, PlanStopped, PlansStopped, StopsWith};
 ghost use Rattle.hub_load.specs.Told.{HasCause, IsAsTold, named_plan_told, named_plans_told, schedules_told};
 
 use crate::conf::conf_at;
@@ -33,6 +34,8 @@ pub fn load_plans<F: Files>(alloc: Global, files: &mut F, path: &str) -> Result<
         (λ fs. IsAsTold (λ plans. plans) (schedules_at fs path.now) result) }
     ensures cause { HasCause result (F.faults files.old) (F.faults files.new) }
     ensures same { F.contents files.new ≡ F.contents files.old }
+    ensures stops { StopsWith result
+        (LoadingStopped (F.contents files.old) (F.last_fault files.new) path.now) }
 {
     let conf = conf_at(alloc, files, path)?;
     plans_of(alloc, files, conf)
@@ -51,6 +54,8 @@ pub fn load_configured<F: Files>(
     ensures legal { IfOk result (λ configured. IsLegal configured.conf) }
     ensures cause { HasCause result (F.faults files.old) (F.faults files.new) }
     ensures same { F.contents files.new ≡ F.contents files.old }
+    ensures stops { StopsWith result
+        (LoadingStopped (F.contents files.old) (F.last_fault files.new) path.now) }
 {
     let conf = conf_at(alloc, files, path)?;
     let copy = copied(&conf)?;
@@ -75,6 +80,8 @@ fn plans_of<F: Files>(alloc: Global, files: &mut F, conf: HubConf) -> Result<Pla
     ensures feeds { IfOk result (λ plans. plans.feeds ≡ map named_feed conf.feeds) }
     ensures cause { HasCause result (F.faults files.old) (F.faults files.new) }
     ensures same { F.contents files.new ≡ F.contents files.old }
+    ensures stops { StopsWith result
+        (PlansStopped (F.contents files.old) (F.last_fault files.new) conf.schedules) }
 {
     let plans = named_plans(alloc, files, conf.schedules.into_vec())?;
     let feeds = named_feeds(alloc, conf.feeds.into_vec())?;
@@ -94,6 +101,8 @@ fn named_plans<F: Files>(
         ≡ map (λ schedule. schedule.name) schedules.items) }
     ensures cause { HasCause result (F.faults files.old) (F.faults files.new) }
     ensures same { F.contents files.new ≡ F.contents files.old }
+    ensures stops { StopsWith result
+        (PlansStopped (F.contents files.old) (F.last_fault files.new) schedules.items) }
 {
     let mut plans = Vec::new(alloc);
     for schedule in schedules {
@@ -115,6 +124,8 @@ fn named_plan<F: Files>(
     ensures name { IfOk result (λ plan. plan.name ≡ schedule.name) }
     ensures cause { HasCause result (F.faults files.old) (F.faults files.new) }
     ensures same { F.contents files.new ≡ F.contents files.old }
+    ensures stops { StopsWith result
+        (PlanStopped (F.contents files.old) (F.last_fault files.new) schedule) }
 {
     let plan = load_plan(alloc, files, &schedule)?;
     Ok(NamedPlan {

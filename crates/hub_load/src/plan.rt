@@ -2,6 +2,7 @@
 ghost use Rattle.std.specs.Prelude.{◌≡◌, IfOk, IfSome, true};
 ghost use Rattle.conf_defs.specs.Right.{has_window};
 ghost use Rattle.command_defs.specs.Checks.{plan_conf};
+ghost use Rattle.hub_load.specs.Stops.{PlanStopped, StopsWith};
 ghost use Rattle.hub_load.specs.Told.{HasCause, IsAsTold, IsLoadRefusal, plan_told};
 
 use crate::fault::HubFault;
@@ -25,6 +26,8 @@ pub fn load_plan<F: Files>(
         (λ fs. IsAsTold (λ plan. plan) (plan_told fs schedule.now) result) }
     ensures cause { HasCause result (F.faults files.old) (F.faults files.new) }
     ensures same { F.contents files.new ≡ F.contents files.old }
+    ensures stops { StopsWith result
+        (PlanStopped (F.contents files.old) (F.last_fault files.new) schedule.now) }
 {
     let conf = conf_of(schedule)?;
     match load(alloc, files, schedule.folder.as_str(), &conf) {

@@ -9,6 +9,7 @@ use Rattle.std.proofs.lemmas.List.Elements.{All-nil}
 use Rattle.hub_outside.specs.Outside.{FileStore, Outside, Stream}
 use Rattle.sched_types.specs.Schedules.{Schedules}
 use Rattle.text_defs.specs.Cleaned.{line_feed}
+use Rattle.hub_load.specs.Stops.{LoadingStopped, StopsWith}
 use Rattle.hub_load.specs.Told.{HasCause, IsAsTold, NeedsNoFile, TellsFault, refusal_line}
 use Rattle.hub_load.specs.declared.fault.HubFault.{HubFault}
 use Rattle.hub_load.specs.declared.fault.HubFault.TheVariants.{Refused, FileFault, NoMemory}
@@ -22,7 +23,7 @@ use Rattle.command_defs.specs.Checks.{check_output, output_of_check}
 use Rattle.command_defs.specs.Commands.{board_output, file_fault_line, found_or_not, output_where_told, replay_output, usage, usage_line, with_schedules}
 use Rattle.command_defs.specs.Hubs.{schedules_at}
 use Rattle.command_defs.specs.Samples.{gen_output, sample_lines}
-use Rattle.hub_main.specs.Offline.{WritesLine, FilesRose, IsDone, IsRefusedWith, LoadFailed, OutcomeOf, PrintsFault, PrintsOutput, UsageOutcome, WritesTold, WritesWhole}
+use Rattle.hub_main.specs.Offline.{WritesLine, FileFailed, IsDone, IsRefusedWith, LoadFailed, OutcomeOf, PrintsFault, PrintsOutput, UsageOutcome, WritesTold, WritesWhole}
 
 -- the line for words that are no command
 pub usage_outcome : (status : ℕ) (output output' : Stream) → WritesLine usage_line 2 output output' status
@@ -409,23 +410,23 @@ refused_printed path line files files' status output output' is files_count (cou
 }
 
 -- the line of a file that can't be read
-file_fault_printed : (path : List ℕ) (files files' : FileStore) (status : ℕ) (output output' : Stream) → FilesRose files files' → files.faults ≤ files'.faults
+file_fault_printed : (path : List ℕ) (files files' : FileStore) (status : ℕ) (output output' : Stream) → FileFailed path files files' → files.faults ≤ files'.faults
     → WritesLine file_fault_line 4 output output' status
     → LoadFailed path files files' output output' status
-file_fault_printed path files files' status output output' rose files_count (count, inl (e, wrote)) = record {
+file_fault_printed path files files' status output output' failed files_count (count, inl (e, wrote)) = record {
   is_status = inr (inl e);
   refused = λ f. absurd (omega arith);
-  file_fault = λ _. (rose, wrote);
+  file_fault = λ _. (failed, wrote);
   output_fault = λ f. absurd (omega arith);
   no_memory = λ f. absurd (omega arith);
   files_count = files_count;
   output_count = count;
 }
-file_fault_printed path files files' status output output' rose files_count (count, inr (e, out_rose, cut)) = record {
+file_fault_printed path files files' status output output' failed files_count (count, inr (e, rose, cut)) = record {
   is_status = inr (inr (inl e));
   refused = λ f. absurd (omega arith);
   file_fault = λ f. absurd (omega arith);
-  output_fault = λ _. (out_rose, inl (rose, cut));
+  output_fault = λ _. (rose, inl (failed, cut));
   no_memory = λ f. absurd (omega arith);
   files_count = files_count;
   output_count = count;
@@ -440,10 +441,10 @@ refused_at path (Some fs) view line h = h
 -- what the fault of a loader, once it is printed, comes to
 pub load_failed : {A : Type 0} (path : List ℕ) (files files' : FileStore) (output output' : Stream) (status : ℕ) (view : A → Schedules) (fault : HubFault)
     → IfSome files.told (λ fs. IsAsTold view (schedules_at fs path) (Err fault)) → HasCause {B = A} (Err fault) files.faults files'.faults
-    → PrintsFault fault output output' status → LoadFailed path files files' output output' status
-load_failed path files files' output output' status view (Refused line) told cause printed =
+    → StopsWith {B = A} (Err fault) (LoadingStopped files.told files'.fault path) → PrintsFault fault output output' status → LoadFailed path files files' output output' status
+load_failed path files files' output output' status view (Refused line) told cause stops printed =
     refused_printed path line.items files files' status output output' (refused_at path files.told view line told) cause printed
-load_failed path files files' output output' status view FileFault told (count, rose) printed =
-    file_fault_printed path files files' status output output' rose count printed
-load_failed path files files' output output' status view NoMemory told cause (is, same) =
+load_failed path files files' output output' status view FileFault told (count, rose) stops printed =
+    file_fault_printed path files files' status output output' (rose, stops) count printed
+load_failed path files files' output output' status view NoMemory told cause stops (is, same) =
     subst (λ s. LoadFailed path files files' output output' s) (sym is) (load_short path files files' output output' cause same)

@@ -7,6 +7,7 @@ use Rattle.conf_defs.specs.Right.{IsLegal}
 use Rattle.conf_defs.specs.declared.conf.HubConf.{HubConf}
 use Rattle.command_defs.specs.Hubs.{configured_at, named_feed}
 use Rattle.hub_load.specs.Configuring.{configured_seen}
+use Rattle.hub_load.specs.Stops.{LoadingStopped, StopsWith}
 use Rattle.hub_load.specs.Told.{HasCause, IsAsTold}
 use Rattle.hub_load.specs.declared.fault.HubFault.{HubFault}
 use Rattle.hub_load.specs.declared.loading.Configured.{Configured}
@@ -43,7 +44,7 @@ loaded path files files' output configured (Status status) told feeds legal coun
 -- it was not, and the fault was printed
 pub not_loaded : (path : List ℕ) (files files' : FileStore) (output output' : Stream) (status : ℕ) (fault : HubFault)
     → IfSome files.told (λ fs. IsAsTold configured_seen (configured_at fs path) (Err fault)) → HasCause {B = Configured} (Err fault) files.faults files'.faults
-    → PrintsFault fault output output' status → PrepareOutcome (Some path) files files' output output' (Status status)
-not_loaded path files files' output output' status fault told cause printed =
+    → StopsWith {B = Configured} (Err fault) (LoadingStopped files.told files'.fault path) → PrintsFault fault output output' status → PrepareOutcome (Some path) files files' output output' (Status status)
+not_loaded path files files' output output' status fault told cause stops printed =
     load_failed path files files' output output' status (λ (c : Configured). c.plans) fault
-    (each_told files.told _ _ told (λ fs t. refused_without fs path fault t)) cause printed
+    (each_told files.told _ _ told (λ fs t. refused_without fs path fault t)) cause stops printed

@@ -6,6 +6,7 @@ use Rattle.std.specs.declared.sync.Arc.{Arc}
 use Rattle.std.specs.Io.KnownBytes.{Appends}
 use Rattle.hub_outside.specs.Count.{Rose}
 use Rattle.hub_outside.specs.Outside.{FileStore, Outside, Stream}
+use Rattle.hub_load.specs.Stops.{LoadingStopped}
 use Rattle.hub_load.specs.Told.{refusal_line}
 use Rattle.hub_load.specs.declared.fault.HubFault.{HubFault}
 use Rattle.hub_load.specs.declared.fault.HubFault.TheVariants.{Refused, FileFault, NoMemory}
@@ -35,12 +36,15 @@ abbrev pub GrewByFront : Stream → Stream → List ℕ → Type 0
 GrewByFront before after bytes =
     (n : ℕ) × (n < length bytes) × Appends before.told after.told (take n bytes)
 
--- the output failed, or a file could not be read: the count of faults rose
+-- the output failed: the count of faults rose
 abbrev pub OutputRose : Stream → Stream → Type 0
 OutputRose before after = Rose before.faults after.faults
 
-abbrev pub FilesRose : FileStore → FileStore → Type 0
-FilesRose before after = Rose before.faults after.faults
+-- A file could not be read while the configuration at a path and its timetables were loaded: the
+-- count of faults rose, and where the files tell which one it was, nothing before it is at fault.
+abbrev pub FileFailed : List ℕ → FileStore → FileStore → Type 0
+FileFailed path before after = Rose before.faults after.faults
+    × LoadingStopped before.told after.fault path
 
 -- bytes were written, with this status, or the output failed in the midst of them
 abbrev pub WritesLine : List ℕ → ℕ → Stream → Stream → ℕ → Type 0
@@ -57,10 +61,10 @@ pub record UsageOutcome (output output' : Stream) (status : ℕ) : Type 0 where
   pub output_count : output.faults ≤ output'.faults
 
 -- a front of what a check prints was written; of the line of a file that can't be read, only where
--- the files' count rose
+-- there is one
 abbrev pub CheckCut : List ℕ → FileStore → FileStore → Stream → Stream → Type 0
 CheckCut path files files' output output' =
-    FilesRose files files' × GrewByFront output output' file_fault_line
+    FileFailed path files files' × GrewByFront output output' file_fault_line
     ⊎ (text : List ℕ) × IfSome files.told (λ fs. (check_output fs path).written ≡ text)
     × GrewByFront output output' text
 
@@ -70,7 +74,7 @@ pub record CheckOutcome (path : List ℕ) (files files' : FileStore) (output out
   pub is_status : (status ≡ 0) ⊎ (status ≡ 3) ⊎ (status ≡ 4) ⊎ (status ≡ 5) ⊎ (status ≡ 6)
   pub whole : (status ≡ 0) ⊎ (status ≡ 3) → IfSome files.told (λ fs.
       Grew output output' (check_output fs path).written × (status ≡ (check_output fs path).status))
-  pub file_fault : status ≡ 4 → FilesRose files files' × Grew output output' file_fault_line
+  pub file_fault : status ≡ 4 → FileFailed path files files' × Grew output output' file_fault_line
   pub output_fault : status ≡ 5 → OutputRose output output'
       × CheckCut path files files' output output'
   pub no_memory : status ≡ 6 → Grew output output' []
@@ -91,7 +95,7 @@ IsRefusedWith path files line =
 -- a front was written of the line that refuses them, or of that of a file that can't be read
 abbrev pub LoadCut : List ℕ → FileStore → FileStore → Stream → Stream → Type 0
 LoadCut path files files' output output' =
-    FilesRose files files' × GrewByFront output output' file_fault_line
+    FileFailed path files files' × GrewByFront output output' file_fault_line
     ⊎ (line : List ℕ) × IsRefusedWith path files line × GrewByFront output output' line
 
 -- there is no hub: the configuration or a timetable is refused, or could not be read
@@ -100,7 +104,7 @@ pub record LoadFailed (path : List ℕ) (files files' : FileStore) (output outpu
   pub is_status : (status ≡ 3) ⊎ (status ≡ 4) ⊎ (status ≡ 5) ⊎ (status ≡ 6)
   pub refused : status ≡ 3 → (line : List ℕ) × IsRefusedWith path files line
       × Grew output output' line
-  pub file_fault : status ≡ 4 → FilesRose files files' × Grew output output' file_fault_line
+  pub file_fault : status ≡ 4 → FileFailed path files files' × Grew output output' file_fault_line
   pub output_fault : status ≡ 5 → OutputRose output output'
       × LoadCut path files files' output output'
   pub no_memory : status ≡ 6 → Grew output output' []

@@ -5,6 +5,7 @@ ghost use Rattle.std.specs.Option.{option_map};
 ghost use Rattle.board_defs.specs.Fold.{fold_of};
 ghost use Rattle.board_text_defs.specs.Answers.{board_answer};
 ghost use Rattle.command_defs.specs.Hubs.{schedules_at};
+ghost use Rattle.hub_load.specs.Stops.{LoadingStopped, StopsWith};
 ghost use Rattle.hub_load.specs.Told.{HasCause, IsAsTold};
 ghost use Rattle.hub_main.specs.Offline.{IsShare};
 ghost use Rattle.hub_words.specs.Answer.{asked_seen};
@@ -30,6 +31,8 @@ pub(crate) fn load_shared<F: Files>(
         (λ fs. IsAsTold arc_value (schedules_at fs path.now) result) }
     ensures cause { HasCause result (F.faults files.old) (F.faults files.new) }
     ensures same { F.contents files.new ≡ F.contents files.old }
+    ensures stops { StopsWith result
+        (LoadingStopped (F.contents files.old) (F.last_fault files.new) path.now) }
 {
     match load_plans(alloc, files, path) {
         Ok(plans) => shared(alloc, plans),

@@ -47,10 +47,10 @@ pub fn run_offline<F: Files, S: Source, K: Sink, C: Clock>(
     clock: &mut C,
 ) -> u8
     ensures outcome { OutcomeOf (command_of words.now)
-        (outside (file_store (F.contents files.old) (F.faults files.old))
+        (outside (file_store (F.contents files.old) (F.faults files.old) (F.last_fault files.old))
         (stream (S.left input.old) (S.faults input.old))
         (stream (K.written out.old) (K.faults out.old)))
-        (outside (file_store (F.contents files.new) (F.faults files.new))
+        (outside (file_store (F.contents files.new) (F.faults files.new) (F.last_fault files.new))
         (stream (S.left input.new) (S.faults input.new))
         (stream (K.written out.new) (K.faults out.new)))
         result }
@@ -79,10 +79,10 @@ fn run_words<F: Files, S: Source, K: Sink>(
     out: &mut K,
 ) -> u8
     ensures outcome { OutcomeOf (command_of words.now)
-        (outside (file_store (F.contents files.old) (F.faults files.old))
+        (outside (file_store (F.contents files.old) (F.faults files.old) (F.last_fault files.old))
         (stream (S.left input.old) (S.faults input.old))
         (stream (K.written out.old) (K.faults out.old)))
-        (outside (file_store (F.contents files.new) (F.faults files.new))
+        (outside (file_store (F.contents files.new) (F.faults files.new) (F.last_fault files.new))
         (stream (S.left input.new) (S.faults input.new))
         (stream (K.written out.new) (K.faults out.new)))
         result }
@@ -118,10 +118,10 @@ fn run_replay<F: Files, S: Source, K: Sink>(
     out: &mut K,
 ) -> u8
     ensures outcome { ReplayWithOutcome path.now
-        (outside (file_store (F.contents files.old) (F.faults files.old))
+        (outside (file_store (F.contents files.old) (F.faults files.old) (F.last_fault files.old))
         (stream (S.left input.old) (S.faults input.old))
         (stream (K.written out.old) (K.faults out.old)))
-        (outside (file_store (F.contents files.new) (F.faults files.new))
+        (outside (file_store (F.contents files.new) (F.faults files.new) (F.last_fault files.new))
         (stream (S.left input.new) (S.faults input.new))
         (stream (K.written out.new) (K.faults out.new)))
         result }
@@ -143,8 +143,8 @@ fn run_board<F: Files, K: Sink>(
 ) -> u8
     requires { MayAsk (asked_seen asked.now) }
     ensures outcome { BoardOutcome path.now (board_output (asked_seen asked.now))
-        (file_store (F.contents files.old) (F.faults files.old))
-        (file_store (F.contents files.new) (F.faults files.new))
+        (file_store (F.contents files.old) (F.faults files.old) (F.last_fault files.old))
+        (file_store (F.contents files.new) (F.faults files.new) (F.last_fault files.new))
         (stream (K.written out.old) (K.faults out.old))
         (stream (K.written out.new) (K.faults out.new))
         result }
@@ -186,8 +186,8 @@ pub(crate) fn write_fault<K: Sink>(fault: &HubFault, out: &mut K) -> u8
 /// `check`: the configuration at the path, and its timetables.
 fn run_check<F: Files, K: Sink>(alloc: Global, files: &mut F, path: &str, out: &mut K) -> u8
     ensures outcome { CheckOutcome path.now
-        (file_store (F.contents files.old) (F.faults files.old))
-        (file_store (F.contents files.new) (F.faults files.new))
+        (file_store (F.contents files.old) (F.faults files.old) (F.last_fault files.old))
+        (file_store (F.contents files.new) (F.faults files.new) (F.last_fault files.new))
         (stream (K.written out.old) (K.faults out.old))
         (stream (K.written out.new) (K.faults out.new))
         result }

@@ -45,8 +45,8 @@ pub fn prepare_serve<F: Files, K: Sink>(
     out: &mut K,
 ) -> Prepared
     ensures outcome { PrepareOutcome (serve_of words.now)
-        (file_store (F.contents files.old) (F.faults files.old))
-        (file_store (F.contents files.new) (F.faults files.new))
+        (file_store (F.contents files.old) (F.faults files.old) (F.last_fault files.old))
+        (file_store (F.contents files.new) (F.faults files.new) (F.last_fault files.new))
         (stream (K.written out.old) (K.faults out.old))
         (stream (K.written out.new) (K.faults out.new))
         result }
@@ -61,8 +61,8 @@ pub fn prepare_serve<F: Files, K: Sink>(
 /// The same with the configuration at the path.
 fn prepare_at<F: Files, K: Sink>(alloc: Global, path: &str, files: &mut F, out: &mut K) -> Prepared
     ensures outcome { PrepareOutcome (Some path.now)
-        (file_store (F.contents files.old) (F.faults files.old))
-        (file_store (F.contents files.new) (F.faults files.new))
+        (file_store (F.contents files.old) (F.faults files.old) (F.last_fault files.old))
+        (file_store (F.contents files.new) (F.faults files.new) (F.last_fault files.new))
         (stream (K.written out.old) (K.faults out.old))
         (stream (K.written out.new) (K.faults out.new))
         result }

@@ -34,6 +34,15 @@ HasFileCause (TooLong n) before after = before ≤ after
 HasFileCause Failed before after = (before ≤ after) × Rose before after
 HasFileCause NoMemory before after = before ≤ after
 
+-- a file that could not be read has its path kept as that of the call that failed last, where that
+-- is told
+abbrev pub TellsPlace : FileAnswer → Option (List ℕ) → List ℕ → Type 0
+TellsPlace Read fault path = Unit {0}
+TellsPlace Absent fault path = Unit {0}
+TellsPlace (TooLong n) fault path = Unit {0}
+TellsPlace Failed fault path = IfSome fault (λ place. place ≡ path)
+TellsPlace NoMemory fault path = Unit {0}
+
 -- a file that is longer than the limit has a number of bytes seen above it; one that was read is
 -- within it
 abbrev pub IsFetched : FileAnswer → ℕ → List ℕ → Type 0

@@ -1,11 +1,13 @@
 -- The forms in memory as their callers see them, and what their calls do.
-use Rattle.std.specs.Prelude.{◌≡◌, ℕ, ◌==◌, min, List, [], ◌++◌, length, take, drop, slice_get, Option, Some, None, IsFalse, if◌then◌else◌}
+use Rattle.std.specs.Prelude.{◌≡◌, ℕ, ◌==◌, min, List, [], ◌++◌, length, take, drop, slice_get, Option, Some, None, IfSome, IsFalse, if◌then◌else◌}
 use Rattle.hub_outside.specs.declared.sources.ReadAnswer.{ReadAnswer}
 use Rattle.hub_outside.specs.declared.sources.ReadAnswer.TheVariants.{Got, End, Failed}
 use Rattle.hub_outside.specs.declared.sinks.WriteAnswer.{WriteAnswer}
 use Rattle.hub_outside.specs.declared.sinks.WriteAnswer.TheVariants.{Took, Failed as WriteFailed}
 use Rattle.hub_outside.specs.declared.doors.DoorAnswer.{DoorAnswer}
 use Rattle.hub_outside.specs.declared.doors.DoorAnswer.TheVariants.{Link, End as DoorEnd, Failed as DoorFailed}
+use Rattle.hub_outside.specs.declared.file_stores.FileAnswer.{FileAnswer}
+use Rattle.hub_outside.specs.declared.file_stores.FileAnswer.TheVariants.{Read, Absent, TooLong, Failed as FileFailed, NoMemory}
 use Rattle.hub_outside.specs.Doors.{Links, handed_out, given_back}
 use Rattle.hub_outside.specs.Calls.{CallCounts, no_calls, is_failing, with_call, with_fault, after_call, cut_at}
 
@@ -74,10 +76,12 @@ Writes WriteFailed before after bytes = after ≡ record {
   calls = with_fault before.calls;
 }
 
--- files in memory: each as the pair of its path and its bytes, and the calls
+-- files in memory: each as the pair of its path and its bytes, the calls, and the path of the call
+-- that failed last, if one did and there was memory to keep it
 pub record StoreState : Type 0 where
   pub files : List (List ℕ × List ℕ)
   pub calls : CallCounts
+  pub fault : Option (List ℕ)
 
 -- the files that a store in memory holds
 abbrev pub files_in : StoreState → List (List ℕ × List ℕ)
@@ -86,6 +90,26 @@ files_in store = store.files
 -- the faults of a store in memory
 abbrev pub store_faults : StoreState → ℕ
 store_faults store = store.calls.faults
+
+-- the path of the call of a store in memory that failed last, where it was kept
+abbrev pub store_fault : StoreState → Option (List ℕ)
+store_fault store = store.fault
+
+-- which path is kept as that of the call that failed last: a call that fails puts its own there, or
+-- none for want of memory, and any other call leaves it
+abbrev pub KeepsPlace : FileAnswer → Option (List ℕ) → Option (List ℕ) → List ℕ → Type 0
+KeepsPlace Read before after path = after ≡ before
+KeepsPlace Absent before after path = after ≡ before
+KeepsPlace (TooLong n) before after path = after ≡ before
+KeepsPlace FileFailed before after path = IfSome after (λ place. place ≡ path)
+KeepsPlace NoMemory before after path = after ≡ before
+
+-- what reading the file at a path does to a store in memory: its files stay, and the call counts
+pub record ReadsStored (answer : FileAnswer) (before after : StoreState) (path : List ℕ)
+    : Type 0 where
+  pub files : after.files ≡ before.files
+  pub calls : after.calls ≡ after_call before.calls
+  pub place : KeepsPlace answer before.fault after.fault path
 
 -- a door in memory: its links, and its calls
 pub record DoorState : Type 0 where

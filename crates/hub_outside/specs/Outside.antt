@@ -10,13 +10,15 @@ pub record Stream : Type 0 where
 abbrev pub stream : Option (List ℕ) → ℕ → Stream
 stream told faults = record { told = told; faults = faults }
 
--- the files that are told, each the pair of its path and its bytes, and their count of faults
+-- the files that are told, each the pair of its path and its bytes, their count of faults, and the
+-- path of the call that failed last, where it is told
 pub record FileStore : Type 0 where
   pub told : Option (List (List ℕ × List ℕ))
   pub faults : ℕ
+  pub fault : Option (List ℕ)
 
-abbrev pub file_store : Option (List (List ℕ × List ℕ)) → ℕ → FileStore
-file_store told faults = record { told = told; faults = faults }
+abbrev pub file_store : Option (List (List ℕ × List ℕ)) → ℕ → Option (List ℕ) → FileStore
+file_store told faults fault = record { told = told; faults = faults; fault = fault }
 
 -- all of it
 pub record Outside : Type 0 where

@@ -1,6 +1,6 @@
 //! Whole files, by path.
 ghost use Rattle.std.specs.Prelude.{◌≡◌, ℕ, ◌<◌, ◌≤◌, List, Option};
-ghost use Rattle.hub_outside.specs.Files.{AnswersFile, HasFileCause};
+ghost use Rattle.hub_outside.specs.Files.{AnswersFile, HasFileCause, TellsPlace};
 ghost use Rattle.hub_outside.specs.Buffer.{room_of};
 
 use crate::buffers::Buf;
@@ -29,6 +29,9 @@ pub trait Files {
     // How many calls failed so far.
     ghost faults: { Self → ℕ };
 
+    // The path of the call that failed last, where it is told.
+    ghost last_fault: { Self → Option (List ℕ) };
+
     /// Reads the whole file at `path`, of up to `limit` bytes, into `into`, which is cleared first.
     /// All answers but [`FileAnswer::Read`] leave it empty.
     fn read_file(&mut self, path: &str, limit: u64, into: &mut Buf) -> FileAnswer
@@ -36,5 +39,6 @@ pub trait Files {
         ensures contents { contents self.new ≡ contents self.old }
         ensures room { room_of into.old ≤ room_of into.new }
         ensures memory { result ≡ FileAnswer.NoMemory → room_of into.old < limit }
-        ensures cause { HasFileCause result (faults self.old) (faults self.new) };
+        ensures cause { HasFileCause result (faults self.old) (faults self.new) }
+        ensures place { TellsPlace result (last_fault self.new) path.now };
 }

@@ -11,6 +11,7 @@
 //! - where contents are told, each answer says exactly what it took, left or found;
 //! - each trait that can fail has a count of faults, which never falls, and `Failed` is answered
 //!   only by a call that raised it (or found it at the last value of its 64 bits);
+//! - where files tell the path of the call that failed last, it is that of the call that says so;
 //! - a call that is refused leaves the contents as they were.
 //!
 //! [`Buf`] is a buffer that says how much it takes without asking for memory. The forms in memory

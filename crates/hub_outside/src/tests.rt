@@ -75,6 +75,7 @@ fn memory_files_are_found(rt: HostRuntime) -> Result<(), Fail> {
         files.read_file("city/stops.txt", 7, &mut into),
         FileAnswer::Failed
     );
+    assert_eq!(rt; files.fault.as_deref(), Some("city/stops.txt"));
     Ok(())
 }
 

@@ -2,5 +2,6 @@ pub mod OnFiles
 pub mod Examples
 pub mod FormExamples
 pub mod RowExamples
+pub mod StopExamples
 pub mod Listing
 pub mod Moves

@@ -14,10 +14,10 @@ use Rattle.text_defs.specs.Dates.{date_in, is_day}
 use Rattle.text_defs.specs.Dates.{day_number, next_day, date_plus}
 use Rattle.service_day.specs.Service.{is_active}
 use Rattle.service_day.specs.Zone.{base_of}
-use Rattle.load_defs.specs.Loading.{dataset_in, with_times, timetable}
+use Rattle.load_defs.specs.Loading.{dataset_in, dataset_where, with_times, timetable, timetable_where}
 use Rattle.load_defs.specs.Numbers.{rows_by_key, timetable_of}
 use Rattle.load_defs.specs.Times.{times_behind}
 
 unfoldable pub loading_on_files : ⊤
-unfolding timetable dataset_in with_times timetable_of rows_by_key times_behind rows_of records_from next_record strip_bom rows_from trimmed_text cell_value number digits_number date date_in is_day time_in is_utf8 chars encode jiff_on_literals base_of day_number next_day date_plus is_active
+unfolding timetable timetable_where dataset_in dataset_where with_times timetable_of rows_by_key times_behind rows_of records_from next_record strip_bom rows_from trimmed_text cell_value number digits_number date date_in is_day time_in is_utf8 chars encode jiff_on_literals base_of day_number next_day date_plus is_active
 loading_on_files = tt

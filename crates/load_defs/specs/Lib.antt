@@ -4,4 +4,5 @@ pub mod Times
 pub mod Services
 pub mod Numbers
 pub mod Loading
+pub mod Stops
 pub mod CityFiles

@@ -5,8 +5,8 @@
 //! fault. Its parts stand by subject: `Files` where the files lie and what a file's rows are,
 //! `References` which rows refer to rows that aren't there and which are there twice, `Times` the times
 //! of a trip's places, `Services` the days on which services run, `Numbers` how rows are ordered and
-//! numbered. `Examples` computes them on a small dataset and on changed copies of it. All follow the
-//! GTFS Schedule Reference.
+//! numbered, `Stops` where loading stops at a file that can't be read. `Examples` computes them on a
+//! small dataset and on changed copies of it. All follow the GTFS Schedule Reference.
 //!
 //! The crate stands on `gtfs_rows` for the rows of a file, on `service_day` for the calendar and for
 //! zones, on `sched_types` for the timetable that results, and on `hub_outside` for what files are. Its

@@ -7,7 +7,7 @@ use Rattle.hub_outside.specs.Count.{Rose}
 use Rattle.load_defs.specs.declared.fault.LoadFault.{LoadFault}
 use Rattle.load_defs.specs.declared.fault.LoadFault.TheVariants as fault
 use Rattle.load_defs.specs.declared.conf.PlanConf.{PlanConf}
-use Rattle.load_defs.specs.Loading.{dataset_in, timetable, with_times, zone_of}
+use Rattle.load_defs.specs.Loading.{dataset_in, timetable, timetable_where, with_times, zone_of}
 use Rattle.load_defs.specs.Numbers.{Dataset, timetable_of}
 use Rattle.sched_types.specs.Timetable.{Timetable}
 use Rattle.sched_load.specs.Built.{IsBuilt}
@@ -176,5 +176,5 @@ built contents t count (Err e) h = rw h (no_memory contents (λ _. Ok t) count)
 
 -- the timetable, step by step
 pub timetable_is : (folder : List ℕ) (conf : PlanConf) (fs : List (List ℕ × List ℕ)) → (zone_of conf.zone >>= (λ rule. dataset_in fs folder >>= (λ rows. with_times rows >>= (λ d. Ok (timetable_of rule conf.first conf.days d))))) ≡ timetable fs folder conf
-unfolding timetable
+unfolding timetable timetable_where dataset_in
 timetable_is folder conf fs = refl

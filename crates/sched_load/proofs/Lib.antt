@@ -15,6 +15,7 @@ pub mod Laws
 pub mod ServiceLemmas
 pub mod ParentLemmas
 pub mod WholeChain
+pub mod Stopping
 pub mod ColumnLaws
 pub mod DayLemmas
 pub mod TimeLemmas

@@ -15,7 +15,7 @@ use Rattle.load_defs.specs.declared.fault.File.TheVariants as file
 use Rattle.load_defs.specs.declared.fault.LoadFault.{LoadFault}
 use Rattle.load_defs.specs.Files.{path_of}
 use Rattle.load_defs.specs.Numbers.{Dataset}
-use Rattle.load_defs.specs.Loading.{dataset_in}
+use Rattle.load_defs.specs.Loading.{dataset_in, dataset_where}
 use Rattle.load_defs.specs.References.{consistent_agencies, consistent_stops, consistent_routes, consistent_trips, consistent_stop_times, consistent_calendar, consistent_exceptions}
 use Rattle.sched_load.specs.Listed.{file_rows}
 
@@ -69,5 +69,5 @@ module _ (folder : List ℕ) (fs : List (List ℕ × List ℕ)) where
   after_agencies ag = stops_told >>= after_stops ag
 
   pub dataset_is : (agencies_told >>= after_agencies) ≡ dataset_in fs folder
-  unfolding dataset_in
+  unfolding dataset_in dataset_where
   dataset_is = refl

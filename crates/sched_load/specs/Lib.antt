@@ -1,4 +1,5 @@
 pub mod Answer
+pub mod Stops
 pub mod Listed
 pub mod Groups
 pub mod Gathering

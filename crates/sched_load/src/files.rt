@@ -11,6 +11,7 @@ ghost use Rattle.hub_outside.specs.Files.{file_at};
 ghost use Rattle.sched_load.specs.Answer.{AnswersFromFiles, fault_of, items_in};
 ghost use Rattle.std.specs.String.{string_bytes};
 ghost use Rattle.sched_load.specs.Listed.{file_rows, most_rows};
+ghost use Rattle.sched_load.specs.Stops.{StopsFile, StopsWith};
 
 use crate::gather::gather_bytes;
 use crate::rows::FileRow;
@@ -58,6 +59,7 @@ pub(crate) fn read_rows<F: Files, R: FileRow>(
         × (file_rows R.required R.name R.columns bytes ≡ Ok rows.items)) }
     ensures few { IfOk result (λ rows. length rows.items ≤ most_rows) }
     ensures same { F.contents files.new ≡ F.contents files.old }
+    ensures stops { StopsWith result (StopsFile (F.last_fault files.new) folder.now R.name) }
 {
     let path = path_of(alloc, folder, R::file())?;
     let mut buffer = Buf::new(alloc);
@@ -92,6 +94,8 @@ pub(crate) fn read_visits<F: Files>(
     ensures below { IfOk result
         (λ g. BelowAll (length (by_id (λ trip. trip.trip_id) trips.now)) g.visits.items) }
     ensures same { F.contents files.new ≡ F.contents files.old }
+    ensures stops { StopsWith result
+        (StopsFile (F.last_fault files.new) folder.now file.StopTimes) }
 {
     let path = path_of(alloc, folder, File::StopTimes)?;
     let mut buffer = Buf::new(alloc);

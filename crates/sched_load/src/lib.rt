@@ -4,7 +4,8 @@
 //! or the first fault. The bytes of a file are let go once its rows are read. What it means is said in `load_defs`
 //! (`specs/Loading.antt`): each answer is what `timetable` tells of the files, the folder and the
 //! configuration, but for want of memory, and for a file that could not be read, which the count of
-//! faults of the files bears out.
+//! faults of the files bears out. Where the files tell which one it was, what comes before it in the order
+//! of loading had no fault (`specs/Stops.antt`).
 //!
 //! The steps stand by subject: `files` reads the rows of one file, `table` holds them with their order
 //! by id, `order` finds that order and the first row that is at fault, `gather` takes the rows of

@@ -5,6 +5,7 @@ ghost use Rattle.load_defs.specs.Loading.{timetable, with_times, zone_of};
 ghost use Rattle.load_defs.specs.Numbers.{timetable_of};
 ghost use Rattle.sched_load.specs.Answer.{HasLoadCause, IsPlainAnswer, AnswersAlone, Loads};
 ghost use Rattle.sched_load.specs.Built.{IsBuilt, IsInOrder};
+ghost use Rattle.sched_load.specs.Stops.{StopsLoading, StopsWith};
 ghost use Rattle.sched_load.specs.Tables.{AreRead, dataset_of};
 ghost use Rattle.sched_load.specs.Window.{HasWindow};
 
@@ -32,7 +33,8 @@ fn zone_of(rule: &str) -> Result<Zone, LoadFault>
 /// the first fault: of the zone; then file by file (agency.txt, stops.txt, routes.txt, trips.txt,
 /// stop_times.txt, calendar.txt, calendar_dates.txt), of each file by itself before it is compared with
 /// itself and with the files before it; then of the trips' times, by row of trips.txt (GTFS Schedule
-/// Reference). `FileFault` says that a file could not be read, and `NoMemory`, that memory ran out.
+/// Reference). `FileFault` says that a file could not be read, with no fault before it in this order, and
+/// `NoMemory`, that memory ran out.
 ///
 /// The paths are the folder's, a slash and the file's name.
 pub fn load<F: Files>(
@@ -47,6 +49,8 @@ pub fn load<F: Files>(
     ensures cause { HasLoadCause result (F.faults files.old) (F.faults files.new) }
     ensures plain { IsPlainAnswer result }
     ensures same { F.contents files.new ≡ F.contents files.old }
+    ensures stops { StopsWith result
+        (StopsLoading (F.contents files.old) (F.last_fault files.new) folder.now conf.now) }
 {
     let zone = zone_of(conf.zone.as_str())?;
     let tables = read_tables(alloc, files, folder)?;

@@ -8,6 +8,7 @@ ghost use Rattle.load_defs.specs.References.{consistent, consistent_stop_times, 
 ghost use Rattle.sched_load.specs.Answer.{AnswersFromFiles, and_next};
 ghost use Rattle.sched_load.specs.Listed.{file_rows, most_rows, same_id};
 ghost use Rattle.sched_load.specs.Parents.{Checks};
+ghost use Rattle.sched_load.specs.Stops.{StopsFile, StopsTables, StopsWith};
 ghost use Rattle.sched_load.specs.Tables.{ReadsTables};
 ghost use Rattle.sched_load.specs.Arranged.{ReadsArranged};
 ghost use Rattle.gtfs_rows.specs.Tables.{stop_times, stops};
@@ -64,6 +65,7 @@ fn read_table<F: Files, R: IdRow, J: Judge<R>>(
         (λ rows. consistent R.name (J.unknown_of judge.now) (same_id R.id_of) rows ≡ Ok rows) }
     ensures few { IfOk result (λ rows. length rows ≤ most_rows) }
     ensures same { F.contents files.new ≡ F.contents files.old }
+    ensures stops { StopsWith result (StopsFile (F.last_fault files.new) folder.now R.name) }
 {
     let rows: Vec<R> = read_rows(alloc, files, folder)?;
     let order = order_of(alloc, rows.as_slice(), judge)?;
@@ -113,6 +115,7 @@ fn read_stops<F: Files>(
     ensures consistent { IfOk result (λ rows. consistent_stops rows ≡ Ok rows) }
     ensures few { IfOk result (λ rows. length rows ≤ most_rows) }
     ensures same { F.contents files.new ≡ F.contents files.old }
+    ensures stops { StopsWith result (StopsFile (F.last_fault files.new) folder.now file.Stops) }
 {
     let stops: Table<StopRow> = read_table(alloc, files, folder, &NoReference)?;
     check_parents(&stops)?;
@@ -135,6 +138,8 @@ fn arranged_visits<F: Files>(
         (file_at fs (path_of folder.now file.StopTimes)))
         (consistent_stop_times trips.now stops.now)) (F.faults files.old) (F.faults files.new) result }
     ensures same { F.contents files.new ≡ F.contents files.old }
+    ensures stops { StopsWith result
+        (StopsFile (F.last_fault files.new) folder.now file.StopTimes) }
 {
     let gathered = read_visits(alloc, files, folder, trips, stops)?;
     let visits = arrange(alloc, gathered, trips.len())?;
@@ -150,6 +155,8 @@ pub(crate) fn read_tables<F: Files>(
     ensures reads { ReadsTables (F.contents files.old) (λ fs. dataset_in fs folder.now)
         (F.faults files.old) (F.faults files.new) result }
     ensures same { F.contents files.new ≡ F.contents files.old }
+    ensures stops { StopsWith result
+        (StopsTables (F.contents files.old) (F.last_fault files.new) folder.now) }
 {
     let agencies: Table<AgencyRow> = read_table(alloc, files, folder, &NoReference)?;
     let stops = read_stops(alloc, files, folder)?;

@@ -38,6 +38,8 @@ impl<R: rt::Files> Files for StdFiles<R> {
 
     ghost faults = { files_faults };
 
+    ghost last_fault = { λ _. None };
+
     fn read_file(&mut self, path: &str, limit: u64, into: &mut Buf) -> FileAnswer {
         into.clear();
         let answer = fetch(fs::open(&self.system, path), limit, into);

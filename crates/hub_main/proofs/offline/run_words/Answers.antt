@@ -12,7 +12,7 @@ use Rattle.hub_main.proofs.offline.run_words.Goals as goal
 pub returns-in-Err-NoMemory-clause-outcome : goal.returns-in-Err-NoMemory-clause-outcome
 returns-in-Err-NoMemory-clause-outcome g c =
     short_outcome (command_of c.args.words.now) (outside
-    (file_store (g.F.Files.contents c.args.files.now) (g.F.Files.faults c.args.files.now))
+    (file_store (g.F.Files.contents c.args.files.now) (g.F.Files.faults c.args.files.now) (g.F.Files.last_fault c.args.files.now))
     (stream (g.S.Source.left c.args.input.now) (g.S.Source.faults c.args.input.now))
     (stream (g.K.Sink.written c.args.out.now) (g.K.Sink.faults c.args.out.now)))
 
@@ -38,8 +38,8 @@ returns-in-Ok-Replay-clause-input_count g c =
 pub returns-in-Ok-ReplayWith-clause-input_count : goal.returns-in-Ok-ReplayWith-clause-input_count
 returns-in-Ok-ReplayWith-clause-input_count g c =
     configured_input _
-    (outside (file_store (g.F.Files.contents c.args.files.now) (g.F.Files.faults c.args.files.now)) (stream (g.S.Source.left c.args.input.now) (g.S.Source.faults c.args.input.now))
+    (outside (file_store (g.F.Files.contents c.args.files.now) (g.F.Files.faults c.args.files.now) (g.F.Files.last_fault c.args.files.now)) (stream (g.S.Source.left c.args.input.now) (g.S.Source.faults c.args.input.now))
     (stream (g.K.Sink.written c.args.out.now) (g.K.Sink.faults c.args.out.now)))
-    (outside (file_store (g.F.Files.contents c.run_replay.new.files) (g.F.Files.faults c.run_replay.new.files)) (stream (g.S.Source.left c.run_replay.new.input) (g.S.Source.faults c.run_replay.new.input))
+    (outside (file_store (g.F.Files.contents c.run_replay.new.files) (g.F.Files.faults c.run_replay.new.files) (g.F.Files.last_fault c.run_replay.new.files)) (stream (g.S.Source.left c.run_replay.new.input) (g.S.Source.faults c.run_replay.new.input))
     (stream (g.K.Sink.written c.run_replay.new.out) (g.K.Sink.faults c.run_replay.new.out)))
     c.run_replay.result c.run_replay.ensures.outcome

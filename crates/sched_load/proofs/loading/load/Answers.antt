@@ -4,6 +4,7 @@ use Rattle.load_defs.specs.Loading.{dataset_in, timetable, with_times, zone_of}
 use Rattle.load_defs.specs.Numbers.{timetable_of}
 use Rattle.sched_load.specs.Tables.{dataset_of}
 use Rattle.sched_load.proofs.Chain.{built, passed, step_alone, step_done, step_fails, step_value, timetable_is, told_same}
+use Rattle.sched_load.proofs.Stopping.{stops_alone, stops_built, stops_by, stops_loading, stops_passed}
 use Rattle.sched_load.proofs.loading.load.Goals as goal
 
 pub returns-in_err-zone-clause-loads : goal.returns-in_err-zone-clause-loads
@@ -49,3 +50,22 @@ pub build_plan-requires-clause-read : goal.build_plan-requires-clause-read
 build_plan-requires-clause-read g c =
     let reads = c.in_ok-tables.ensures.reads in
     (reads.0, reads.1, c.in_ok-check_times.ensures reads.0 reads.1)
+
+pub returns-in_err-zone-clause-stops : goal.returns-in_err-zone-clause-stops
+returns-in_err-zone-clause-stops g c =
+    stops_passed _ _ _ c.from_residual.ensures.1 (stops_alone (zone_of c.args.conf.now.zone) _ _ (rw c.as_str.ensures at c.in_err-zone.ensures))
+
+pub returns-in_err-tables-clause-stops : goal.returns-in_err-tables-clause-stops
+returns-in_err-tables-clause-stops g c =
+    stops_passed _ _ _ c.from_residual-in_err-tables.ensures.1
+    (stops_by _ _ _ (stops_loading (g.F.Files.contents c.args.files.now) _ c.args.folder.now c.args.conf.now c.in_ok-zone.zone (rw c.as_str.ensures at c.in_ok-zone.ensures)) c.in_err-tables.ensures.stops)
+
+pub returns-in_err-check_times-clause-stops : goal.returns-in_err-check_times-clause-stops
+returns-in_err-check_times-clause-stops g c =
+    let reads = c.in_ok-tables.ensures.reads in
+    stops_passed _ _ _ c.from_residual-in_err-check_times.ensures.1 (stops_alone (with_times (dataset_of c.in_ok-tables.tables reads.0)) _ _ (c.in_err-check_times.ensures reads.0 reads.1))
+
+pub returns-clause-stops : goal.returns-clause-stops
+returns-clause-stops g c =
+    let reads = c.in_ok-tables.ensures.reads in
+    stops_built (timetable_of c.in_ok-zone.zone c.args.conf.now.first c.args.conf.now.days (dataset_of c.in_ok-tables.tables reads.0)) c.build_plan.result _ (c.build_plan.ensures reads.0 reads.1)

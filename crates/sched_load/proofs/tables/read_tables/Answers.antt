@@ -11,6 +11,7 @@ use Rattle.sched_load.proofs.ServiceLemmas.{known_service}
 use Rattle.load_defs.specs.Loading.{dataset_in}
 use Rattle.load_defs.specs.References.{consistent_exceptions}
 use Rattle.sched_load.proofs.Chain.{tables_passed, no_memory, step_alone, step_done, step_fails, step_value, told_same}
+use Rattle.sched_load.proofs.Stopping.{StopsAre, RoutesAre, TripsAre, TimesAre, CalendarIs, stops_agency, stops_stops, stops_routes, stops_trips, stops_times, stops_calendar, stops_exceptions, stops_alone, stops_by, stops_passed}
 use Rattle.sched_load.proofs.WholeChain.{agencies_told, stops_told, routes_told, trips_told, times_told, calendar_told, exceptions_rows, exceptions_told, after_agencies, after_stops, after_routes, after_trips, after_times, after_calendar, after_exceptions, dataset_is}
 use Rattle.sched_load.proofs.tables.read_tables.Goals as goal
 
@@ -151,3 +152,89 @@ returns-clause-reads g c =
           (step_done (g.F.Files.contents c.read_table-4.new.files) (λ fs. exceptions_told c.args.folder.now fs) (λ fs. after_exceptions c.args.folder.now fs c.in_ok-agencies.agencies c.in_ok-stops.stops c.in_ok-routes.routes c.in_ok-trips.trips c.in_ok-visits.ensures.reads.0 c.in_ok-calendar.calendar) (g.F.Files.contents c.read_rows.new.files) _ _ _ c.in_ok-exceptions.exceptions.items _ c.read_rows.ensures.same (step_done (g.F.Files.contents c.read_table-4.new.files) (λ fs. exceptions_rows c.args.folder.now fs) (λ fs. consistent_exceptions) (g.F.Files.contents c.read_rows.new.files) _ _ _ c.in_ok-exceptions.exceptions.items _ c.read_rows.ensures.same c.in_ok-exceptions.ensures.reads (step_value (g.F.Files.contents c.read_rows.new.files) (consistent_exceptions c.in_ok-exceptions.exceptions.items) _ c.in_ok-exceptions.exceptions.items (rw c.deref-2.ensures.value at c.in_ok-active.ensures.0)))
           (step_value (g.F.Files.contents c.read_rows.new.files) (after_exceptions c.args.folder.now [] c.in_ok-agencies.agencies c.in_ok-stops.stops c.in_ok-routes.routes c.in_ok-trips.trips c.in_ok-visits.ensures.reads.0 c.in_ok-calendar.calendar c.in_ok-exceptions.exceptions.items) _ _ refl)))))))),
     )
+
+pub returns-in_err-agencies-clause-stops : goal.returns-in_err-agencies-clause-stops
+returns-in_err-agencies-clause-stops g c =
+    let folder = c.args.folder.now in
+    stops_passed _ _ _ c.from_residual.ensures.1
+    (stops_by _ _ _ (stops_agency folder _ _) c.in_err-agencies.ensures.stops)
+
+pub returns-in_err-stops-clause-stops : goal.returns-in_err-stops-clause-stops
+returns-in_err-stops-clause-stops g c =
+    let folder = c.args.folder.now in
+    let ag = c.in_ok-agencies.agencies in
+    stops_passed _ _ _ c.from_residual-in_err-stops.ensures.1
+    (stops_by _ _ _ (stops_stops folder _ _ ag c.in_ok-agencies.ensures.reads.loads) c.in_err-stops.ensures.stops)
+
+pub returns-in_err-routes-clause-stops : goal.returns-in_err-routes-clause-stops
+returns-in_err-routes-clause-stops g c =
+    let folder = c.args.folder.now in
+    let ag = c.in_ok-agencies.agencies in
+    let st = c.in_ok-stops.stops in
+    let same = c.read_table.ensures.same in
+    stops_passed _ _ _ c.from_residual-in_err-routes.ensures.1
+    (stops_by _ _ _ (stops_routes folder _ _ ag st c.in_ok-agencies.ensures.reads.loads (subst (StopsAre folder st) same c.in_ok-stops.ensures.reads.loads)) c.in_err-routes.ensures.stops)
+
+pub returns-in_err-trips-clause-stops : goal.returns-in_err-trips-clause-stops
+returns-in_err-trips-clause-stops g c =
+    let folder = c.args.folder.now in
+    let ag = c.in_ok-agencies.agencies in
+    let st = c.in_ok-stops.stops in
+    let ro = c.in_ok-routes.routes in
+    let same = c.read_table.ensures.same in
+    let same-2 = c.read_stops.ensures.same ∙ same in
+    stops_passed _ _ _ c.from_residual-in_err-trips.ensures.1
+    (stops_by _ _ _ (stops_trips folder _ _ ag st ro c.in_ok-agencies.ensures.reads.loads (subst (StopsAre folder st) same c.in_ok-stops.ensures.reads.loads) (subst (RoutesAre folder ag ro) same-2 c.in_ok-routes.ensures.reads.loads)) c.in_err-trips.ensures.stops)
+
+pub returns-in_err-visits-clause-stops : goal.returns-in_err-visits-clause-stops
+returns-in_err-visits-clause-stops g c =
+    let folder = c.args.folder.now in
+    let ag = c.in_ok-agencies.agencies in
+    let st = c.in_ok-stops.stops in
+    let ro = c.in_ok-routes.routes in
+    let tr = c.in_ok-trips.trips in
+    let same = c.read_table.ensures.same in
+    let same-2 = c.read_stops.ensures.same ∙ same in
+    let same-3 = c.read_table-2.ensures.same ∙ same-2 in
+    stops_passed _ _ _ c.from_residual-in_err-visits.ensures.1
+    (stops_by _ _ _ (stops_times folder _ _ ag st ro tr c.in_ok-agencies.ensures.reads.loads (subst (StopsAre folder st) same c.in_ok-stops.ensures.reads.loads) (subst (RoutesAre folder ag ro) same-2 c.in_ok-routes.ensures.reads.loads) (subst (TripsAre folder ro tr) same-3 c.in_ok-trips.ensures.reads.loads)) c.in_err-visits.ensures.stops)
+
+pub returns-in_err-calendar-clause-stops : goal.returns-in_err-calendar-clause-stops
+returns-in_err-calendar-clause-stops g c =
+    let folder = c.args.folder.now in
+    let ag = c.in_ok-agencies.agencies in
+    let st = c.in_ok-stops.stops in
+    let ro = c.in_ok-routes.routes in
+    let tr = c.in_ok-trips.trips in
+    let ti = c.in_ok-visits.ensures.reads.0 in
+    let same = c.read_table.ensures.same in
+    let same-2 = c.read_stops.ensures.same ∙ same in
+    let same-3 = c.read_table-2.ensures.same ∙ same-2 in
+    let same-4 = c.read_table-3.ensures.same ∙ same-3 in
+    stops_passed _ _ _ c.from_residual-in_err-calendar.ensures.1
+    (stops_by _ _ _ (stops_calendar folder _ _ ag st ro tr ti c.in_ok-agencies.ensures.reads.loads (subst (StopsAre folder st) same c.in_ok-stops.ensures.reads.loads) (subst (RoutesAre folder ag ro) same-2 c.in_ok-routes.ensures.reads.loads) (subst (TripsAre folder ro tr) same-3 c.in_ok-trips.ensures.reads.loads) (subst (TimesAre folder st tr ti) same-4 c.in_ok-visits.ensures.reads.1.loads)) c.in_err-calendar.ensures.stops)
+
+pub returns-in_err-exceptions-clause-stops : goal.returns-in_err-exceptions-clause-stops
+returns-in_err-exceptions-clause-stops g c =
+    let folder = c.args.folder.now in
+    let ag = c.in_ok-agencies.agencies in
+    let st = c.in_ok-stops.stops in
+    let ro = c.in_ok-routes.routes in
+    let tr = c.in_ok-trips.trips in
+    let ti = c.in_ok-visits.ensures.reads.0 in
+    let ca = c.in_ok-calendar.calendar in
+    let same = c.read_table.ensures.same in
+    let same-2 = c.read_stops.ensures.same ∙ same in
+    let same-3 = c.read_table-2.ensures.same ∙ same-2 in
+    let same-4 = c.read_table-3.ensures.same ∙ same-3 in
+    let same-5 = c.arranged_visits.ensures.same ∙ same-4 in
+    stops_passed _ _ _ c.from_residual-in_err-exceptions.ensures.1
+    (stops_by _ _ _ (stops_exceptions folder _ _ ag st ro tr ti ca c.in_ok-agencies.ensures.reads.loads (subst (StopsAre folder st) same c.in_ok-stops.ensures.reads.loads) (subst (RoutesAre folder ag ro) same-2 c.in_ok-routes.ensures.reads.loads) (subst (TripsAre folder ro tr) same-3 c.in_ok-trips.ensures.reads.loads) (subst (TimesAre folder st tr ti) same-4 c.in_ok-visits.ensures.reads.1.loads) (subst (CalendarIs folder ca) same-5 c.in_ok-calendar.ensures.reads.loads)) c.in_err-exceptions.ensures.stops)
+
+pub returns-in_err-services-clause-stops : goal.returns-in_err-services-clause-stops
+returns-in_err-services-clause-stops g c = stops_passed _ _ _ c.from_residual-in_err-services.ensures.1 tt
+
+pub returns-in_err-active-clause-stops : goal.returns-in_err-active-clause-stops
+returns-in_err-active-clause-stops g c =
+    stops_passed _ _ _ c.from_residual-in_err-active.ensures.1
+    (stops_alone (consistent_exceptions c.in_ok-exceptions.exceptions.items) _ _ (rw c.deref-2.ensures.value at c.in_err-active.ensures))
