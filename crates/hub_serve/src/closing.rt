@@ -10,15 +10,40 @@ use crate::naming::OfHub;
 use crate::readers::HubPass;
 use hub_shared::{FeedSeat, Hub, close_hub};
 use snapshot_cell::Ending;
+use std::marker::Model;
 use std::sync::Wait;
 
-/// Closes the hub with its seats, and tells its readers. It is false where closing found no memory.
+/// What closing a hub came to. Only `close` makes one, and who tells what a run came to asks for it, so
+/// nothing is told before the hub is closed. A contract sees whether an ending was had.
+#[derive(Drop)]
+pub(crate) struct Closed {
+    has_ending: bool,
+}
+
+impl Model for Closed {
+    ghost use Rattle.std.specs.Prelude.{Bool};
+
+    ghost Value = { Bool };
+
+    ghost view = { λ closed. closed.has_ending };
+}
+
+impl Closed {
+    /// Whether an ending was had.
+    pub(crate) fn has_ending(&self) -> bool
+        ensures { result ≡ self.now }
+    {
+        self.has_ending
+    }
+}
+
+/// Closes the hub with its seats, and tells its readers. There is no ending where closing found no memory.
 pub(crate) fn close<R: Wait, H: OfHub>(
     rt: &R,
     hub: Hub,
     seats: &mut [FeedSeat],
     passes: &mut [HubPass<H>],
-) -> bool
+) -> Closed
     requires hub { hub ≡ H.ties }
     requires seats { All (λ seat. seat.ties ≡ hub) seats.old }
     ensures seats { seats.new ≡ seats.old }
@@ -28,9 +53,9 @@ pub(crate) fn close<R: Wait, H: OfHub>(
         Ok(ending) => {
             finish_all(passes, &ending);
             ending.end(rt);
-            true
+            Closed { has_ending: true }
         }
-        Err(_) => false,
+        Err(_) => Closed { has_ending: false },
     }
 }
 

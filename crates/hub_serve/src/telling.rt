@@ -8,6 +8,7 @@ ghost use Rattle.hub_serve.specs.Runs as run;
 ghost use Rattle.hub_serve.specs.Runs.{feed_lines, text_of};
 ghost use Rattle.hub_serve.specs.Steps.{lasts_of};
 
+use crate::closing::Closed;
 use crate::readers::Post;
 use http_door::DoorEnd;
 use hub_outside::Sink;
@@ -15,9 +16,10 @@ use hub_shared::{FeedSeat, PortEnd, PortReport};
 use sched_types::{NamedFeed, Plans};
 use serve_lines::{FeedNumbers, ReaderNumbers, Writing, write_feed, write_readers};
 
-/// Writes a line for each feed, and one for the readers. It takes no memory.
+/// Writes a line for each feed of a hub that is closed, and one for the readers. It takes no memory.
 pub(crate) fn write_lines<K: Sink, C>(
     out: &mut K,
+    _closed: &Closed,
     plans: &Plans,
     seats: &[FeedSeat],
     reports: &[PortReport],
@@ -91,16 +93,19 @@ fn sum_of<C>(posts: &[Post<C>]) -> ReaderNumbers
 /// or for an ingester's buffer, else 1 where a port or a door failed or a message was too long, else 0.
 pub(crate) fn status_of<C>(
     writing: Writing,
-    closed: bool,
+    closed: &Closed,
     reports: &[PortReport],
     posts: &[Post<C>],
 ) -> u8
-    ensures { result ≡ run.status_by writing closed reports.now
+    ensures { result ≡ run.status_by writing closed.now reports.now
         (map (λ post. post.report) posts.now) }
 {
     match writing {
         Writing::Cut => 5,
-        Writing::Whole => status_whole(wants_memory(closed, reports), went_ill(reports, posts)),
+        Writing::Whole => status_whole(
+            wants_memory(closed.has_ending(), reports),
+            went_ill(reports, posts),
+        ),
     }
 }
 

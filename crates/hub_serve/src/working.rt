@@ -151,6 +151,6 @@ fn end<H: OfHub, R: Wait, C, K: Sink>(
         (K.faults out.old) (K.faults out.new) result }
 {
     let closed = close(rt, hub, seats, passes);
-    let writing = write_lines(out, plans, seats, reports, posts);
-    status_of(writing, closed, reports, posts)
+    let writing = write_lines(out, &closed, plans, seats, reports, posts);
+    status_of(writing, &closed, reports, posts)
 }
