@@ -90,12 +90,20 @@ fn run<R: Wait, P: FeedPort>(
     };
     let report = ingest_all(rt, alloc, &hub, seat, port);
     let told = told(&report);
-    let Ok(ending) = close_hub(rt, hub, &mut [report.seat]) else {
+    let number = end_of_one(rt, hub, report.seat)?;
+    Some((told, number))
+}
+
+/// Ends a hub of one seat; how many messages it has.
+fn end_of_one<R: Wait>(rt: &R, hub: Hub, seat: FeedSeat) -> Option<u64>
+    requires { seat.ties ≡ hub }
+{
+    let Ok(ending) = close_hub(rt, hub, &mut [seat]) else {
         return None;
     };
     let number = ending.number();
     ending.end(rt);
-    Some((told, number))
+    Some(number)
 }
 
 /// The same of a hub that is opened, with a port of these messages.
