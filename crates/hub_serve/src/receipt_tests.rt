@@ -5,7 +5,6 @@ ghost use Rattle.std.specs.List.{All};
 ghost use Rattle.hub_shared.specs.Seats.{IsOf};
 
 use crate::test_hubs::{ASK, MOMENT, SERVED, UPDATE, two_feeds};
-use board_core::Oracle;
 use http_serve::serve_bytes;
 use hub_outside::NoMemory;
 use hub_shared::{FeedSeat, Hub, Opened, Refusal, close_hub, ingest, open_hub};
@@ -34,24 +33,21 @@ fn send_update<R: Wait>(
     Ok(())
 }
 
-/// Whether a pass serves the response of the number that its look finds; then that number.
+/// The number of the response that a pass serves: that of the hub before the update, or behind it.
 fn served_by(alloc: Global, pass: &mut Pass) -> Result<Option<u64>, NoMemory> {
     let served = serve_bytes(alloc, pass, MOMENT, ASK.as_bytes())?;
-    let number = pass.view().entries();
-    let wanted = match number {
-        0 => SERVED[0],
-        1 => LIVE,
-        _ => return Ok(None),
-    };
-    if served.written.bytes() == wanted.as_bytes() {
-        Ok(Some(number))
+    let written = served.written.bytes();
+    if written == SERVED[0].as_bytes() {
+        Ok(Some(0))
+    } else if written == LIVE.as_bytes() {
+        Ok(Some(1))
     } else {
         Ok(None)
     }
 }
 
-/// The number of the response of a pass that learned of the update, and whether that of one which did not
-/// is the number that its look found.
+/// The number of the response of a pass that learned of the update, and whether one which did not serves
+/// either.
 fn serve_both<R: Wait>(
     rt: &R,
     alloc: Global,
