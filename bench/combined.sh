@@ -5,12 +5,7 @@
 #   bench/combined.sh [ENTITIES]
 # Needs python3 and the program built (./hub), or HUB, the path of another.
 set -eu
-top=$(cd "$(dirname "$0")/.." && pwd)
-work=$(mktemp -d)
-trap 'rm -rf "$work"' EXIT
-cd "$top"
-hub=${HUB:-$top/hub}
-[ -n "${HUB:-}" ] || "$hub" > /dev/null 2>&1 < /dev/null || true   # builds it where it is missing
+. "$(dirname "$0")/begin.sh"
 python3 bench/make_messages.py full 1 "${1:-3000}" > "$work/plain"
 python3 - "$hub" "$work" "${1:-3000}" <<'PY'
 import re, shutil, subprocess, sys, time

@@ -4,12 +4,7 @@
 # ends at once, and beside it how long `cat` takes to copy what was written.
 # Needs python3 and the program built (./hub), or HUB, the path of another.
 set -eu
-top=$(cd "$(dirname "$0")/.." && pwd)
-work=$(mktemp -d)
-trap 'rm -rf "$work"' EXIT
-cd "$top"
-hub=${HUB:-$top/hub}
-"$hub" > /dev/null 2>&1 < /dev/null || true   # builds it where it is missing
+. "$(dirname "$0")/begin.sh"
 
 # one measurement: what it is, and the target of its requests
 measure() {

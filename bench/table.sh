@@ -4,16 +4,11 @@
 # valgrind is there, in instructions, and how they grow with the table.
 # Needs python3 and the program built (./hub), or HUB, the path of another.
 set -eu
-bench=$(cd "$(dirname "$0")" && pwd)
-top=$(dirname "$bench")
-work=$(mktemp -d)
-trap 'rm -rf "$work"' EXIT
-hub=${HUB:-$top/hub}
-[ -n "${HUB:-}" ] || "$hub" > /dev/null 2>&1 < /dev/null || true   # builds it where it is missing
+. "$(dirname "$0")/begin.sh"
 
 for ids in 2000 20000; do
   for messages in 0 200 2000; do
-    python3 "$bench/make_messages.py" over "$messages" 20 "$ids" > "$work/$messages-$ids"
+    python3 bench/make_messages.py over "$messages" 20 "$ids" > "$work/$messages-$ids"
   done
 done
 python3 - "$hub" "$work" <<'PY'
