@@ -1,5 +1,5 @@
 -- A part of what a feed holds goes from message to message by itself.
-use Rattle.std.proofs.Common.{◌≡◌, ℕ, ◌≤◌, List, [], ◌∷◌, Bool, true, false, cond, Option, Some, None, length, drop, map, refl, sym, ap, ◌∙◌, subst}
+use Rattle.std.proofs.Common.{◌≡◌, ℕ, ◌≤◌, List, [], ◌∷◌, ◌++◌, append_assoc, append-nil, Bool, true, false, cond, Option, Some, None, length, drop, map, refl, sym, ap, ◌∙◌, subst}
 use Rattle.std.specs.Prelude.{T, filter, fold, not, if◌then◌else◌}
 use Rattle.std.specs.Str.{bytes_eq}
 use Rattle.std.specs.Ordering.{is_lt, is_eq, eq_by_cmp}
@@ -14,8 +14,9 @@ use Rattle.feed_defs.specs.declared.history.Stored.{Stored}
 use Rattle.feed_defs.specs.History.{Change, is_full, is_kept, stamp_of, changes_in, changes_with, changes_without, entities_after}
 use Rattle.feed_defs.proofs.Applied.{sorted_filter, sorted_changed, find-without}
 use Rattle.feed_defs.proofs.Kept.{id_cmp, left, right}
+use Rattle.shared_list.proofs.Middle.{put_middle, sorted_before, both_so}
 use Rattle.entity_table.proofs.TableLemmas.{change_of, all_stepped}
-use Rattle.alert_select.specs.FeedAlerts.{has_alert, alerts_of, alerts_with}
+use Rattle.alert_select.specs.FeedAlerts.{has_alert, alerts_of, alerts_with, alerts_and}
 
 less_not_equal : (o : Ordering) → T (is_lt o) → is_eq o ≡ false
 less_not_equal Less p = refl
@@ -119,6 +120,65 @@ module _ (test : Stored → Bool) where
   part_folds : (cs es : List Change) → T (is_sorted id_cmp es) → filter is_in (fold changes_with es cs) ≡ fold part_with (filter is_in es) cs
   part_folds [] es h = refl
   part_folds (c ∷ cs) es h = part_folds cs (changes_with es c) (sorted_changed es c h) ∙ ap (λ xs. fold part_with xs cs) (part_changed es c h)
+
+-- ---- a table from its first id to its last
+
+put_last : {X : Type 0} (k : List ℕ) (v : X) (xs ys : List (List ℕ × X)) → T (is_sorted id_cmp (xs ++ (k, v) ∷ ys)) → put id_cmp k v xs ≡ xs ++ (k, v) ∷ []
+put_last k v xs ys h = ap (put id_cmp k v) (sym (append-nil xs)) ∙ put_middle k v xs [] [] (sorted_before xs (k, v) ys h) tt
+
+below_fewer : {X : Type 0} (k : List ℕ) (xs : List (List ℕ × X)) (y : List ℕ × X) (ys : List (List ℕ × X)) → T (below_all id_cmp k (xs ++ y ∷ ys)) → T (below_all id_cmp k (xs ++ ys))
+below_fewer k [] y ys h = right _ _ h
+below_fewer k (x ∷ xs) y ys h = both_so _ _ (left _ _ h) (below_fewer k xs y ys (right _ _ h))
+
+sorted_fewer : {X : Type 0} (xs : List (List ℕ × X)) (y : List ℕ × X) (ys : List (List ℕ × X)) → T (is_sorted id_cmp (xs ++ y ∷ ys)) → T (is_sorted id_cmp (xs ++ ys))
+sorted_fewer [] y ys h = right _ _ h
+sorted_fewer (x ∷ xs) y ys h = both_so _ _ (below_fewer x.0 xs y ys (left _ _ h)) (sorted_fewer xs y ys (right _ _ h))
+
+abbrev under_id : Stored → Change
+under_id s = (s.entity.id, s)
+
+abbrev with_entry : List Change → Change → List Change
+with_entry alerts e = if has_alert e.1 then put id_cmp e.0 e.1 alerts else alerts
+
+-- the alerts so far, and those of what is left, are all
+all_listed : (alerts es : List Change) → T (is_sorted id_cmp (alerts ++ es)) → fold with_entry alerts es ≡ alerts ++ alerts_of es
+all_listed alerts [] h = sym (append-nil alerts)
+all_listed alerts (e ∷ es) h = by_alert (all_listed (alerts ++ e ∷ []) es) (all_listed alerts es) (has_alert e.1)
+  where
+    by_alert : (T (is_sorted id_cmp ((alerts ++ e ∷ []) ++ es)) → fold with_entry (alerts ++ e ∷ []) es ≡ (alerts ++ e ∷ []) ++ alerts_of es)
+        → (T (is_sorted id_cmp (alerts ++ es)) → fold with_entry alerts es ≡ alerts ++ alerts_of es)
+        → (b : Bool) → fold with_entry (if b then put id_cmp e.0 e.1 alerts else alerts) es ≡ alerts ++ cond b (e ∷ alerts_of es) (alerts_of es)
+    by_alert with_it without_it true =
+        ap (λ xs. fold with_entry xs es) (put_last e.0 e.1 alerts es h)
+        ∙ with_it (subst (λ xs. T (is_sorted id_cmp xs)) (sym (append_assoc alerts (e ∷ []) es)) h)
+        ∙ append_assoc alerts (e ∷ []) (alerts_of es)
+    by_alert with_it without_it false = without_it (sorted_fewer alerts e es h)
+
+each_under : (alerts : List Change) (items : List Stored) → fold alerts_and alerts items ≡ fold with_entry alerts (map under_id items)
+each_under alerts [] = refl
+each_under alerts (s ∷ items) = each_under (alerts_and alerts s) items
+
+-- when all that a table holds is gone over, the alerts are those of the table
+pub alerts_built : (now start table : List Change) (all left_over items : List Stored) → start ≡ [] → all ≡ items → items ≡ map (λ change. change.1) table → T (is_sorted id_cmp table)
+    → map (λ s. (s.entity.id, s)) (map (λ change. change.1) table) ≡ table → left_over ≡ [] → fold alerts_and now left_over ≡ fold alerts_and start all → now ≡ alerts_of table
+alerts_built now start table all left_over items nothing are there sorted keyed none so_far =
+    ap (fold alerts_and now) (sym none)
+    ∙ so_far
+    ∙ ap (λ xs. fold alerts_and xs all) nothing
+    ∙ ap (fold alerts_and []) (are ∙ there)
+    ∙ each_under [] (map (λ change. change.1) table)
+    ∙ ap (fold with_entry []) keyed
+    ∙ all_listed [] table sorted
+
+each_id : (items : List Stored) → map (λ s. s.entity.id) items ≡ map (λ change. change.0) (map under_id items)
+each_id [] = refl
+each_id (s ∷ items) = ap (λ ids. s.entity.id ∷ ids) (each_id items)
+
+-- the entities' own ids are those of the table
+pub ids_of : (items : List Stored) (table : List Change) → items ≡ map (λ change. change.1) table → map (λ s. (s.entity.id, s)) (map (λ change. change.1) table) ≡ table → map (λ s. s.entity.id) items ≡ map (λ change. change.0) table
+ids_of items table are keyed = each_id items ∙ ap (λ xs. map (λ change. change.0) (map under_id xs)) are ∙ ap (map (λ change. change.0)) keyed
+
+-- ---- a table from message to message
 
 -- when no entity is left, the alerts are those of what the feed then holds
 pub alerts_then : (now start old table : List Change) (stamp : ℕ) (m : FeedMessage) (items : List Entity) (i : ℕ) → T (is_sorted id_cmp table) → old ≡ alerts_of table → start ≡ (if is_full m then [] else old)

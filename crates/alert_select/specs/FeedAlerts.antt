@@ -1,6 +1,9 @@
 -- What a feed holds that has an alert.
 use Rattle.std.specs.Prelude.{List, Bool, filter, if◌then◌else◌}
+use Rattle.std.specs.Cmp.Lexicographic.{slice_cmp}
+use Rattle.std.specs.FinMap.{put}
 use Rattle.std.specs.Option.{is_some}
+use Rattle.std.specs.Ordering.{nat_cmp}
 use Rattle.feed_defs.specs.declared.history.Stored.{Stored}
 use Rattle.feed_defs.specs.History.{Change, changes_with, changes_without}
 
@@ -16,3 +19,8 @@ alerts_of entities = filter (λ change. has_alert change.1) entities
 abbrev pub alerts_with : List Change → Change → List Change
 alerts_with alerts change =
     if has_alert change.1 then changes_with alerts change else changes_without change.0 alerts
+
+-- the alerts and what a table holds, where it has one
+abbrev pub alerts_and : List Change → Stored → List Change
+alerts_and alerts stored =
+    if has_alert stored then put (slice_cmp nat_cmp) stored.entity.id stored alerts else alerts

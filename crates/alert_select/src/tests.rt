@@ -119,12 +119,18 @@ fn message(alloc: Global, kind: Incrementality, words: &[&str]) -> Result<FeedMe
     })
 }
 
-/// The index after two messages.
-fn index(alloc: Global, first: &FeedMessage, second: &FeedMessage) -> Result<AlertIndex, NoMemory> {
+/// The index after two messages, made message by message, and that of the whole table.
+fn indexes(
+    alloc: Global,
+    first: &FeedMessage,
+    second: &FeedMessage,
+) -> Result<(AlertIndex, AlertIndex), NoMemory> {
     let nothing = Table::empty(alloc);
     let index = AlertIndex::empty(alloc).after(alloc, &nothing, first)?;
     let table = apply(alloc, &nothing, first)?;
-    index.after(alloc, &table, second)
+    let after = index.after(alloc, &table, second)?;
+    let whole = AlertIndex::build(alloc, &apply(alloc, &table, second)?)?;
+    Ok((after, whole))
 }
 
 /// Whether an index holds just the alerts of these ids, in their order.
@@ -144,7 +150,20 @@ fn holds(index: &AlertIndex, ids: &[&str]) -> bool {
     place == ids.len()
 }
 
-/// Whether the alerts `c`, `a` and `e` and a trip update `b`, and then that message, leave the alerts of these ids.
+/// Whether an index lists just these ids, in their order.
+fn lists(index: &AlertIndex, ids: &[&str]) -> bool {
+    let mut place = 0usize;
+    for id in index.ids() {
+        if ids.get(place).copied() != Some(id.as_str()) {
+            return false;
+        }
+        place = place.wrapping_add(1);
+    }
+    place == ids.len()
+}
+
+/// Whether the alerts `c`, `a` and `e` and a trip update `b`, and then that message, leave the alerts of these ids,
+/// whether the index goes from message to message or is made of the whole table.
 fn leave(
     alloc: Global,
     kind: Incrementality,
@@ -157,11 +176,12 @@ fn leave(
         &["!c", "+b", "!a", "!e"],
     )?;
     let second = message(alloc, kind, words)?;
-    Ok(holds(&index(alloc, &first, &second)?, ids))
+    let (after, whole) = indexes(alloc, &first, &second)?;
+    Ok(holds(&after, ids) && holds(&whole, ids) && lists(&whole, ids))
 }
 
 #[test]
-fn the_index_goes_from_message_to_message(rt: HostRuntime) -> Result<(), Fail> {
+fn an_index_is_that_of_its_table(rt: HostRuntime) -> Result<(), Fail> {
     let alloc = rt.alloc();
     assert!(rt; leave(alloc, Incrementality::Differential, &[], &["a", "c", "e"])?);
     assert!(rt;

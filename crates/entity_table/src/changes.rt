@@ -1,6 +1,9 @@
 //! One message more.
 
 ghost use Rattle.std.specs.Prelude.{◌≡◌, ◌∷◌, ◌++◌, [], List, if◌then◌else◌, unwrap_or, false, IfOk};
+ghost use Rattle.std.specs.Cmp.Lexicographic.{slice_cmp};
+ghost use Rattle.std.specs.FinMap.{put};
+ghost use Rattle.std.specs.Ordering.{nat_cmp};
 ghost use Rattle.feed_defs.specs.History.{
   entities_after,
   changes_with,
@@ -52,8 +55,18 @@ impl Table {
             ≡ changes_with self (entity.now.id, record { entity = entity.now; stamp = stamp })) }
     {
         if is_deleted(entity) {
-            return self.without(entity.id.as_str());
+            self.without(entity.id.as_str())
+        } else {
+            self.put(alloc, entity, stamp)
         }
+    }
+
+    /// The table with the entity in the place of what its id had, whatever the entity says of itself, and with that
+    /// stamp, in seconds since 1970; or want of memory.
+    pub fn put(self, alloc: Global, entity: &Entity, stamp: u64) -> Result<Table, NoMemory>
+        ensures { IfOk result (λ next. next ≡ put (slice_cmp nat_cmp) entity.now.id
+            (record { entity = entity.now; stamp = stamp }) self) }
+    {
         let stored = Stored {
             entity: entity.copy()?,
             stamp,
