@@ -15,8 +15,6 @@ mod aim;
 mod holding;
 mod index;
 mod subject;
-#[cfg(test)]
-mod tests;
 mod touching;
 
 pub use activity::active;

@@ -5,4 +5,3 @@ pub mod AllRows
 pub mod RowOrder
 pub mod Added
 pub mod FirstRows
-pub mod TwoFeeds

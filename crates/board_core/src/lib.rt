@@ -26,8 +26,6 @@ mod oracle;
 mod row_texts;
 mod runs;
 mod sorting;
-#[cfg(test)]
-mod tests;
 mod view;
 
 pub use alert_select::{AddedKey, Subject};

@@ -13,8 +13,6 @@
 mod concerning;
 mod feeds;
 mod heading;
-#[cfg(test)]
-mod tests;
 mod without_run;
 
 pub use alert_defs::{AlertRow, Unmatched};

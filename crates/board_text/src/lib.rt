@@ -18,8 +18,6 @@ mod cells;
 mod lines;
 mod status_lines;
 mod stranger_lines;
-#[cfg(test)]
-mod tests;
 mod words;
 
 pub use alert_lines::alerts_text;

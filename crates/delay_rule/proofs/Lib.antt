@@ -3,4 +3,3 @@ pub mod Ranges
 pub mod PassLaw
 pub mod StepLaw
 pub mod NearLaw
-pub mod LineLemmas

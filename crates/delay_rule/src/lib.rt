@@ -14,8 +14,6 @@ mod delays;
 mod pass;
 mod places;
 mod steps;
-#[cfg(test)]
-mod tests;
 
 pub use delay_defs::StopState;
 pub use pass::walk;

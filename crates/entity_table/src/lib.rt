@@ -13,8 +13,6 @@
 mod changes;
 mod stored;
 mod table;
-#[cfg(test)]
-mod tests;
 
 pub use changes::apply;
 pub use feed_defs::Stored;

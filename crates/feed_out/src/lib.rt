@@ -9,8 +9,6 @@
 
 mod entities;
 mod message;
-#[cfg(test)]
-mod tests;
 
 pub use message::combined;
 pub use std::alloc::AllocError as NoMemory;

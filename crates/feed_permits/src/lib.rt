@@ -20,8 +20,6 @@ mod desk;
 mod key;
 mod opening;
 mod steps;
-#[cfg(test)]
-mod tests;
 mod view;
 
 pub use dealing::permits;

@@ -18,8 +18,6 @@ mod paths;
 mod port;
 mod spool;
 mod stream;
-#[cfg(test)]
-mod tests;
 
 pub use memory::MemoryPort;
 pub use port::{FeedPort, LONGEST_MESSAGE, PortAnswer};

@@ -15,12 +15,8 @@ mod feed;
 mod message;
 mod nested;
 mod read;
-#[cfg(test)]
-mod tests;
 mod trip_update;
 mod vehicle;
-#[cfg(test)]
-mod whole_tests;
 
 pub use field_read::ReadFault;
 pub use read::read_message;

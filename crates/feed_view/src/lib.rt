@@ -11,8 +11,6 @@
 //! definitions of `board_defs`.
 #![tactic(auto)]
 
-#[cfg(test)]
-mod tests;
 mod view;
 
 pub use std::alloc::AllocError as NoMemory;

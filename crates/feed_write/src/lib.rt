@@ -21,8 +21,6 @@ mod ids;
 mod message;
 mod renaming;
 mod scalar;
-#[cfg(test)]
-mod tests;
 mod trip_update;
 mod vehicle;
 mod write;

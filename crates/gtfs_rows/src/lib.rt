@@ -96,6 +96,3 @@ pub fn read_exceptions(alloc: Global, bytes: &[u8]) -> Result<Vec<ExceptionRow>,
 {
     read_rows(alloc, bytes)
 }
-
-#[cfg(test)]
-mod tests;

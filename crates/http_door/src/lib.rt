@@ -18,8 +18,6 @@
 
 mod report;
 mod serving;
-#[cfg(test)]
-mod tests;
 
 pub use report::{DoorEnd, DoorReport};
 pub use serving::serve_door;

@@ -24,8 +24,6 @@ mod finding;
 mod making;
 mod progress;
 mod reader;
-#[cfg(test)]
-mod tests;
 
 pub use http_defs::Request;
 pub use reader::{RequestReader, Taken};

@@ -17,8 +17,6 @@ mod forms;
 mod responses;
 mod router;
 mod segments;
-#[cfg(test)]
-mod tests;
 
 pub use http_defs::{BodyKind, Query, Request};
 pub use responses::{refusal_body, response_bytes};

@@ -32,8 +32,6 @@ mod replying;
 mod responses;
 mod serving;
 mod session;
-#[cfg(test)]
-mod tests;
 mod transcript;
 
 pub use serving::serve_connection;

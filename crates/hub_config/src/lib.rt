@@ -13,8 +13,6 @@ mod judge;
 mod line;
 mod read;
 mod rule;
-#[cfg(test)]
-mod tests;
 mod value;
 
 pub use conf_defs::{ConfFault, ConfWhy, FeedConf, HubConf, PortKind, ScheduleConf, TableName};

@@ -8,8 +8,6 @@
 
 mod judge;
 mod refusal;
-#[cfg(test)]
-mod tests;
 
 pub use judge::check;
 pub use refusal::Refusal;

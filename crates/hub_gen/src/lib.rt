@@ -19,8 +19,6 @@ mod messages;
 mod network;
 mod running;
 mod sample;
-#[cfg(test)]
-mod tests;
 
 pub use hub_load::HubFault;
 pub use running::run_sample;

@@ -19,8 +19,6 @@ mod item;
 mod law;
 mod line;
 mod steps;
-#[cfg(test)]
-mod tests;
 
 pub use author::Author;
 pub use item::LogItem;

@@ -19,8 +19,6 @@ mod conf;
 mod fault;
 mod loading;
 mod plan;
-#[cfg(test)]
-mod tests;
 mod words;
 
 pub use conf::conf_at;

@@ -25,20 +25,3 @@ pub use offline::run_offline;
 pub use preparing::{Prepared, ServeConf, prepare_serve};
 pub use std::alloc::AllocError as NoMemory;
 pub use system::run_on_system;
-
-#[cfg(test)]
-mod board_tests;
-#[cfg(test)]
-mod check_tests;
-#[cfg(test)]
-mod connection_tests;
-#[cfg(test)]
-mod hostile_tests;
-#[cfg(test)]
-mod list_tests;
-#[cfg(test)]
-mod prepare_tests;
-#[cfg(test)]
-mod row_tests;
-#[cfg(test)]
-mod tests;

@@ -52,8 +52,3 @@ pub use sinks::{Sink, WriteAnswer};
 pub use sources::{ReadAnswer, Source};
 pub use std::alloc::AllocError as NoMemory;
 pub use writing::{OutputFault, write_all};
-
-#[cfg(test)]
-mod door_tests;
-#[cfg(test)]
-mod tests;

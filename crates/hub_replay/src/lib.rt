@@ -25,8 +25,6 @@ mod replies;
 mod running;
 pub mod statuses;
 mod steps;
-#[cfg(test)]
-mod tests;
 mod window;
 
 pub use ending::replay;

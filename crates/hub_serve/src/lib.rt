@@ -19,26 +19,14 @@
 #![tactic(auto)]
 
 mod closing;
-#[cfg(test)]
-mod cut_tests;
-#[cfg(test)]
-mod fault_tests;
+
 mod feeds;
-#[cfg(test)]
-mod gate_tests;
 mod naming;
 mod opening;
 mod readers;
-#[cfg(test)]
-mod receipt_tests;
 mod running;
-#[cfg(test)]
-mod side_tests;
 mod telling;
-#[cfg(test)]
-mod test_hubs;
-#[cfg(test)]
-mod tests;
+
 mod working;
 
 pub use running::run_serve;

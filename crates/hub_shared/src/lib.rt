@@ -19,8 +19,6 @@
 
 mod closing;
 mod feeding;
-#[cfg(test)]
-mod feeding_tests;
 mod hub;
 mod ingesting;
 mod locked;
@@ -29,11 +27,7 @@ mod opening;
 mod publishing;
 mod report;
 mod seat;
-#[cfg(test)]
-mod sharing_tests;
 mod tag;
-#[cfg(test)]
-mod tests;
 
 pub use closing::close_hub;
 pub use feeding::{ingest_all, ingest_port};

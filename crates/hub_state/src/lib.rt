@@ -14,8 +14,6 @@
 mod looks;
 mod replay;
 mod state;
-#[cfg(test)]
-mod tests;
 
 pub use replay::ReplayHub;
 pub use state::HubCore;

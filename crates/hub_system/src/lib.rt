@@ -23,8 +23,6 @@ mod listening;
 mod opening;
 mod program;
 mod telling;
-#[cfg(test)]
-mod tests;
 
 pub use connection::Connection;
 pub use opening::SystemPort;

@@ -22,8 +22,6 @@ mod given;
 mod parser;
 mod read;
 mod serve;
-#[cfg(test)]
-mod tests;
 
 pub use board::BoardAsked;
 pub use read::{Command, WordsFault, read_words};

@@ -19,8 +19,6 @@ mod calls;
 mod keyed;
 mod lock;
 mod rule;
-#[cfg(test)]
-mod tests;
 
 pub use keyed::Keyed;
 pub use lock::{KeyedLock, Loan};

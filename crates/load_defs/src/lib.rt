@@ -15,8 +15,6 @@
 
 mod conf;
 mod fault;
-#[cfg(test)]
-mod tests;
 
 pub use conf::PlanConf;
 pub use fault::{File, LoadFault};

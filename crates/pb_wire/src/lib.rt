@@ -27,6 +27,3 @@ pub use part::{Part, PartPayload};
 pub use reading::read_parts;
 pub use std::alloc::AllocError as NoMemory;
 pub use writing::{write_field, write_four, write_length, write_scalar, write_varint};
-
-#[cfg(test)]
-mod tests;

@@ -8,8 +8,6 @@
 
 mod job;
 mod places;
-#[cfg(test)]
-mod tests;
 
 pub use job::PlaceJob;
 pub use places::each_place;

@@ -16,8 +16,6 @@ mod fault;
 mod items;
 mod message;
 mod shared;
-#[cfg(test)]
-mod tests;
 mod trip_update;
 mod vehicle;
 

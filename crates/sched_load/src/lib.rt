@@ -21,8 +21,6 @@ mod build;
 mod check;
 mod days;
 mod files;
-#[cfg(test)]
-mod form_tests;
 mod gather;
 mod groups;
 mod judges;
@@ -32,8 +30,6 @@ mod rows;
 mod services;
 mod table;
 mod tables;
-#[cfg(test)]
-mod tests;
 mod times;
 mod visits;
 

@@ -5,7 +5,6 @@ pub mod Lists
 pub mod RunLemmas
 pub mod ChildrenLemmas
 pub mod Checks
-pub mod CityLemmas
 pub mod TimetableLaws
 pub mod DepartureOrder
 pub mod CheckedSchedules

@@ -18,8 +18,6 @@ mod numbers;
 mod plan;
 mod plans;
 mod rows;
-#[cfg(test)]
-mod tests;
 
 pub use plan::Plan;
 pub use plans::{NamedFeed, NamedPlan, Plans};

@@ -11,8 +11,6 @@
 
 mod lines;
 mod pieces;
-#[cfg(test)]
-mod tests;
 
 pub use lines::{FeedNumbers, ReaderNumbers, write_feed, write_readers};
 pub use pieces::Writing;

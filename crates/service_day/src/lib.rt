@@ -10,8 +10,6 @@
 #![tactic(auto)]
 
 mod services;
-#[cfg(test)]
-mod tests;
 mod zones;
 
 pub use services::{Exception, active};

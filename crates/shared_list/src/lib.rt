@@ -22,8 +22,6 @@ mod node;
 mod part;
 mod shared;
 mod split;
-#[cfg(test)]
-mod tests;
 
 pub use iter::Iter;
 pub use keyed::Keyed;

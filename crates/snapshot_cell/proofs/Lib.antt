@@ -1,3 +1,2 @@
 mod Steps
 mod Glancing
-mod Numbered

@@ -28,10 +28,6 @@ mod receipt;
 mod rule;
 mod seats;
 mod shown;
-#[cfg(test)]
-mod side_tests;
-#[cfg(test)]
-mod tests;
 
 pub use ending::Ending;
 pub use opening::Snapshots;

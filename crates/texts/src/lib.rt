@@ -12,8 +12,6 @@ mod dates;
 mod names;
 mod numbers;
 mod short_text;
-#[cfg(test)]
-mod tests;
 mod times;
 
 pub use cleaned::push_cleaned;

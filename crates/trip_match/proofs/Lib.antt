@@ -1,3 +1,2 @@
 pub mod NearLemmas
 pub mod RouteLemmas
-pub mod AutumnLemmas

@@ -14,8 +14,6 @@ mod ids;
 mod matching;
 mod near;
 mod routes;
-#[cfg(test)]
-mod tests;
 
 pub use match_defs::{Found, Why};
 pub use matching::find;

@@ -12,8 +12,6 @@
 mod answering;
 mod lookup;
 mod question;
-#[cfg(test)]
-mod tests;
 
 pub use answering::answer;
 pub use question::Question;

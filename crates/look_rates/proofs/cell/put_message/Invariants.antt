@@ -1,5 +1,0 @@
--- The message is the one that the contract names.
-use Rattle.look_rates.proofs.cell.put_message.Given as goal
-
-abbrev pub ghost-put : goal.ghost-put
-ghost-put g a = g.entry

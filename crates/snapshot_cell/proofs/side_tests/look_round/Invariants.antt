@@ -1,6 +1,0 @@
--- The pass stays at its hub.
-use Rattle.hub_history.specs.Told.{AreOne}
-use Rattle.snapshot_cell.proofs.side_tests.look_round.Given as goal
-
-abbrev pub invariant-loop : goal.invariant-loop
-invariant-loop g l = AreOne l.pass.line g.H.OfHub.told
