@@ -5,8 +5,8 @@
 #   bench/all.sh [FOLDER]         FOLDER keeps what each script printed (none: it is thrown away)
 #   bench/all.sh table FOLDER     runs nothing, and prints the tables of what is in FOLDER
 # Needs python3, GNU time and the program, which ./hub builds where it is missing (HUB names another); for all figures also
-# valgrind, wrk, nginx, protoc with libprotobuf-dev and g++, cargo with librust-csv-dev, and rt for bench_rates. It takes
-# about an hour, most of it under valgrind; leave the machine alone meanwhile.
+# valgrind, wrk, nginx, protoc with libprotobuf-dev and g++, cargo with librust-csv-dev, and rt for bench_rates. Much of it
+# runs under valgrind, so it takes long; leave the machine alone meanwhile.
 set -u
 bench=$(cd "$(dirname "$0")" && pwd)
 
