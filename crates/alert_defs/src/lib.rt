@@ -1,4 +1,4 @@
-//! The words for alerts, for trips that the timetable doesn't have, and for the status of a hub.
+//! The words for alerts, and for trips that the timetable doesn't have.
 //!
 //! Its code is types that it shares with the crates above: a row of a list of alerts, and one of a
 //! list of unmatched trips. `specs/Touching` says which stops and rows a selector of an alert is

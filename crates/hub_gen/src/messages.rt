@@ -13,7 +13,7 @@ use std::alloc::Global;
 /// How many entities a message has.
 const ENTITIES: u32 = 20;
 
-/// The stamp of the first message is a second behind this moment, the midnight at which the window begins.
+/// The first message is made one second after this moment, the midnight at which the window begins.
 const MIDNIGHT: u64 = 1_735_689_600;
 
 /// The offers of so many messages, in order.

@@ -10,7 +10,7 @@
 //! goes on without them, since a port without a connection fails when it is asked, and so does a door
 //! without a listener. Standard output has the lines of the commands, and those at the end of a run.
 //!
-//! What the contracts say: each port is its feed's (`specs/Opened`), there are as many ports as feeds,
+//! What the contracts say: each port is of its feed's kind (`specs/Opened`), there are as many ports as feeds,
 //! and as many doors as readers and clocks, 1 to 64. What the system itself does, no contract knows.
 //!
 //! The crate stands on `hub_main` for commands and configuration, on `hub_serve` for the run, on
