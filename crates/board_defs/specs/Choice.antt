@@ -44,8 +44,8 @@ update_of feed change (Some update) = Some (record {
 abbrev pub update_in : ℕ → Change → Option Update
 update_in feed change = update_of feed change change.1.entity.trip_update
 
--- The trip updates of a schedule's feeds that count at the moment `at`, by feed and id; the feeds are numbered
--- from `first` on. No update grows too old, so all count at any moment, and `at` changes nothing.
+-- The trip updates of a schedule's feeds that count at a moment, by feed and id; the feeds are numbered from
+-- `first` on. All count, whatever the moment: none grows too old.
 unfoldable pub updates_from : ℕ → ℕ → ℕ → List NamedFeed → List FeedFold → List Update
 updates_from plan at first (feed ∷ feeds) (fold ∷ folds) =
     (if feed.plan == plan then filter_map (update_in first) fold.entities else [])
