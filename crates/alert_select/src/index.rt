@@ -48,9 +48,8 @@ impl AlertIndex {
         Ok(AlertIndex { alerts })
     }
 
-    /// The index of what the feed holds after the message, where this is the index of the table before it; or out of
-    /// memory. It looks at the message's entities alone, and shares with this index what they leave. `table` is there
-    /// for the contract.
+    /// The index of what the feed holds after the message, where this is the index of the table before it; or want
+    /// of memory. It looks at the message's entities alone, and shares with this index what they leave.
     pub fn after(
         &self,
         alloc: Global,

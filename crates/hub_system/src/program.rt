@@ -4,11 +4,10 @@ ghost use Rattle.std.specs.Prelude.{◌≡◌, length};
 ghost use Rattle.std.specs.Arc.{arc_value};
 
 use crate::NoMemory;
-use crate::listening::{clocks_of, doors_of, listen, reader_count};
-use crate::opening::{SystemPort, open_ports};
 use feed_port::FeedPort;
 use hub_main::{Prepared, ServeConf, prepare_serve, run_on_system};
 use hub_outside::{OpenGate, Sink, StdFiles, StdSink};
+use hub_ports::{SystemPort, clocks_of, doors_of, listen, open_ports, reader_count};
 use hub_serve::run_serve;
 use rt_types::Text;
 use std::alloc::Global;
@@ -63,9 +62,9 @@ where
     }
 }
 
-/// The words behind the program's name, where the first of them is `serve`. Words that the system doesn't
+/// The words after the program's name, where the first of them is `serve`. Words that the system doesn't
 /// give, or of which one is not UTF-8, are none of them.
-pub(crate) fn words_of_serve(
+pub fn words_of_serve(
     alloc: Global,
     words: io::Result<Args>,
 ) -> Result<Option<Vec<Text>>, NoMemory> {

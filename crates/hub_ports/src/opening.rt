@@ -1,7 +1,7 @@
 //! The port of each feed.
 
 ghost use Rattle.std.specs.Prelude.{◌≡◌, length, vec_len, IfOk};
-ghost use Rattle.hub_system.specs.Opened.{IsPortOf};
+ghost use Rattle.hub_ports.specs.Opened.{IsPortOf};
 
 use crate::NoMemory;
 use crate::connecting::connect;
@@ -27,7 +27,7 @@ pub enum SystemPort<R> {
 }
 
 /// A port for each feed, in their order, as `boxed` hands it on.
-pub(crate) fn open_ports<R, P, F, E>(
+pub fn open_ports<R, P, F, E>(
     rt: &R,
     alloc: Global,
     feeds: &[FeedConf],
@@ -52,7 +52,7 @@ where
 }
 
 /// The port of a feed. Where its connection can't be made a line tells why, and its first ask fails.
-pub(crate) fn open_port<R, E>(
+pub fn open_port<R, E>(
     rt: &R,
     alloc: Global,
     feed: &FeedConf,

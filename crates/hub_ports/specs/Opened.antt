@@ -6,8 +6,8 @@ use Rattle.feed_port.specs.declared.stream.Stage.TheVariants.{Open}
 use Rattle.feed_port.specs.Memory.{messages_ahead}
 use Rattle.feed_port.specs.Spooling.{spool_folder, spool_number}
 use Rattle.feed_port.specs.Streams.{stage_of}
-use Rattle.hub_system.specs.declared.opening.SystemPort.{SystemPort}
-use Rattle.hub_system.specs.declared.opening.SystemPort.TheVariants.{Nothing, Spool, Stream}
+use Rattle.hub_ports.specs.declared.opening.SystemPort.{SystemPort}
+use Rattle.hub_ports.specs.declared.opening.SystemPort.TheVariants.{Nothing, Spool, Stream}
 
 -- The port is of the feed's kind. One with no messages has none ahead, that of a folder stands before
 -- its first file, and a stream was not read yet.

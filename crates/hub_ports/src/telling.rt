@@ -2,8 +2,8 @@
 
 ghost use Rattle.std.specs.Prelude.{◌≡◌, ◌++◌, codes, string_bytes, IfOk};
 ghost use Rattle.hub_outside.specs.Writing.{WritesAll};
-ghost use Rattle.hub_system.specs.Lines as lines;
-ghost use Rattle.hub_system.specs.Lines.{Tells};
+ghost use Rattle.hub_ports.specs.Lines as lines;
+ghost use Rattle.hub_ports.specs.Lines.{Tells};
 
 use crate::NoMemory;
 use hub_outside::{Sink, write_all};

@@ -1,7 +1,7 @@
 //! Addresses that are tried one after another.
 
 ghost use Rattle.std.specs.Prelude.{◌≡◌};
-ghost use Rattle.hub_system.specs.Lines.{cause_of_name};
+ghost use Rattle.hub_ports.specs.Lines.{cause_of_name};
 
 use std::io;
 use std::io::ErrorKind;

@@ -3,7 +3,7 @@ use Rattle.std.proofs.Common.{◌≡◌, vec_len}
 use Rattle.std.specs.List.{All}
 use Rattle.hub_outside.specs.declared.adapters.door.TcpDoor.{TcpDoor}
 use Rattle.hub_outside.specs.Adapters.{tcp_taken}
-use Rattle.hub_system.proofs.listening.doors_of.Given as goal
+use Rattle.hub_ports.proofs.listening.doors_of.Given as goal
 
 abbrev pub invariant-loop : goal.invariant-loop
 invariant-loop g l = record {

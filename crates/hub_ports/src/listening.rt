@@ -3,7 +3,7 @@
 ghost use Rattle.std.specs.Prelude.{◌≡◌, ◌≤◌, vec_len, IfOk};
 ghost use Rattle.std.specs.List.{All};
 ghost use Rattle.hub_outside.specs.Adapters.{tcp_faults, tcp_taken};
-ghost use Rattle.hub_system.specs.Opened.{reader_count};
+ghost use Rattle.hub_ports.specs.Opened.{reader_count};
 
 use crate::NoMemory;
 use crate::connecting::bind;
@@ -19,7 +19,7 @@ const MOST_READERS: u32 = 64;
 
 /// The listener of that address, and none where it can't be bound; a line tells which. With the port 0
 /// the system chooses one, which the line names.
-pub(crate) fn listen<R: Net<Listener = TcpListener, Stream = TcpStream>, E: Sink>(
+pub fn listen<R: Net<Listener = TcpListener, Stream = TcpStream>, E: Sink>(
     rt: &R,
     alloc: Global,
     address: &str,
@@ -41,7 +41,7 @@ pub(crate) fn listen<R: Net<Listener = TcpListener, Stream = TcpStream>, E: Sink
 }
 
 /// How many readers a hub has by its configuration, which allows 1 to 64.
-pub(crate) fn reader_count(readers: u32) -> u32
+pub fn reader_count(readers: u32) -> u32
     ensures count { result ≡ reader_count readers }
     ensures some { 1 ≤ result }
     ensures few { result ≤ 64 }
@@ -51,7 +51,7 @@ pub(crate) fn reader_count(readers: u32) -> u32
 
 /// So many doors of the listener, each for up to `most` connections, of which 0 sets no end. Without a
 /// listener they are closed.
-pub(crate) fn doors_of<R: rt::Clock + Copy>(
+pub fn doors_of<R: rt::Clock + Copy>(
     rt: &R,
     alloc: Global,
     listener: &Option<Arc<TcpListener>>,
@@ -84,7 +84,7 @@ fn door_of<R: rt::Clock + Copy>(
 }
 
 /// So many of the system's clocks.
-pub(crate) fn clocks_of<R: rt::Clock + Copy>(
+pub fn clocks_of<R: rt::Clock + Copy>(
     rt: &R,
     alloc: Global,
     count: u32,
