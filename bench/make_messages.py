@@ -13,7 +13,9 @@ Of ten entities eight are trip updates of five stops each, one is a vehicle and 
 """
 import struct
 import sys
+from pathlib import Path
 
+sys.path.append(str(Path(__file__).resolve().parents[1] / "samples/serve"))
 from wire import number, run, varint
 
 

@@ -10,9 +10,9 @@ import threading
 import time
 import urllib.request
 
-from wire import number, run
-
 BENCH = os.path.dirname(os.path.abspath(__file__))
+sys.path.append(os.path.join(os.path.dirname(BENCH), "samples/serve"))
+from wire import number, run
 ZONE = "CET-1CEST,M3.5.0,M10.5.0/3"
 # Today, and yesterday as the first day of the window: boards are asked for now.
 DATE = time.strftime("%Y%m%d").encode()

@@ -25,7 +25,6 @@ import time
 import tomllib
 from pathlib import Path
 
-sys.path.append(str(Path(__file__).resolve().parents[2] / "bench"))
 from wire import number, run  # the bytes of a number's field, and of a text's or a message's
 
 SCENES = {"calm", "late", "skipped", "canceled", "added", "alert", "unmatched"}

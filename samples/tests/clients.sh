@@ -5,9 +5,11 @@
 # Needs curl and python3.
 set -euo pipefail
 top=$(cd "$(dirname "$0")/../.." && pwd)
-. "$top/samples/serve/running.sh"
+. "$top/samples/serve/functions.sh"
 . "$top/samples/tests/front.sh"
+needs curl python3
 cd "$top"
+build_hub
 
 # tell: shows what a command printed, and keeps it in the file `said`.
 tell() { "$@" > "$work/said"; sed 's/^/        /' "$work/said"; }

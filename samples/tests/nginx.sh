@@ -5,9 +5,11 @@
 # is not ./hub. Needs curl, python3, nginx, openssl and wrk.
 set -euo pipefail
 top=$(cd "$(dirname "$0")/../.." && pwd)
-. "$top/samples/serve/running.sh"
+. "$top/samples/serve/functions.sh"
 . "$top/samples/tests/front.sh"
+needs curl python3 nginx openssl wrk
 cd "$top"
+build_hub
 
 # get PATH [WORD ..]: the answer of nginx in the files `head` and `body`; its status in `status`.
 get() {

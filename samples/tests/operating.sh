@@ -5,9 +5,11 @@
 # where systemd-analyze is installed, the service's file is read by it.
 set -euo pipefail
 top=$(cd "$(dirname "$0")/../.." && pwd)
-. "$top/samples/serve/running.sh"
+. "$top/samples/serve/functions.sh"
 . "$top/samples/tests/front.sh"
+needs curl python3 nginx openssl wrk
 cd "$top"
+build_hub
 
 # feeds_are STATUS WORD ..: whether the check of the first hub's feeds ends so; what it says is shown.
 feeds_are() {
