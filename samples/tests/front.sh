@@ -18,7 +18,7 @@ end_checks() {
   [ "$failed" = 0 ]
 }
 
-# free_port: a TCP port of this machine that nothing listens on just now.
+# free_port: a TCP port of this machine that nothing listens on.
 free_port() {
   python3 -c 'import socket; s = socket.socket(); s.bind(("127.0.0.1", 0)); print(s.getsockname()[1])'
 }
@@ -77,12 +77,12 @@ run_nginx() {
   wait_for curl -ks --max-time 2 -o "$work/front" "https://$front_address/"
 }
 
-# end_nginx: ends it, so that run_nginx can start it anew.
+# end_nginx: ends it, so that run_nginx can start it again.
 end_nginx() {
   stop_process "$nginx_process"
 }
 
-# lift_limits: nginx anew, without what it limits of requests and connections, for a client that asks much.
+# lift_limits: nginx again, without what it limits of requests and connections, for a client that asks much.
 lift_limits() {
   end_nginx
   sed -i -e '/limit_req zone/d' -e '/limit_conn hub/d' "$work/nginx/hub.conf"

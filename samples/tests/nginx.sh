@@ -109,7 +109,7 @@ with context.wrap_socket(socket.create_connection((host, int(port)), timeout=20)
 print(round(time.monotonic() - began))
 PY
 )
-check "a client that doesn't end its head is let go after $slow seconds" test "$slow" -le 8
+check "a client that doesn't end its head is dropped after $slow seconds" test "$slow" -le 8
 
 echo "== one answer for equal requests of a second"
 sleep 1.1
