@@ -1,13 +1,11 @@
-#!/bin/sh
+#!/usr/bin/env bash
 # Checks timetables of 400,000 and 1,000,000 stop times, or of TRIPS times 20 where TRIPS is given, and prints CPU
-# seconds and peak memory of each check (GNU time), beside those of counting the lines of stop_times.txt and, where
+# seconds and peak memory of each check (GNU time), next to those of counting the lines of stop_times.txt and, where
 # Debian's librust-csv-dev and cargo are installed, of counting its records by Rust's csv.
+#   bench/check.sh [TRIPS]
+# Needs python3, GNU time, and the program, which ./hub builds where it is missing; or HUB, the path of another.
 set -eu
-root=$(cd "$(dirname "$0")/.." && pwd)
-work=$(mktemp -d)
-trap 'rm -rf "$work"' EXIT
-# Builds the program, if need be.
-"$root/hub" check "$root/samples/city.toml" > "$work/log" 2>&1 || true
+. "$(dirname "$0")/begin.sh"
 
 measured() {
     name=$1
@@ -38,9 +36,9 @@ fi
 
 for trips in ${1:-20000 50000}; do
     folder=$work/city$trips
-    python3 "$root/bench/make_timetable.py" "$trips" "$folder"
+    python3 bench/make_timetable.py "$trips" "$folder"
     echo "$((trips * 20)) stop times"
-    measured "hub check" "$root/hub" check "$folder.toml"
+    measured "hub check" "$hub" check "$folder.toml"
     measured "wc -l" wc -l "$folder/stop_times.txt"
     [ ! -x "$work/rust/target/release/count_records" ] || measured "Rust's csv" "$work/rust/target/release/count_records" "$folder/stop_times.txt"
 done

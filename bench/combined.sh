@@ -1,9 +1,9 @@
 #!/usr/bin/env bash
 # Times the combined feed of 3,000 entities: a replay that takes one whole data set and writes the feed 200 times, less one
 # that writes it never. Prints microseconds a feed and its MB a second, of a timetable without prefix and of one with,
-# beside a copy of the same bytes within memory; and instructions an entity where valgrind is there to count them.
+# next to a copy of the same bytes within memory; and instructions an entity where valgrind is there to count them.
 #   bench/combined.sh [ENTITIES]
-# Needs python3 and the program built (./hub), or HUB, the path of another.
+# Needs python3 and the program, which ./hub builds where it is missing; or HUB, the path of another.
 set -eu
 . "$(dirname "$0")/begin.sh"
 python3 bench/make_messages.py full 1 "${1:-3000}" > "$work/plain"

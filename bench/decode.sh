@@ -1,18 +1,15 @@
 #!/usr/bin/env bash
 # Times how fast messages are read: 2,000 of 20 entities, and whole data sets of 3,000 and of 30,000 entities.
 # Each is read whole and then refused as stale, so that nothing is kept. Prints MB a second of `hub replay`, less the
-# time of a replay that only takes the same bytes in, and beside it those of libprotobuf with fresh messages, where protoc, libprotobuf-dev and g++ are installed.
-# Needs the program built (./hub) and python3.
+# time of a replay that only takes the same bytes in, and next to it those of libprotobuf with fresh messages, where
+# protoc, libprotobuf-dev and g++ are installed.
+# Needs python3 and the program, which ./hub builds where it is missing; or HUB, the path of another.
 set -eu
-bench=$(cd "$(dirname "$0")" && pwd)
-top=$(dirname "$bench")
-work=$(mktemp -d)
-trap 'rm -rf "$work"' EXIT
-"$top/hub" > /dev/null 2>&1 < /dev/null || true   # builds it where it is missing
+. "$(dirname "$0")/begin.sh"
 
 if command -v protoc > /dev/null && command -v g++ > /dev/null \
-    && protoc --proto_path="$bench" --cpp_out="$work" gtfs_realtime.proto > "$work/log" 2>&1 \
-    && g++ -O2 -I"$work" "$bench/decode.cc" "$work/gtfs_realtime.pb.cc" -lprotobuf -o "$work/decode" >> "$work/log" 2>&1; then
+    && protoc --proto_path=samples/serve --cpp_out="$work" gtfs_realtime.proto > "$work/log" 2>&1 \
+    && g++ -O2 -I"$work" bench/decode.cc "$work/gtfs_realtime.pb.cc" -lprotobuf -o "$work/decode" >> "$work/log" 2>&1; then
   echo "libprotobuf: $(protoc --version)"
 else
   echo "libprotobuf: not measured, since protoc, libprotobuf-dev or g++ is not installed"
@@ -20,9 +17,9 @@ fi
 
 # one measurement: what it is, then the words for make_messages.py
 measure() {
-  python3 "$bench/make_messages.py" stale "${@:2}" > "$work/script"
-  python3 "$bench/make_messages.py" passed "$work/script" > "$work/passed"
-  python3 - "$top/hub" "$work/script" "$work/passed" "$1" <<'PY'
+  python3 bench/make_messages.py stale "${@:2}" > "$work/script"
+  python3 bench/make_messages.py passed "$work/script" > "$work/passed"
+  python3 - "$hub" "$work/script" "$work/passed" "$1" <<'PY'
 import os, subprocess, sys, time
 program, script, passed, what = sys.argv[1:]
 

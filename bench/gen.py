@@ -56,7 +56,7 @@ def counted(trips, messages):
 
 
 def parts(trips, messages):
-    """What each part of a run takes, in instructions. A run of one message tells what the timetable takes."""
+    """What each part of a run takes, in instructions. A run of one message shows what the timetable takes."""
     whole, offering, boards = counted(trips, messages)
     alone, offering_one, boards_one = counted(trips, 1)
     timetable = alone - offering_one - boards_one

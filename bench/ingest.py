@@ -2,7 +2,7 @@
 
 usage: ingest.py PROGRAM [MESSAGES]   the messages of 20 entities each that all feeds together send, by default 8000
 
-For 1, 2 and 4 feeds with 0 and 4 readers at work, beside `hub replay` of the messages of one feed. Where valgrind is
+For 1, 2 and 4 feeds with 0 and 4 readers at work, next to `hub replay` of the messages of one feed. Where valgrind is
 there it also counts what taking a message costs outside of the lock and under it.
 """
 import os
@@ -19,7 +19,7 @@ PROGRAM = sys.argv[1]
 MESSAGES = int(sys.argv[2]) if len(sys.argv) > 2 else 8000
 TRIPS = 2000
 COUNTED = 200
-# What is done in front of the lock, and under it.
+# What is done before the lock, and under it.
 PARTS = {
     "in front of the lock, reading and judging": "hub_core::judge::check",
     "under it, making the view": "hub_state::state::HubCore::prepare",

@@ -1,4 +1,4 @@
-"""How fast a running hub answers for a small board, beside nginx with a file of the same bytes, for running.sh.
+"""How fast a running hub answers for a small board, next to nginx with a file of the same bytes, for running.sh.
 
 usage: load.py PROGRAM [SECONDS]   the seconds of each measurement, by default 5
 

@@ -3,9 +3,9 @@
 
 usage: make_messages.py small COUNT ENTITIES   COUNT differential messages of ENTITIES entities each
        make_messages.py full COUNT ENTITIES    COUNT whole data sets of ENTITIES entities each
-       make_messages.py stale ..               the same behind a message with the greatest stamp, so that a hub reads
+       make_messages.py stale ..               the same after a message with the greatest stamp, so that a hub reads
                                                each whole and keeps none; .. are the words of one of the two above
-       make_messages.py over COUNT ENTITIES IDS    the same as `small`, behind a whole data set of IDS entities, of whose
+       make_messages.py over COUNT ENTITIES IDS    the same as `small`, after a whole data set of IDS entities, of whose
                                                ids each message changes some; COUNT may be 0
        make_messages.py passed SCRIPT          the bytes of SCRIPT in one record, which is refused at its first byte or as too long
 
@@ -13,7 +13,9 @@ Of ten entities eight are trip updates of five stops each, one is a vehicle and 
 """
 import struct
 import sys
+from pathlib import Path
 
+sys.path.append(str(Path(__file__).resolve().parents[1] / "samples/serve"))
 from wire import number, run, varint
 
 

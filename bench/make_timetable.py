@@ -1,5 +1,5 @@
 #!/usr/bin/env python3
-"""Writes a timetable to a folder, and beside it its configuration.
+"""Writes a timetable to a folder, and its configuration next to that.
 
 usage: make_timetable.py TRIPS FOLDER [PLACES]   TRIPS trips of PLACES places each (20 where it is left out); the
                                                  configuration is FOLDER.toml

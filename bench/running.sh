@@ -1,16 +1,16 @@
-#!/bin/sh
-# Measures a running hub: how many messages a second it takes (ingest), how fast it answers beside nginx (load), and
-# its memory over an hour's worth of messages (memory), and what it takes by size (sizes). The words say which, all
-# four where there are none.
-# Needs python3 and the program built (./hub), or HUB, the path of another; load needs wrk and nginx, ingest needs wrk and counts where valgrind is.
+#!/usr/bin/env bash
+# Measures a running hub: how many messages a second it takes (ingest), how fast it answers, next to nginx (load), its
+# memory over an hour's worth of messages (memory), and what it takes by size (sizes). The words say which, all four
+# where there are none.
+#   bench/running.sh [ingest] [load] [memory] [sizes]
+# load needs wrk and nginx; ingest needs wrk, and counts instructions where valgrind is there.
+# Needs python3 and the program, which ./hub builds where it is missing; or HUB, the path of another.
 set -eu
-bench=$(cd "$(dirname "$0")" && pwd)
-program=${HUB:-$bench/../crates/hub/out/hub}
-[ -n "${HUB:-}" ] || "$bench/../hub" > /dev/null 2>&1 < /dev/null || true   # builds it where it is missing
+. "$(dirname "$0")/begin.sh"
 [ $# -gt 0 ] || set -- ingest load memory sizes
 for what; do
   case $what in
-    ingest | load | memory | sizes) python3 "$bench/$what.py" "$program" ;;
+    ingest | load | memory | sizes) python3 "bench/$what.py" "$hub" ;;
     *) echo "running.sh: ingest, load, memory or sizes" >&2; exit 2 ;;
   esac
 done

@@ -10,9 +10,9 @@ import threading
 import time
 import urllib.request
 
-from wire import number, run
-
 BENCH = os.path.dirname(os.path.abspath(__file__))
+sys.path.append(os.path.join(os.path.dirname(BENCH), "samples/serve"))
+from wire import number, run
 ZONE = "CET-1CEST,M3.5.0,M10.5.0/3"
 # Today, and yesterday as the first day of the window: boards are asked for now.
 DATE = time.strftime("%Y%m%d").encode()
@@ -27,7 +27,7 @@ def header(stamp, whole=False):
 
 
 def entities_of(pairs):
-    """The entities of these ids and payloads, as they stand behind a header."""
+    """The entities of these ids and payloads, as they come after a header."""
     return b"".join(run(2, run(1, name) + payload) for name, payload in pairs)
 
 
@@ -51,12 +51,12 @@ def changes(count, trips, entities=20, shift=0, places=range(1, 21, 4)):
 
 
 def frames(messages):
-    """What a stream sends: each message behind four bytes of its length."""
+    """What a stream sends: each message after four bytes of its length."""
     return b"".join(struct.pack(">I", len(payload)) + payload for payload in messages)
 
 
 class Sender:
-    """Waits for a hub at a port of its own, sends what it is given once it is told to, and keeps the connection."""
+    """Waits for a hub at a port of its own, sends what it is given once it may begin, and keeps the connection."""
 
     def __init__(self, parts, pause=0.0):
         self.listener = socket.create_server(("127.0.0.1", 0))

@@ -1,8 +1,8 @@
 #!/usr/bin/env bash
 # Times how fast requests are answered: scripts with 20 connections of 1,000 requests each, for a board of one row, for
 # one as JSON, and for what isn't there. Prints responses and MB a second of `hub replay`, less the time of a script that
-# ends at once, and beside it how long `cat` takes to copy what was written.
-# Needs python3 and the program built (./hub), or HUB, the path of another.
+# ends at once, and next to it how long `cat` takes to copy what was written.
+# Needs python3 and the program, which ./hub builds where it is missing; or HUB, the path of another.
 set -eu
 . "$(dirname "$0")/begin.sh"
 

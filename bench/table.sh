@@ -2,7 +2,7 @@
 # What a message of 20 entities costs over a table of 2,000 ids and over one of 20,000: a replay of a whole data set and
 # 2,000 such messages, less one of the data set alone. Of the 20 entities two are alerts. Prints both in time and, where
 # valgrind is there, in instructions, and how they grow with the table.
-# Needs python3 and the program built (./hub), or HUB, the path of another.
+# Needs python3 and the program, which ./hub builds where it is missing; or HUB, the path of another.
 set -eu
 . "$(dirname "$0")/begin.sh"
 

@@ -82,7 +82,7 @@ async function poll() {
   timer = setTimeout(poll, seconds * 1000 * (0.9 + 0.2 * Math.random()));
 }
 
-// Asks for the board and the alerts, shows what came of it, and tells how many seconds later to ask again.
+// Asks for the board and the alerts, shows what came of it, and returns how many seconds later to ask again.
 async function askAll() {
   const stop = new AbortController();
   const patience = setTimeout(() => stop.abort(), SETTINGS.patience * 1000);
@@ -169,7 +169,7 @@ function showBoard(before) {
   document.title = `${name} – ${TEXTS.title}`;
   setText(part("stop"), name);
   setText(part("caption"), TEXTS.caption(name));
-  // At a stop of one platform its name in each row would tell nothing.
+  // At a stop of one platform its name in each row would say nothing.
   part("board").classList.toggle("one-platform", board.rows.every((row) => row.platform === board.stop));
   const remarks = before && new Map(before.rows.map((row) => [keyOf(row), remarkOf(row)]));
   part("rows").replaceChildren(...board.rows.map((row) => rowOf(row, remarks)));
@@ -225,7 +225,7 @@ function showAlerts() {
   const items = shown.alerts.map((alert) => [TEXTS.effects[alert.effect - 1] ?? TEXTS.notice, alert.header || "–"]);
   part("alerts").hidden = items.length === 0;
   const list = part("alert-list");
-  // As it stands where nothing changed, so that it isn't read out anew.
+  // Left as it is where nothing changed, so that it isn't read out again.
   if (JSON.stringify(items) === list.dataset.items) return;
   list.dataset.items = JSON.stringify(items);
   list.replaceChildren(...items.map(([effect, header]) =>

@@ -1,4 +1,4 @@
-// What an operator sets. Texts are shown as they stand here; a translation changes them and `language`, which is that
+// What an operator sets. Texts are shown as they are here; a translation changes them and `language`, which is that
 // of the page for browsers and screen readers, and sets how times are written.
 "use strict";
 

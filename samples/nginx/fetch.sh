@@ -8,9 +8,9 @@
 #
 # A hub takes 000001.pb, 000002.pb and so on up to the first name that isn't there, and then it asks its spool no more. So
 # that it goes on, the name that it asks for next is always there, as a named pipe: the hub waits at it until a message
-# was written. What is fetched stands under a name that no spool takes until it is whole.
+# was written. What is fetched has a name that no spool takes until it is whole.
 #
-# It is to be started before the hub, and anew with it: a hub that starts begins with 000001.pb. Needs curl.
+# Start it before the hub, and again with it: a hub that starts begins with 000001.pb. Needs curl.
 set -eu
 url=$1
 spool=$2

@@ -1,11 +1,11 @@
 #!/bin/sh
-# Asks a hub for its status and tells which feeds are silent: whose last accepted message has a stamp that lies further
-# back than some seconds, by the hub's own clock, or that had none yet.
+# Asks a hub for its status and says which feeds are silent: whose last accepted message has a stamp that is further back
+# than some seconds, by the hub's own clock, or that had none yet.
 #
 # usage: check_feeds.sh ADDRESS SECONDS [FEED=SECONDS ..]
 #
-# ADDRESS is the hub's, as 127.0.0.1:8080; SECONDS holds for each feed but those that are named with their own. 0 stands for
-# a feed that may be silent for ever. One line for each feed. Status 0: none is silent; 1: one is; 2: the hub does not
+# ADDRESS is the hub's, as 127.0.0.1:8080; SECONDS holds for each feed but those that are named with their own. 0 means that
+# a feed may be silent for ever. One line for each feed. Status 0: none is silent; 1: one is; 2: the hub does not
 # answer, or not as a hub does. The question takes a reader of the hub for a moment. Needs curl and awk.
 set -eu
 address=$1

@@ -1,20 +1,25 @@
 #!/usr/bin/env python3
 """Asks an address for its GTFS Realtime feed again and again, and hands it to a hub as a stream.
 
-usage: poll.py URL ADDRESS [SECONDS]
+usage: poll.py [--header HEADER].. URL ADDRESS [SECONDS]
 
-URL is that of the feed. At ADDRESS (HOST:PORT, 0 for a port that is free) a hub finds it: a feed of kind "stream" whose
-place is this address. SECONDS is the time between two questions, 10 where it is left out. A hub that connects is given
-the last feed at once, and each one that differs from the one before from then on. The address may fail as often as it
-likes: the connection to the hub stays, since a hub asks for a stream one time, when it starts. So this is to be started
-before the hub. It runs until it is ended, and says on standard error what went wrong with the address, once each time.
+URL is that of the feed. At ADDRESS (HOST:PORT, 0 for a free port) a hub finds it: a feed of kind "stream" whose place is
+this address. SECONDS is the time between two requests, 10 where it is left out.
+
+HEADER is sent with each request, as 'X-Api-Key: 1234'; --header may be given several times. @FILE stands for the lines of
+a file, a header each, so that a key is not seen in the list of processes. Where the URL redirects, they are not sent on.
+
+A hub that connects is sent the last feed at once, and from then on each one that differs from the one before. The URL may
+fail as often as it likes: the connection to the hub stays, since a hub connects to a stream once, when it starts. So start
+this before the hub. It runs until it is ended, and says on standard error what is wrong with the URL, once each time.
 """
+import argparse
+import http.client
 import socket
 import struct
 import sys
 import threading
 import time
-import urllib.error
 import urllib.request
 
 LONGEST = 16_777_216  # bytes of a message, of which a hub takes no more
@@ -24,15 +29,19 @@ PATIENCE_SECONDS = 20
 class Feed:
     """The last message of the address, and how many there were."""
 
-    def __init__(self, url):
-        self.url, self.message, self.count, self.trouble = url, b"", 0, ""
+    def __init__(self, url, headers):
+        self.url, self.headers = url, headers
+        self.message, self.count, self.trouble = b"", 0, ""
         self.changed = threading.Condition()
 
     def ask(self):
+        request = urllib.request.Request(self.url)
+        for name, value in self.headers:
+            request.add_unredirected_header(name, value)
         try:
-            with urllib.request.urlopen(self.url, timeout=PATIENCE_SECONDS) as answer:
+            with urllib.request.urlopen(request, timeout=PATIENCE_SECONDS) as answer:
                 message = answer.read(LONGEST + 1)
-        except (OSError, urllib.error.URLError) as error:
+        except (OSError, http.client.HTTPException) as error:
             return self.tell(f"{self.url}: {error}")
         if len(message) > LONGEST:
             return self.tell(f"{self.url}: more than {LONGEST} bytes")
@@ -61,13 +70,33 @@ class Feed:
                     return
 
 
+def headers_of(words):
+    """The headers that these words name, as pairs."""
+    lines = []
+    for word in words:
+        if word.startswith("@"):
+            with open(word[1:], encoding="latin-1") as file:
+                lines += [line.strip() for line in file if line.strip()]
+        else:
+            lines.append(word)
+    pairs = [line.partition(":") for line in lines]
+    if not all(name and colon for name, colon, _ in pairs):
+        sys.exit("poll.py: a header is a name, a colon and a value")
+    return [(name.strip(), value.strip()) for name, _, value in pairs]
+
+
 def main():
-    url, address = sys.argv[1:3]
-    seconds = float(sys.argv[3]) if len(sys.argv) > 3 else 10
-    host, port = address.rsplit(":", 1)
+    parser = argparse.ArgumentParser(add_help=False)
+    parser.error = lambda _: sys.exit(__doc__)
+    parser.add_argument("--header", action="append", default=[])
+    parser.add_argument("url")
+    parser.add_argument("address")
+    parser.add_argument("seconds", nargs="?", type=float, default=10)
+    words = parser.parse_args()
+    host, port = words.address.rsplit(":", 1)
+    feed = Feed(words.url, headers_of(words.header))
     listener = socket.create_server((host, int(port)))
     print("poll.py: listening on %s:%d" % listener.getsockname()[:2], file=sys.stderr, flush=True)
-    feed = Feed(url)
 
     def serve():
         while True:
@@ -77,9 +106,7 @@ def main():
     threading.Thread(target=serve, daemon=True).start()
     while True:
         feed.ask()
-        time.sleep(seconds)
+        time.sleep(words.seconds)
 
 
-if len(sys.argv) not in (3, 4):
-    sys.exit(__doc__)
 main()

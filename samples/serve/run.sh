@@ -4,8 +4,10 @@
 # Needs curl and python3; where protoc is installed, the combined feed is read by it.
 set -euo pipefail
 top=$(cd "$(dirname "$0")/../.." && pwd)
-. "$top/samples/serve/running.sh"
+. "$top/samples/serve/functions.sh"
+needs curl python3
 cd "$top"
+build_hub
 
 samples/serve/send.py samples/serve/hub.toml spool "$work/spool" alert
 start_sender
@@ -48,7 +50,7 @@ has '^trams\t[1-9]\d*\t\d+\t[1-9]\d*$'
 
 ask /feed/city && wc -c < "$work/answer"
 if command -v protoc > "$work/found"; then
-  protoc --proto_path=bench --decode=transit_realtime.FeedMessage gtfs_realtime.proto < "$work/answer" > "$work/text"
+  protoc --proto_path=samples/serve --decode=transit_realtime.FeedMessage gtfs_realtime.proto < "$work/answer" > "$work/text"
   grep -q '^  id: "notices:lift"$' "$work/text" || fail "the combined feed has no alert"
   grep -q '^  id: "trams:extra"$' "$work/text" || fail "the combined feed has no added tram"
   echo "protoc reads $(grep -c '^entity {' "$work/text") entities"

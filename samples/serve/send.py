@@ -25,7 +25,6 @@ import time
 import tomllib
 from pathlib import Path
 
-sys.path.append(str(Path(__file__).resolve().parents[2] / "bench"))
 from wire import number, run  # the bytes of a number's field, and of a text's or a message's
 
 SCENES = {"calm", "late", "skipped", "canceled", "added", "alert", "unmatched"}
@@ -63,7 +62,7 @@ class Timetable:
                                  if row["stop_id"] in platforms and row["trip_id"] in trams)
 
     def near(self, now):
-        """The departures of the hour that a board shows, and of ten minutes before and behind it: the
+        """The departures of the hour that a board shows, and of ten minutes before and after it: the
         number in the day, the trip, the service day and the stop_sequence of each."""
         for days in (-1, 0, 1):
             day = time.localtime(now + days * DAY)
@@ -102,7 +101,7 @@ def trams(timetable, scene, now):
 
 
 def added(now):
-    """One more tram, from Market A by way of Harbour to Hill, told by its times: at the next quarter of an hour that is
+    """One more tram, from Market A by way of Harbour to Hill, given by its times: at the next quarter of an hour that is
     five minutes away at least."""
     leaves = ((now + 300) // 900 + 1) * 900
     calls = [(b"S1", 0), (b"S3", 360), (b"S4", 840)]

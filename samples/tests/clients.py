@@ -41,7 +41,7 @@ def silent(address, count):
     time.sleep(0.5)
     took = asked(address)
     closed = [answer(link) for link in links]
-    print(f"beside {count} silent connections the next one was answered after {took:.1f} s")
+    print(f"with {count} silent connections the next one was answered after {took:.1f} s")
     print(f"{sum(not it for it in closed)} of them were closed without a byte")
 
 

@@ -5,12 +5,14 @@
 # Needs curl and python3.
 set -euo pipefail
 top=$(cd "$(dirname "$0")/../.." && pwd)
-. "$top/samples/serve/running.sh"
+. "$top/samples/serve/functions.sh"
 . "$top/samples/tests/front.sh"
+needs curl python3
 cd "$top"
+build_hub
 
-# tell: shows what a command printed, and keeps it in the file `said`.
-tell() { "$@" > "$work/said"; sed 's/^/        /' "$work/said"; }
+# show: shows what a command printed, and keeps it in the file `said`.
+show() { "$@" > "$work/said"; sed 's/^/        /' "$work/said"; }
 
 # within SECONDS: whether the last answer came in less.
 within() {
@@ -25,12 +27,12 @@ feeds=("$(notices_from "$work/spool")" "$(trams_from "$sender_address")")
 echo "== silent clients"
 start_hub many "${feeds[@]}" 's/^readers = .*/readers = 64/'
 wait_for has_accepted "$hub_address" notices trams
-tell samples/tests/clients.py silent "$hub_address" 64
-check "the next one is answered once the first is let go, after ten seconds" within 15
-check "and all are let go" grep -q '^64 of them were closed' "$work/said"
+show samples/tests/clients.py silent "$hub_address" 64
+check "the next one is answered once the first is dropped, after ten seconds" within 15
+check "and all are dropped" grep -q '^64 of them were closed' "$work/said"
 
 echo "== a client that sends a byte a second"
-tell samples/tests/clients.py slow "$hub_address"
+show samples/tests/clients.py slow "$hub_address"
 check "others are answered meanwhile" within 2
 check "and so is that one in the end" grep -q 'HTTP/1.1 200 OK' "$work/said"
 
@@ -38,7 +40,7 @@ echo "== clients that go away"
 stop_process "$hub_process"
 start_hub one "${feeds[@]}" 's/^readers = .*/readers = 1/'
 wait_for has_accepted "$hub_address" notices trams
-tell samples/tests/clients.py gone "$hub_address" 20
+show samples/tests/clients.py gone "$hub_address" 20
 check "the only reader goes on" within 5
 stop_process "$hub_process"
 

@@ -7,9 +7,11 @@
 # usage: display.sh [FOLDER]
 set -euo pipefail
 top=$(cd "$(dirname "$0")/../.." && pwd)
-. "$top/samples/serve/running.sh"
+. "$top/samples/serve/functions.sh"
 . "$top/samples/tests/front.sh"
+needs curl python3 nginx openssl chromium
 cd "$top"
+build_hub
 
 start_sender
 show_scene calm

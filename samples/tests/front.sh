@@ -1,5 +1,5 @@
 # shellcheck shell=bash disable=SC2034,SC2154
-# Functions for trials of nginx in front of a hub. To be sourced behind samples/serve/running.sh.
+# Functions for trials of nginx in front of a hub. To be sourced after samples/serve/functions.sh.
 
 failed=0
 
@@ -18,12 +18,12 @@ end_checks() {
   [ "$failed" = 0 ]
 }
 
-# free_port: a TCP port of this machine that nothing listens on just now.
+# free_port: a TCP port of this machine that nothing listens on.
 free_port() {
   python3 -c 'import socket; s = socket.socket(); s.bind(("127.0.0.1", 0)); print(s.getsockname()[1])'
 }
 
-# start_nginx UPSTREAM EDIT ..: nginx with the files of samples/nginx as they stand, but for ports and folders, and for
+# start_nginx UPSTREAM EDIT ..: nginx with the files of samples/nginx as they are, but for ports and folders, and for
 # what sed's EDITs change in the file UPSTREAM, one_hub.conf or two_hubs.conf. It listens for TLS at `front_address`,
 # and at `plain_address` without.
 start_nginx() {
@@ -67,7 +67,7 @@ CONF
   run_nginx
 }
 
-# run_nginx: nginx with the files that start_nginx left, as they stand now.
+# run_nginx: nginx with the files that start_nginx left, as they are at that moment.
 run_nginx() {
   local folder=$work/nginx
   nginx -t -p "$folder" -c "$folder/nginx.conf" 2> "$folder/test.log" || fail "$(cat "$folder/test.log")"
@@ -77,12 +77,12 @@ run_nginx() {
   wait_for curl -ks --max-time 2 -o "$work/front" "https://$front_address/"
 }
 
-# end_nginx: ends it, so that run_nginx can start it anew.
+# end_nginx: ends it, so that run_nginx can start it again.
 end_nginx() {
   stop_process "$nginx_process"
 }
 
-# lift_limits: nginx anew, without what it limits of requests and connections, for a client that asks much.
+# lift_limits: nginx again, without what it limits of requests and connections, for a client that asks much.
 lift_limits() {
   end_nginx
   sed -i -e '/limit_req zone/d' -e '/limit_conn hub/d' "$work/nginx/hub.conf"

@@ -5,9 +5,11 @@
 # is not ./hub. Needs curl, python3, nginx, openssl and wrk.
 set -euo pipefail
 top=$(cd "$(dirname "$0")/../.." && pwd)
-. "$top/samples/serve/running.sh"
+. "$top/samples/serve/functions.sh"
 . "$top/samples/tests/front.sh"
+needs curl python3 nginx openssl wrk
 cd "$top"
+build_hub
 
 # get PATH [WORD ..]: the answer of nginx in the files `head` and `body`; its status in `status`.
 get() {
@@ -107,7 +109,7 @@ with context.wrap_socket(socket.create_connection((host, int(port)), timeout=20)
 print(round(time.monotonic() - began))
 PY
 )
-check "a client that doesn't end its head is let go after $slow seconds" test "$slow" -le 8
+check "a client that doesn't end its head is dropped after $slow seconds" test "$slow" -le 8
 
 echo "== one answer for equal requests of a second"
 sleep 1.1

@@ -5,9 +5,11 @@
 # where systemd-analyze is installed, the service's file is read by it.
 set -euo pipefail
 top=$(cd "$(dirname "$0")/../.." && pwd)
-. "$top/samples/serve/running.sh"
+. "$top/samples/serve/functions.sh"
 . "$top/samples/tests/front.sh"
+needs curl python3 nginx openssl wrk
 cd "$top"
+build_hub
 
 # feeds_are STATUS WORD ..: whether the check of the first hub's feeds ends so; what it says is shown.
 feeds_are() {
@@ -40,7 +42,7 @@ check "both have spoken" feeds_are 0 30
 check "a feed that the hub hasn't" feeds_are 1 30 buses=60
 stop_process "$sender_process"
 sleep 4
-check "trams that end are told" feeds_are 1 3 notices=0
+check "trams that end are reported" feeds_are 1 3 notices=0
 check "and are not while they may be silent for longer" feeds_are 0 60
 hub_line=$(cat "$work/first.err")
 check "the hub said nothing else on standard error" is "$hub_line" "hub: listening on $first"
@@ -50,7 +52,7 @@ echo "== a hub that can't listen, or can't connect"
 sed "s/^listen = .*/listen = \"$first\"/" "$work/first.toml" > "$work/taken.toml"
 (cd "$top" && exec timeout 3 "$hub" serve "$work/taken.toml" > "$work/said" 2> "$work/fault" 7>&-) || true
 sed 's/^/        /' "$work/fault"
-check "an address that is taken is told" grep -q "^hub: can't listen on $first: " "$work/fault"
+check "an address that is taken is reported" grep -q "^hub: can't listen on $first: " "$work/fault"
 check "and a stream that nobody sends" grep -q "^hub: feed trams can't connect to $sender_address: " "$work/fault"
 
 echo "== another timetable"
@@ -75,7 +77,7 @@ echo "        (read errors are kept connections of clients that nginx closes whe
 check "nothing but 200 while nginx moves to the second hub" is "$(grep -c 'Non-2xx' "$work/wrk" || true)" 0
 sleep 1.1
 check "which has the new timetable" grep -q 'New Harbour' <<< "$(curl -ks "https://$front_address/board/city/S3")"
-check "the hub that is gone is told" feeds_are 2 30
+check "the hub that is gone is reported" feeds_are 2 30
 
 echo "== the service's file"
 if command -v systemd-analyze > "$work/found"; then

@@ -6,9 +6,11 @@
 # HUB names the program, where it is not ./hub. Needs curl, python3, nginx and openssl.
 set -euo pipefail
 top=$(cd "$(dirname "$0")/../.." && pwd)
-. "$top/samples/serve/running.sh"
+. "$top/samples/serve/functions.sh"
 . "$top/samples/tests/front.sh"
+needs curl python3 nginx openssl
 cd "$top"
+build_hub
 
 # ask_much KEPT: asks three times with a second between. The answers that aren't 200 are counted in `unanswered`, and
 # what the slowest took, in milliseconds, is left in `slowest`.

@@ -5,9 +5,11 @@
 # HUB names the program, where it is not ./hub. Needs curl, python3, nginx and openssl.
 set -euo pipefail
 top=$(cd "$(dirname "$0")/../.." && pwd)
-. "$top/samples/serve/running.sh"
+. "$top/samples/serve/functions.sh"
 . "$top/samples/tests/front.sh"
+needs curl python3 nginx openssl
 cd "$top"
+build_hub
 
 # has_row ADDRESS PATTERN: whether the board of Market has such a row there.
 has_row() {

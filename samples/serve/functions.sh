@@ -1,9 +1,11 @@
 # shellcheck shell=bash disable=SC2034,SC2154
 # Functions for scripts that run hubs and their feeds: to be sourced by bash, with `top` set to the repository's top.
 # All that is started here is ended when the script exits, by its process id; `work` is a folder of the script's own,
-# removed then too. HUB names the program, where it is not the repository's.
+# removed then too. HUB names the program; without it that is ./hub, which is built first where it is missing. The build
+# says on standard error how far it is.
 
-hub=${HUB:-$top/hub}
+hub=$top/hub
+[ -z "${HUB:-}" ] || hub=$(realpath "$HUB")
 work=$(mktemp -d)
 started=()
 
@@ -16,11 +18,25 @@ trap end_all EXIT
 trap 'exit 130' INT
 trap 'exit 143' TERM
 
-"$hub" > "$work/built" 2>&1 < /dev/null || true # without words it says its usage; it is built first where it is missing
-
 fail() {
   echo "${0##*/}: $*" >&2
   exit 1
+}
+
+# needs PROGRAM ..: ends the script, with status 77 for "not tried", where one of these programs is not installed.
+needs() {
+  local program
+  for program in "$@"; do
+    if ! command -v "$program" > "$work/found"; then
+      echo "not tried: $program is not installed"
+      exit 77
+    fi
+  done
+}
+
+# build_hub: has the program built where it is missing. Without words it prints its usage and ends.
+build_hub() {
+  "$hub" > "$work/usage" < /dev/null || true
 }
 
 # wait_line FILE START PROCESS: the rest of the first line of FILE that begins with START, written by a process that
