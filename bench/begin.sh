@@ -4,7 +4,7 @@
 # bring it up to date first. From nothing it proves every function, which can take an hour, and says on standard error how
 # far it is.
 top=$(cd "$(dirname "${BASH_SOURCE[0]}")/.." && pwd)
-hub=$top/PROGRAM_PATH
+hub=$top/out/hub
 [ -z "${HUB:-}" ] || hub=$(realpath "$HUB")
 work=$(mktemp -d)
 trap 'rm -rf "$work"' EXIT
