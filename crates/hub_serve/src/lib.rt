@@ -19,14 +19,12 @@
 #![tactic(auto)]
 
 mod closing;
-
 mod feeds;
 mod naming;
 mod opening;
 mod readers;
 mod running;
 mod telling;
-
 mod working;
 
 pub use running::run_serve;
