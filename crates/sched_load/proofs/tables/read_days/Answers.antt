@@ -69,18 +69,30 @@ returns-clause-sound g c =
 
 pub group_exceptions-requires-clause-rise : goal.group_exceptions-requires-clause-rise
 group_exceptions-requires-clause-rise g c =
-    let services = rw (c.rows.ensures, c.rows-2.ensures, c.deref.ensures.value) at c.in_ok-services.ensures in
-    subst (RisesById (λ id. id)) (sym (c.deref-3.ensures.value ∙ services)) (ids_rise (λ id. id) (map (λ row. row.service_id) c.args.trips.now ++ map (λ row. row.service_id) c.in_ok-calendar.calendar ++ map (λ row. row.service_id) c.in_ok-exceptions.exceptions.items))
+    let services =
+    rw (c.rows.ensures, c.rows-2.ensures, c.deref.ensures.value) at c.in_ok-services.ensures in
+    subst (RisesById (λ id. id)) (sym (c.deref-3.ensures.value ∙ services))
+    (ids_rise (λ id. id) (map (λ row. row.service_id) c.args.trips.now
+    ++ map (λ row. row.service_id) c.in_ok-calendar.calendar
+    ++ map (λ row. row.service_id) c.in_ok-exceptions.exceptions.items))
 
 pub group_exceptions-requires-clause-known : goal.group_exceptions-requires-clause-known
 group_exceptions-requires-clause-known g c = λ i row at.
-    let services = rw (c.rows.ensures, c.rows-2.ensures, c.deref.ensures.value) at c.in_ok-services.ensures in
-    subst (λ ids. (number : ℕ) × (number_of (λ id. id) ids row.service_id ≡ Some number)) (sym (c.deref-3.ensures.value ∙ services))
-    (known_service (map (λ row. row.service_id) c.args.trips.now ++ map (λ row. row.service_id) c.in_ok-calendar.calendar) c.in_ok-exceptions.exceptions.items i row (subst (λ xs. slice_get xs i ≡ Some row) c.deref-2.ensures.value at))
+    let services =
+    rw (c.rows.ensures, c.rows-2.ensures, c.deref.ensures.value) at c.in_ok-services.ensures in
+    let here = subst (λ xs. slice_get xs i ≡ Some row) c.deref-2.ensures.value at in
+    subst (λ ids. (number : ℕ) × (number_of (λ id. id) ids row.service_id ≡ Some number))
+    (sym (c.deref-3.ensures.value ∙ services))
+    (known_service (map (λ row. row.service_id) c.args.trips.now
+    ++ map (λ row. row.service_id) c.in_ok-calendar.calendar)
+    c.in_ok-exceptions.exceptions.items i row here)
 
 pub group_exceptions-requires-clause-kinds : goal.group_exceptions-requires-clause-kinds
 group_exceptions-requires-clause-kinds g c = λ i row at.
-    file_within false file.CalendarDates exceptions (λ r. r.exception_type ≤ 2) exception_types c.in_ok-exceptions.ensures.seen.0 c.in_ok-exceptions.exceptions.items c.in_ok-exceptions.ensures.seen.1 i row (subst (λ xs. slice_get xs i ≡ Some row) c.deref-2.ensures.value at)
+    let seen = c.in_ok-exceptions.ensures.seen in
+    file_within false file.CalendarDates exceptions (λ r. r.exception_type ≤ 2) exception_types
+    seen.0 c.in_ok-exceptions.exceptions.items seen.1 i row
+    (subst (λ xs. slice_get xs i ≡ Some row) c.deref-2.ensures.value at)
 
 pub returns-in_err-calendar-clause-stops : goal.returns-in_err-calendar-clause-stops
 returns-in_err-calendar-clause-stops g c =
