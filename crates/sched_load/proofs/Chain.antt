@@ -9,9 +9,12 @@ use Rattle.load_defs.specs.declared.fault.LoadFault.TheVariants as fault
 use Rattle.load_defs.specs.declared.conf.PlanConf.{PlanConf}
 use Rattle.load_defs.specs.Loading.{dataset_in, timetable, timetable_where, with_times, zone_of}
 use Rattle.load_defs.specs.Numbers.{Dataset, timetable_of}
+use Rattle.service_day.specs.Zone.{TzText}
 use Rattle.sched_types.specs.Timetable.{Timetable}
 use Rattle.sched_load.specs.Built.{IsBuilt}
+use Rattle.sched_load.specs.declared.tables.DayTables.{DayTables}
 use Rattle.sched_load.specs.declared.tables.Tables.{Tables}
+use Rattle.sched_load.specs.Stages.{DayRows, day_rows_in}
 use Rattle.std.specs.Prelude.{Vec}
 use Rattle.std.specs.declared.alloc.Global.{Global}
 use Rattle.gtfs_rows.specs.declared.rows.StopRow.{StopRow}
@@ -98,10 +101,6 @@ cause_later fault.NoMemory before mid after h x = tt
 bind_fails : {A B : Type 0} (told : Result A LoadFault) (next : A → Result B LoadFault) (f : LoadFault) → told ≡ Err f → (told >>= next) ≡ Err f
 bind_fails told next f e = ap (λ r. r >>= next) e
 
-pub bind_bind : {A B C : Type 0} (told : Result A LoadFault) (next : A → Result B LoadFault) (last : B → Result C LoadFault) → ((told >>= next) >>= last) ≡ (told >>= (λ x. next x >>= last))
-bind_bind (Ok x) next last = refl
-bind_bind (Err e) next last = refl
-
 module _ {A B : Type 0} (contents : Option (List (List ℕ × List ℕ))) (told : List (List ℕ × List ℕ) → Result A LoadFault) (next : List (List ℕ × List ℕ) → A → Result B LoadFault) where
   -- a step that fails
   pub step_fails : (before after : ℕ) (e : LoadFault) → AnswersFromFiles contents told before after (Err e) → AnswersFromFiles contents (λ fs. told fs >>= next fs) before after (Err e)
@@ -164,6 +163,11 @@ pub tables_passed : (contents : Option (List (List ℕ × List ℕ))) (told : Li
 tables_passed contents told before after (Ok x) e p h = absurd p
 tables_passed contents told before after (Err y) e p h = rw p h
 
+-- the same of the rows of days
+pub days_passed : (contents : Option (List (List ℕ × List ℕ))) (told : List (List ℕ × List ℕ) → Result DayRows LoadFault) (before after : ℕ) (r : Result DayTables LoadFault) (e : LoadFault) → IsErrAnd r (λ x. x ≡ e) → AnswersFromFiles contents told before after (Err e) → AnswersFromFiles contents told before after (day_rows_in r)
+days_passed contents told before after (Ok x) e p h = absurd p
+days_passed contents told before after (Err y) e p h = rw p h
+
 -- the same of visits that are arranged
 pub visits_passed : (trips : List TripRow) (stops : List StopRow) (contents : Option (List (List ℕ × List ℕ))) (told : List (List ℕ × List ℕ) → Result (List StopTimeRow) LoadFault) (before after : ℕ) (r : Result (Vec Visit Global) LoadFault) (e : LoadFault) → IsErrAnd r (λ x. x ≡ e) → AnswersFromFiles contents told before after (Err e) → ReadsArranged trips stops contents told before after r
 visits_passed trips stops contents told before after (Ok x) e p h = absurd p
@@ -178,3 +182,17 @@ built contents t count (Err e) h = rw h (no_memory contents (λ _. Ok t) count)
 pub timetable_is : (folder : List ℕ) (conf : PlanConf) (fs : List (List ℕ × List ℕ)) → (zone_of conf.zone >>= (λ rule. dataset_in fs folder >>= (λ rows. with_times rows >>= (λ d. Ok (timetable_of rule conf.first conf.days d))))) ≡ timetable fs folder conf
 unfolding timetable timetable_where dataset_in
 timetable_is folder conf fs = refl
+
+-- the timetable is loaded where each step is done
+pub loaded : (folder : List ℕ) (conf : PlanConf) (contents behind : Option (List (List ℕ × List ℕ)))
+    (before after : ℕ) (rule : TzText) (d : Dataset) (r : Result Timetable LoadFault)
+    → behind ≡ contents → zone_of conf.zone ≡ Ok rule
+    → AnswersFromFiles contents (λ fs. dataset_in fs folder) before after (Ok d)
+    → with_times d ≡ Ok d → IsBuilt (timetable_of rule conf.first conf.days d) r
+    → AnswersFromFiles contents (λ fs. timetable fs folder conf) before after r
+loaded folder conf contents behind before after rule d r same zone reads times is =
+    told_same _ _ _ _ _ _ (timetable_is folder conf)
+    (step_done _ _ _ _ _ _ _ _ _ refl (step_value _ _ before _ zone)
+    (step_done _ _ _ _ _ _ _ _ _ same reads
+    (step_done _ _ _ behind _ _ _ _ _ refl (step_value _ _ after _ times)
+    (built _ _ _ r is))))

@@ -1,5 +1,5 @@
 -- Where the chain of the seven files stops at one that can't be read.
-use Rattle.std.proofs.Common.{◌≡◌, ◌∙◌, ℕ, List, refl, ap, subst, sym}
+use Rattle.std.proofs.Common.{◌≡◌, ◌≤◌, ◌∙◌, ℕ, List, arith, refl, ap, subst, sym}
 use Rattle.std.specs.Prelude.{Option, Some, None, IfSome, Result, Ok, Err, IsErrAnd}
 use Rattle.answer_defs.specs.Steps.{◌>>=◌}
 use Rattle.gtfs_rows.specs.declared.fault.RowFault.{RowFault}
@@ -7,7 +7,6 @@ use Rattle.gtfs_rows.specs.declared.fault.RowFault.TheVariants as rows
 use Rattle.gtfs_rows.specs.declared.rows.AgencyRow.{AgencyRow}
 use Rattle.gtfs_rows.specs.declared.rows.StopRow.{StopRow}
 use Rattle.gtfs_rows.specs.declared.rows.RouteRow.{RouteRow}
-use Rattle.gtfs_rows.specs.declared.rows.TripRow.{TripRow}
 use Rattle.gtfs_rows.specs.declared.rows.StopTimeRow.{StopTimeRow}
 use Rattle.gtfs_rows.specs.declared.rows.CalendarRow.{CalendarRow}
 use Rattle.load_defs.specs.declared.conf.PlanConf.{PlanConf}
@@ -15,15 +14,17 @@ use Rattle.load_defs.specs.declared.fault.File.{File}
 use Rattle.load_defs.specs.declared.fault.File.TheVariants as file
 use Rattle.load_defs.specs.declared.fault.LoadFault.{LoadFault}
 use Rattle.load_defs.specs.declared.fault.LoadFault.TheVariants as fault
-use Rattle.load_defs.specs.Files.{unreadable}
+use Rattle.load_defs.specs.Files.{file_place, stored_in, unreadable}
 use Rattle.load_defs.specs.Loading.{dataset_where, timetable_where, with_times, zone_of}
 use Rattle.load_defs.specs.Numbers.{Dataset, timetable_of}
 use Rattle.service_day.specs.Zone.{TzText}
 use Rattle.sched_types.specs.Timetable.{Timetable}
 use Rattle.sched_load.specs.Answer.{RefusesAlone, fault_of}
 use Rattle.sched_load.specs.Built.{IsBuilt}
-use Rattle.sched_load.specs.Stops.{AtFileFault, StopsWith, StopsFile, StopsTables, StopsLoading}
-use Rattle.sched_load.proofs.WholeChain.{agencies_told, stops_told, routes_told, trips_told, times_told, calendar_told}
+use Rattle.sched_load.specs.Stops.{AtFileFault, StopsWith, StopsFile, StopsPart, StopsTables, StopsLoading}
+use Rattle.sched_load.specs.declared.tables.NetworkTables.{NetworkTables}
+use Rattle.sched_load.specs.Stages.{days_where, network_where}
+use Rattle.sched_load.proofs.WholeChain.{Told, agencies_told, stops_told, routes_told, times_told, calendar_told, after_days, after_times, after_network, by_stages}
 
 -- ---- what passes on
 
@@ -69,120 +70,206 @@ pub stops_built : (t : Timetable) (r : Result Timetable LoadFault) (P : Type 0) 
 stops_built t (Ok plan) P h = tt
 stops_built t (Err e) P h = subst (λ f. AtFileFault f P) (sym h) tt
 
--- ---- the files that come before one
+-- ---- the files of a stage that come before one
 
--- the outcome of the rest behind a file that can't be read
-abbrev stop : Result Dataset LoadFault
+-- the outcome of what stands behind a file that can't be read
+abbrev stop : {A : Type 0} → Result A LoadFault
 stop = Err fault.FileFault
 
 module _ (folder : List ℕ) (fs : List (List ℕ × List ℕ)) where
-  -- the rows where that file can't be read
-  abbrev rows_without : File → Result Dataset LoadFault
-  rows_without name = dataset_where (unreadable name fs folder)
+  -- what is told where that file can't be read
+  abbrev without : File → Told
+  without name = unreadable name fs folder
 
-  at_agency : rows_without file.Agency ≡ stop
-  unfolding dataset_where
+  at_agency : network_where (without file.Agency) ≡ stop
+  unfolding network_where
   at_agency = refl
 
-  at_stops : (ag : List AgencyRow) → agencies_told folder fs ≡ Ok ag → rows_without file.Stops ≡ stop
-  unfolding dataset_where
+  at_stops : (ag : List AgencyRow) → agencies_told (stored_in fs folder) ≡ Ok ag
+      → network_where (without file.Stops) ≡ stop
+  unfolding network_where
   at_stops ag a = ap (λ x. x >>= λ _. stop) a
 
-  at_routes : (ag : List AgencyRow) (st : List StopRow) → agencies_told folder fs ≡ Ok ag → stops_told folder fs ≡ Ok st → rows_without file.Routes ≡ stop
-  unfolding dataset_where
-  at_routes ag st a s = ap (λ x. x >>= λ _. stops_told folder fs >>= λ _. stop) a ∙ ap (λ x. x >>= λ _. stop) s
+  at_routes : (ag : List AgencyRow) (st : List StopRow) → agencies_told (stored_in fs folder) ≡ Ok ag
+      → stops_told (stored_in fs folder) ≡ Ok st → network_where (without file.Routes) ≡ stop
+  unfolding network_where
+  at_routes ag st a s =
+      ap (λ x. x >>= λ _. stops_told (stored_in fs folder) >>= λ _. stop) a ∙ ap (λ x. x >>= λ _. stop) s
 
-  at_trips : (ag : List AgencyRow) (st : List StopRow) (ro : List RouteRow) → agencies_told folder fs ≡ Ok ag → stops_told folder fs ≡ Ok st → routes_told folder fs ag ≡ Ok ro → rows_without file.Trips ≡ stop
-  unfolding dataset_where
+  at_trips : (ag : List AgencyRow) (st : List StopRow) (ro : List RouteRow)
+      → agencies_told (stored_in fs folder) ≡ Ok ag → stops_told (stored_in fs folder) ≡ Ok st
+      → routes_told (stored_in fs folder) ag ≡ Ok ro → network_where (without file.Trips) ≡ stop
+  unfolding network_where
   at_trips ag st ro a s r =
-      ap (λ x. x >>= λ ag. stops_told folder fs >>= λ _. routes_told folder fs ag >>= λ _. stop) a
-      ∙ ap (λ x. x >>= λ _. routes_told folder fs ag >>= λ _. stop) s
+      ap (λ x. x >>= λ ag. stops_told (stored_in fs folder) >>= λ _. routes_told (stored_in fs folder) ag >>= λ _. stop) a
+      ∙ ap (λ x. x >>= λ _. routes_told (stored_in fs folder) ag >>= λ _. stop) s
       ∙ ap (λ x. x >>= λ _. stop) r
 
-  at_times : (ag : List AgencyRow) (st : List StopRow) (ro : List RouteRow) (tr : List TripRow) → agencies_told folder fs ≡ Ok ag → stops_told folder fs ≡ Ok st → routes_told folder fs ag ≡ Ok ro → trips_told folder fs ro ≡ Ok tr → rows_without file.StopTimes ≡ stop
-  unfolding dataset_where
-  at_times ag st ro tr a s r t =
-      ap (λ x. x >>= λ ag. stops_told folder fs >>= λ _. routes_told folder fs ag >>= λ ro. trips_told folder fs ro >>= λ _. stop) a
-      ∙ ap (λ x. x >>= λ _. routes_told folder fs ag >>= λ ro. trips_told folder fs ro >>= λ _. stop) s
-      ∙ ap (λ x. x >>= λ ro. trips_told folder fs ro >>= λ _. stop) r
-      ∙ ap (λ x. x >>= λ _. stop) t
+  at_calendar : days_where (without file.Calendar) ≡ stop
+  unfolding days_where
+  at_calendar = refl
 
-  at_calendar : (ag : List AgencyRow) (st : List StopRow) (ro : List RouteRow) (tr : List TripRow) (ti : List StopTimeRow) → agencies_told folder fs ≡ Ok ag → stops_told folder fs ≡ Ok st → routes_told folder fs ag ≡ Ok ro → trips_told folder fs ro ≡ Ok tr → times_told folder fs tr st ≡ Ok ti → rows_without file.Calendar ≡ stop
-  unfolding dataset_where
-  at_calendar ag st ro tr ti a s r t i =
-      ap (λ x. x >>= λ ag. stops_told folder fs >>= λ st. routes_told folder fs ag >>= λ ro. trips_told folder fs ro >>= λ tr. times_told folder fs tr st >>= λ _. stop) a
-      ∙ ap (λ x. x >>= λ st. routes_told folder fs ag >>= λ ro. trips_told folder fs ro >>= λ tr. times_told folder fs tr st >>= λ _. stop) s
-      ∙ ap (λ x. x >>= λ ro. trips_told folder fs ro >>= λ tr. times_told folder fs tr st >>= λ _. stop) r
-      ∙ ap (λ x. x >>= λ tr. times_told folder fs tr st >>= λ _. stop) t
-      ∙ ap (λ x. x >>= λ _. stop) i
+  at_dates : (ca : List CalendarRow) → calendar_told (stored_in fs folder) ≡ Ok ca
+      → days_where (without file.CalendarDates) ≡ stop
+  unfolding days_where
+  at_dates ca k = ap (λ x. x >>= λ _. stop) k
 
-  at_exceptions : (ag : List AgencyRow) (st : List StopRow) (ro : List RouteRow) (tr : List TripRow) (ti : List StopTimeRow) (ca : List CalendarRow) → agencies_told folder fs ≡ Ok ag → stops_told folder fs ≡ Ok st → routes_told folder fs ag ≡ Ok ro → trips_told folder fs ro ≡ Ok tr → times_told folder fs tr st ≡ Ok ti → calendar_told folder fs ≡ Ok ca → rows_without file.CalendarDates ≡ stop
-  unfolding dataset_where
-  at_exceptions ag st ro tr ti ca a s r t i k =
-      ap (λ x. x >>= λ ag. stops_told folder fs >>= λ st. routes_told folder fs ag >>= λ ro. trips_told folder fs ro >>= λ tr. times_told folder fs tr st >>= λ _. calendar_told folder fs >>= λ _. stop) a
-      ∙ ap (λ x. x >>= λ st. routes_told folder fs ag >>= λ ro. trips_told folder fs ro >>= λ tr. times_told folder fs tr st >>= λ _. calendar_told folder fs >>= λ _. stop) s
-      ∙ ap (λ x. x >>= λ ro. trips_told folder fs ro >>= λ tr. times_told folder fs tr st >>= λ _. calendar_told folder fs >>= λ _. stop) r
-      ∙ ap (λ x. x >>= λ tr. times_told folder fs tr st >>= λ _. calendar_told folder fs >>= λ _. stop) t
-      ∙ ap (λ x. x >>= λ _. calendar_told folder fs >>= λ _. stop) i
-      ∙ ap (λ x. x >>= λ _. stop) k
+  -- a stage stays where a later file can't be read
+  network_stays : (name : File) → 4 ≤ file_place name
+      → network_where (without name) ≡ network_where (stored_in fs folder)
+  unfolding network_where
+  network_stays file.Agency h = absurd (omega (arith, h))
+  network_stays file.Stops h = absurd (omega (arith, h))
+  network_stays file.Routes h = absurd (omega (arith, h))
+  network_stays file.Trips h = absurd (omega (arith, h))
+  network_stays file.StopTimes h = refl
+  network_stays file.Calendar h = refl
+  network_stays file.CalendarDates h = refl
+
+  times_stay : (name : File) (n : NetworkTables) → 5 ≤ file_place name
+      → times_told (without name) n ≡ times_told (stored_in fs folder) n
+  times_stay file.Agency n h = refl
+  times_stay file.Stops n h = refl
+  times_stay file.Routes n h = refl
+  times_stay file.Trips n h = refl
+  times_stay file.StopTimes n h = absurd (omega (arith, h))
+  times_stay file.Calendar n h = refl
+  times_stay file.CalendarDates n h = refl
+
+  -- the rows where that file can't be read
+  abbrev rows_without : File → Result Dataset LoadFault
+  rows_without name = dataset_where (without name)
+
+  behind_network : (name : File) (n : NetworkTables) → 4 ≤ file_place name
+      → network_where (stored_in fs folder) ≡ Ok n
+      → rows_without name ≡ after_network (without name) n
+  behind_network name n late is =
+      sym (by_stages (without name))
+      ∙ ap (λ x. x >>= after_network (without name)) (network_stays name late ∙ is)
+
+  behind_times : (name : File) (n : NetworkTables) (ti : List StopTimeRow) → 5 ≤ file_place name
+      → network_where (stored_in fs folder) ≡ Ok n → times_told (stored_in fs folder) n ≡ Ok ti
+      → rows_without name ≡ after_times (without name) n ti
+  behind_times name n ti late is i =
+      behind_network name n (omega (arith, late)) is
+      ∙ ap (λ x. x >>= after_times (without name) n) (times_stay name n late ∙ i)
 
 -- ---- where they are told
 
--- the rows of each file, where the files are told
+-- the files of a folder, where they are told
 abbrev Stored : Type 0
 Stored = Option (List (List ℕ × List ℕ))
 
-abbrev pub AgenciesAre : List ℕ → List AgencyRow → Stored → Type 0
-AgenciesAre folder ag contents = IfSome contents (λ fs. agencies_told folder fs ≡ Ok ag)
-
 abbrev pub StopsAre : List ℕ → List StopRow → Stored → Type 0
-StopsAre folder st contents = IfSome contents (λ fs. stops_told folder fs ≡ Ok st)
+StopsAre folder st contents = IfSome contents (λ fs. stops_told (stored_in fs folder) ≡ Ok st)
 
 abbrev pub RoutesAre : List ℕ → List AgencyRow → List RouteRow → Stored → Type 0
-RoutesAre folder ag ro contents = IfSome contents (λ fs. routes_told folder fs ag ≡ Ok ro)
+RoutesAre folder ag ro contents = IfSome contents (λ fs. routes_told (stored_in fs folder) ag ≡ Ok ro)
 
-abbrev pub TripsAre : List ℕ → List RouteRow → List TripRow → Stored → Type 0
-TripsAre folder ro tr contents = IfSome contents (λ fs. trips_told folder fs ro ≡ Ok tr)
+abbrev pub TimesAre : List ℕ → NetworkTables → List StopTimeRow → Stored → Type 0
+TimesAre folder n ti contents =
+    IfSome contents (λ fs. times_told (stored_in fs folder) n ≡ Ok ti)
 
-abbrev pub TimesAre : List ℕ → List StopRow → List TripRow → List StopTimeRow → Stored → Type 0
-TimesAre folder st tr ti contents = IfSome contents (λ fs. times_told folder fs tr st ≡ Ok ti)
+abbrev pub NetworkIs : List ℕ → NetworkTables → Stored → Type 0
+NetworkIs folder n contents = IfSome contents (λ fs. network_where (stored_in fs folder) ≡ Ok n)
 
-abbrev pub CalendarIs : List ℕ → List CalendarRow → Stored → Type 0
-CalendarIs folder ca contents = IfSome contents (λ fs. calendar_told folder fs ≡ Ok ca)
+-- a file of which the path is told, with none of its part at fault before it
+at_file : {A : Type 0} (part : Told → Result A LoadFault) (before : ℕ) (name : File)
+    (folder : List ℕ) (fs : List (List ℕ × List ℕ)) (place : Option (List ℕ))
+    → StopsFile place folder name → before ≤ file_place name
+    → part (unreadable name fs folder) ≡ stop → StopsPart part before (Some fs) place folder
+at_file part before name folder fs None p late first = tt
+at_file part before name folder fs (Some path) p late first =
+    record { broken = name; place = p; late = late; first = first }
 
--- a file of which the path is told, with none at fault before it
-at_file : (name : File) (folder : List ℕ) (fs : List (List ℕ × List ℕ)) (place : Option (List ℕ)) → StopsFile place folder name → rows_without folder fs name ≡ stop → StopsTables (Some fs) place folder
-at_file name folder fs None p first = tt
-at_file name folder fs (Some path) p first = record { broken = name; place = p; first = first }
+-- the whole stops where a part of it does
+whole_stops : {A : Type 0} (part : Told → Result A LoadFault) (before : ℕ) (folder : List ℕ)
+    (fs : List (List ℕ × List ℕ)) (place : Option (List ℕ))
+    → ((name : File) → before ≤ file_place name → part (unreadable name fs folder) ≡ stop
+    → rows_without folder fs name ≡ stop)
+    → StopsPart part before (Some fs) place folder → StopsTables (Some fs) place folder
+whole_stops part before folder fs None all s = tt
+whole_stops part before folder fs (Some path) all s =
+    record { broken = s.broken; place = s.place; first = all s.broken s.late s.first }
 
 module _ (folder : List ℕ) (place : Option (List ℕ)) where
-  pub stops_agency : (contents : Stored) → StopsFile place folder file.Agency → StopsTables contents place folder
+  pub stops_agency : (contents : Stored) → StopsFile place folder file.Agency
+      → StopsPart network_where 0 contents place folder
   stops_agency None p = tt
-  stops_agency (Some fs) p = at_file file.Agency folder fs place p (at_agency folder fs)
+  stops_agency (Some fs) p =
+      at_file network_where 0 file.Agency folder fs place p (omega arith) (at_agency folder fs)
 
-  pub stops_stops : (contents : Stored) (ag : List AgencyRow) → AgenciesAre folder ag contents → StopsFile place folder file.Stops → StopsTables contents place folder
+  pub stops_stops : (contents : Stored) (ag : List AgencyRow)
+      → IfSome contents (λ fs. agencies_told (stored_in fs folder) ≡ Ok ag) → StopsFile place folder file.Stops
+      → StopsPart network_where 0 contents place folder
   stops_stops None ag a p = tt
-  stops_stops (Some fs) ag a p = at_file file.Stops folder fs place p (at_stops folder fs ag a)
+  stops_stops (Some fs) ag a p =
+      at_file network_where 0 file.Stops folder fs place p (omega arith) (at_stops folder fs ag a)
 
-  pub stops_routes : (contents : Stored) (ag : List AgencyRow) (st : List StopRow) → AgenciesAre folder ag contents → StopsAre folder st contents → StopsFile place folder file.Routes → StopsTables contents place folder
+  pub stops_routes : (contents : Stored) (ag : List AgencyRow) (st : List StopRow)
+      → IfSome contents (λ fs. agencies_told (stored_in fs folder) ≡ Ok ag) → StopsAre folder st contents
+      → StopsFile place folder file.Routes → StopsPart network_where 0 contents place folder
   stops_routes None ag st a s p = tt
-  stops_routes (Some fs) ag st a s p = at_file file.Routes folder fs place p (at_routes folder fs ag st a s)
+  stops_routes (Some fs) ag st a s p =
+      at_file network_where 0 file.Routes folder fs place p (omega arith)
+      (at_routes folder fs ag st a s)
 
-  pub stops_trips : (contents : Stored) (ag : List AgencyRow) (st : List StopRow) (ro : List RouteRow) → AgenciesAre folder ag contents → StopsAre folder st contents → RoutesAre folder ag ro contents → StopsFile place folder file.Trips → StopsTables contents place folder
+  pub stops_trips : (contents : Stored) (ag : List AgencyRow) (st : List StopRow)
+      (ro : List RouteRow) → IfSome contents (λ fs. agencies_told (stored_in fs folder) ≡ Ok ag)
+      → StopsAre folder st contents → RoutesAre folder ag ro contents
+      → StopsFile place folder file.Trips → StopsPart network_where 0 contents place folder
   stops_trips None ag st ro a s r p = tt
-  stops_trips (Some fs) ag st ro a s r p = at_file file.Trips folder fs place p (at_trips folder fs ag st ro a s r)
+  stops_trips (Some fs) ag st ro a s r p =
+      at_file network_where 0 file.Trips folder fs place p (omega arith)
+      (at_trips folder fs ag st ro a s r)
 
-  pub stops_times : (contents : Stored) (ag : List AgencyRow) (st : List StopRow) (ro : List RouteRow) (tr : List TripRow) → AgenciesAre folder ag contents → StopsAre folder st contents → RoutesAre folder ag ro contents → TripsAre folder ro tr contents → StopsFile place folder file.StopTimes → StopsTables contents place folder
-  stops_times None ag st ro tr a s r t p = tt
-  stops_times (Some fs) ag st ro tr a s r t p = at_file file.StopTimes folder fs place p (at_times folder fs ag st ro tr a s r t)
+  pub stops_calendar : (contents : Stored) → StopsFile place folder file.Calendar
+      → StopsPart days_where 5 contents place folder
+  stops_calendar None p = tt
+  stops_calendar (Some fs) p =
+      at_file days_where 5 file.Calendar folder fs place p (omega arith) (at_calendar folder fs)
 
-  pub stops_calendar : (contents : Stored) (ag : List AgencyRow) (st : List StopRow) (ro : List RouteRow) (tr : List TripRow) (ti : List StopTimeRow) → AgenciesAre folder ag contents → StopsAre folder st contents → RoutesAre folder ag ro contents → TripsAre folder ro tr contents → TimesAre folder st tr ti contents → StopsFile place folder file.Calendar → StopsTables contents place folder
-  stops_calendar None ag st ro tr ti a s r t i p = tt
-  stops_calendar (Some fs) ag st ro tr ti a s r t i p = at_file file.Calendar folder fs place p (at_calendar folder fs ag st ro tr ti a s r t i)
+  pub stops_dates : (contents : Stored) (ca : List CalendarRow)
+      → IfSome contents (λ fs. calendar_told (stored_in fs folder) ≡ Ok ca)
+      → StopsFile place folder file.CalendarDates → StopsPart days_where 5 contents place folder
+  stops_dates None ca k p = tt
+  stops_dates (Some fs) ca k p =
+      at_file days_where 5 file.CalendarDates folder fs place p (omega arith)
+      (at_dates folder fs ca k)
 
-  pub stops_exceptions : (contents : Stored) (ag : List AgencyRow) (st : List StopRow) (ro : List RouteRow) (tr : List TripRow) (ti : List StopTimeRow) (ca : List CalendarRow) → AgenciesAre folder ag contents → StopsAre folder st contents → RoutesAre folder ag ro contents → TripsAre folder ro tr contents → TimesAre folder st tr ti contents → CalendarIs folder ca contents → StopsFile place folder file.CalendarDates → StopsTables contents place folder
-  stops_exceptions None ag st ro tr ti ca a s r t i k p = tt
-  stops_exceptions (Some fs) ag st ro tr ti ca a s r t i k p = at_file file.CalendarDates folder fs place p (at_exceptions folder fs ag st ro tr ti ca a s r t i k)
+  -- the whole, stage by stage
+  pub stops_network : (contents : Stored) → StopsPart network_where 0 contents place folder
+      → StopsTables contents place folder
+  stops_network None s = tt
+  stops_network (Some fs) s =
+      whole_stops network_where 0 folder fs place
+      (λ name late first.
+      sym (by_stages (unreadable name fs folder))
+      ∙ ap (λ x. x >>= after_network (unreadable name fs folder)) first) s
+
+  pub stops_times : (contents : Stored) (n : NetworkTables) → NetworkIs folder n contents
+      → StopsFile place folder file.StopTimes → StopsTables contents place folder
+  stops_times None n is p = tt
+  stops_times (Some fs) n is p =
+      whole_stops (λ told. times_told told n) 4 folder fs place
+      (λ name late first.
+      behind_network folder fs name n late is
+      ∙ ap (λ x. x >>= after_times (unreadable name fs folder) n) first)
+      (at_file (λ told. times_told told n) 4 file.StopTimes folder fs place p (omega arith) refl)
+
+  pub stops_days : (contents behind : Stored) (n : NetworkTables) (ti : List StopTimeRow)
+      → behind ≡ contents → NetworkIs folder n contents → TimesAre folder n ti contents
+      → StopsPart days_where 5 behind place folder → StopsTables contents place folder
+  stops_days contents behind n ti same is i s =
+      by contents is i (subst (λ o. StopsPart days_where 5 o place folder) same s)
+    where
+      by : (o : Stored) → NetworkIs folder n o → TimesAre folder n ti o
+          → StopsPart days_where 5 o place folder → StopsTables o place folder
+      by None is i s = tt
+      by (Some fs) is i s =
+          whole_stops days_where 5 folder fs place
+          (λ name late first.
+          behind_times folder fs name n ti late is i ∙ ap (λ x. x >>= after_days (unreadable name fs folder) n ti) first) s
 
 -- ---- the whole
 

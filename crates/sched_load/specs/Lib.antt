@@ -13,3 +13,4 @@ pub mod Built
 pub mod Tables
 pub mod Window
 pub mod InOrder
+pub mod Stages

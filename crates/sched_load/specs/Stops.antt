@@ -1,6 +1,6 @@
 -- What an answer says of what was read before a file that could not be read.
-use Rattle.std.specs.Prelude.{◌≡◌, ℕ, List, Option, IfSome, Result, Ok, Err, ⊤}
-use Rattle.load_defs.specs.Files.{path_of}
+use Rattle.std.specs.Prelude.{◌≡◌, ◌≤◌, ℕ, List, Option, IfSome, Result, Ok, Err, ⊤}
+use Rattle.load_defs.specs.Files.{file_place, path_of, unreadable}
 use Rattle.load_defs.specs.Stops.{DatasetStops, StopsAt}
 use Rattle.load_defs.specs.declared.conf.PlanConf.{PlanConf}
 use Rattle.load_defs.specs.declared.fault.File.{File}
@@ -27,6 +27,23 @@ StopsWith (Err e) P = AtFileFault e P
 -- the path of the call that failed last, where it is told, is that of this file
 abbrev pub StopsFile : Option (List ℕ) → List ℕ → File → Type 0
 StopsFile place folder name = IfSome place (λ path. path ≡ path_of folder name)
+
+-- The path is that of a file of the folder, which is none of the first so many, and where it can't be read
+-- this is the first fault of a part of the files.
+pub record PartStops {A : Type 0}
+    (part : (File → Result (Option (List ℕ)) LoadFault) → Result A LoadFault) (before : ℕ)
+    (files : List (List ℕ × List ℕ)) (folder path : List ℕ) : Type 0 where
+  pub broken : File
+  pub place : path ≡ path_of folder broken
+  pub late : before ≤ file_place broken
+  pub first : part (unreadable broken files folder) ≡ Err fault.FileFault
+
+-- reading that part stopped at that call, where the files and its path are told
+abbrev pub StopsPart : {A : Type 0}
+    → ((File → Result (Option (List ℕ)) LoadFault) → Result A LoadFault) → ℕ
+    → Option (List (List ℕ × List ℕ)) → Option (List ℕ) → List ℕ → Type 0
+StopsPart part before contents place folder =
+    IfSome contents (λ files. IfSome place (λ path. PartStops part before files folder path))
 
 -- reading the seven files stopped at that call, where the files and its path are told
 abbrev pub StopsTables : Option (List (List ℕ × List ℕ)) → Option (List ℕ) → List ℕ → Type 0

@@ -2,13 +2,14 @@
 
 ghost use Rattle.std.specs.Prelude.{◌≡◌, ◌≤◌, ℕ, List, Option, IfOk, Ok, length, true, [], ◌||◌, bytes_eq};
 ghost use Rattle.hub_outside.specs.Files.{file_at};
-ghost use Rattle.load_defs.specs.Files.{path_of};
+ghost use Rattle.load_defs.specs.Files.{path_of, stored_in};
 ghost use Rattle.load_defs.specs.Loading.{dataset_in};
 ghost use Rattle.load_defs.specs.References.{consistent, consistent_stop_times, consistent_stops, has_id, with_parents};
 ghost use Rattle.sched_load.specs.Answer.{AnswersFromFiles, and_next};
+ghost use Rattle.sched_load.specs.Stages.{AreDays, IsNetwork, day_rows_in, days_where, network_where};
 ghost use Rattle.sched_load.specs.Listed.{file_rows, most_rows, same_id};
 ghost use Rattle.sched_load.specs.Parents.{Checks};
-ghost use Rattle.sched_load.specs.Stops.{StopsFile, StopsTables, StopsWith};
+ghost use Rattle.sched_load.specs.Stops.{StopsFile, StopsPart, StopsTables, StopsWith};
 ghost use Rattle.sched_load.specs.Tables.{ReadsTables};
 ghost use Rattle.sched_load.specs.Arranged.{ReadsArranged};
 ghost use Rattle.gtfs_rows.specs.Tables.{stop_times, stops};
@@ -146,6 +147,86 @@ fn arranged_visits<F: Files>(
     Ok(visits)
 }
 
+/// What is kept of the files on which stop times rest.
+#[derive(Drop)]
+struct NetworkTables {
+    agencies: Table<AgencyRow>,
+    stops: Table<StopRow>,
+    routes: Table<RouteRow>,
+    trips: Table<TripRow>,
+}
+
+/// The rows of agency.txt, stops.txt, routes.txt and trips.txt, or the first fault, file by file.
+fn read_network<F: Files>(
+    alloc: Global,
+    files: &mut F,
+    folder: &str,
+) -> Result<NetworkTables, LoadFault>
+    ensures reads { AnswersFromFiles (F.contents files.old)
+        (λ fs. network_where (stored_in fs folder.now)) (F.faults files.old) (F.faults files.new)
+        result }
+    ensures sound { IfOk result (λ network. IsNetwork network) }
+    ensures few_stops { IfOk result (λ network. length network.stops ≤ most_rows) }
+    ensures few_trips { IfOk result (λ network. length network.trips ≤ most_rows) }
+    ensures same { F.contents files.new ≡ F.contents files.old }
+    ensures stops { StopsWith result
+        (StopsPart network_where 0 (F.contents files.old) (F.last_fault files.new) folder.now) }
+{
+    let agencies: Table<AgencyRow> = read_table(alloc, files, folder, &NoReference)?;
+    let stops = read_stops(alloc, files, folder)?;
+    let known = KnownAgencies {
+        agencies: &agencies,
+    };
+    let routes: Table<RouteRow> = read_table(alloc, files, folder, &known)?;
+    let known = KnownRoutes { routes: &routes };
+    let trips: Table<TripRow> = read_table(alloc, files, folder, &known)?;
+    Ok(NetworkTables {
+        agencies,
+        stops,
+        routes,
+        trips,
+    })
+}
+
+/// What is kept of the files that say on which days a service runs.
+#[derive(Drop)]
+struct DayTables {
+    calendar: Table<CalendarRow>,
+    exceptions: Vec<ExceptionRow>,
+    /// The ids of the services, rising.
+    services: Vec<PlanName>,
+    /// For each service its exceptions by rising dates.
+    active: Vec<BTreeMap<u32, Exception>>,
+}
+
+/// The rows of calendar.txt and calendar_dates.txt with the services that any file names, or the first fault,
+/// file by file.
+fn read_days<F: Files>(
+    alloc: Global,
+    files: &mut F,
+    folder: &str,
+    trips: &Table<TripRow>,
+) -> Result<DayTables, LoadFault>
+    ensures reads { AnswersFromFiles (F.contents files.old)
+        (λ fs. days_where (stored_in fs folder.now)) (F.faults files.old) (F.faults files.new)
+        (day_rows_in result) }
+    ensures sound { IfOk result (λ days. AreDays trips.now days) }
+    ensures same { F.contents files.new ≡ F.contents files.old }
+    ensures stops { StopsWith result
+        (StopsPart days_where 5 (F.contents files.old) (F.last_fault files.new) folder.now) }
+{
+    let calendar: Table<CalendarRow> = read_table(alloc, files, folder, &NoReference)?;
+    let exceptions: Vec<ExceptionRow> = read_rows(alloc, files, folder)?;
+    let services = service_ids(alloc, trips.rows(), calendar.rows(), &exceptions)?;
+    let active = group_exceptions(alloc, &exceptions, &services)?;
+    Ok(DayTables {
+        calendar,
+        exceptions,
+        services,
+        active,
+    })
+}
+
 /// The rows of the seven files of the folder, or the first fault, file by file.
 pub(crate) fn read_tables<F: Files>(
     alloc: Global,
@@ -158,19 +239,21 @@ pub(crate) fn read_tables<F: Files>(
     ensures stops { StopsWith result
         (StopsTables (F.contents files.old) (F.last_fault files.new) folder.now) }
 {
-    let agencies: Table<AgencyRow> = read_table(alloc, files, folder, &NoReference)?;
-    let stops = read_stops(alloc, files, folder)?;
-    let known = KnownAgencies {
-        agencies: &agencies,
-    };
-    let routes: Table<RouteRow> = read_table(alloc, files, folder, &known)?;
-    let known = KnownRoutes { routes: &routes };
-    let trips: Table<TripRow> = read_table(alloc, files, folder, &known)?;
-    let visits = arranged_visits(alloc, files, folder, &trips, &stops)?;
-    let calendar: Table<CalendarRow> = read_table(alloc, files, folder, &NoReference)?;
-    let exceptions: Vec<ExceptionRow> = read_rows(alloc, files, folder)?;
-    let services = service_ids(alloc, trips.rows(), calendar.rows(), &exceptions)?;
-    let active = group_exceptions(alloc, &exceptions, &services)?;
+    let network = read_network(alloc, files, folder)?;
+    let visits = arranged_visits(alloc, files, folder, &network.trips, &network.stops)?;
+    let days = read_days(alloc, files, folder, &network.trips)?;
+    let NetworkTables {
+        agencies,
+        stops,
+        routes,
+        trips,
+    } = network;
+    let DayTables {
+        calendar,
+        exceptions,
+        services,
+        active,
+    } = days;
     Ok(Tables {
         agencies,
         stops,
