@@ -81,7 +81,10 @@ fn message(alloc: Global, told: Told) -> Result<FeedMessage, NoMemory>
 
 /// The view after such a message of a feed, which sent none before.
 fn after(alloc: Global, view: &HubView, feed: u32, told: Told) -> Result<HubView, NoMemory> {
-    if feed as usize >= view.plans().feeds().len() || last_stamp(view, feed) >= MOMENT {
+    if feed as usize >= view.plans().feeds().len() {
+        return Err(AllocError);
+    }
+    if last_stamp(view, feed) >= MOMENT {
         return Err(AllocError);
     }
     view_after(alloc, view, feed, message(alloc, told)?)
@@ -250,6 +253,12 @@ fn updates_change_the_rows(rt: HostRuntime) -> Result<(), Fail> {
             &[late(1743314460)]
         )?
     );
+    Ok(())
+}
+
+#[test]
+fn skipped_canceled_and_deleted_places_are_told(rt: HostRuntime) -> Result<(), Fail> {
+    let alloc = rt.alloc();
     let skipped = Told {
         relation: None,
         delay: None,
