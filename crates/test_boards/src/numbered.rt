@@ -1,0 +1,155 @@
+//! A list of plain items, with ample memory.
+
+use copying::Copied;
+use shared_list::{Keyed, NoMemory, SharedList};
+use std::alloc::Global;
+use std::test::Fail;
+use texts::ShortText;
+
+/// A name with a number.
+#[derive(Drop)]
+struct Numbered {
+    name: ShortText,
+    number: u32,
+}
+
+impl Copied for Numbered {
+    fn copy(&self) -> Result<Self, NoMemory> {
+        Ok(Numbered {
+            name: self.name.copy()?,
+            number: self.number,
+        })
+    }
+}
+
+impl Keyed for Numbered {
+    ghost key_of = { λ item. item.name };
+
+    fn key(&self) -> &str {
+        self.name.as_str()
+    }
+}
+
+/// The list with that name and number.
+fn with(
+    alloc: Global,
+    list: SharedList<Numbered>,
+    name: &str,
+    number: u32,
+) -> Result<SharedList<Numbered>, NoMemory> {
+    let name = ShortText::new(alloc, name)?;
+    list.with(Numbered { name, number })
+}
+
+/// The sum of the numbers, each times its place from 1.
+fn weighed(list: &SharedList<Numbered>) -> u32 {
+    let mut place = 0u32;
+    let mut sum = 0u32;
+    for item in list.iter() {
+        place = place.wrapping_add(1);
+        sum = sum.wrapping_add(place.wrapping_mul(item.number));
+    }
+    sum
+}
+
+/// Whether a version that is changed leaves the other as it was.
+fn versions(alloc: Global) -> Result<bool, NoMemory> {
+    let old = with(
+        alloc,
+        with(alloc, SharedList::empty(alloc), "b", 10)?,
+        "a",
+        1,
+    )?;
+    let new = with(alloc, old.share()?.without("a")?, "c", 100)?;
+    let found = new.get("c").map(|item| item.number) == Some(100) && new.get("a").is_none();
+    Ok(found && weighed(&old) == 21 && weighed(&new) == 210 && old.len() == 2 && new.len() == 2)
+}
+
+#[test]
+fn versions_share_what_they_have_in_common(rt: HostRuntime) -> Result<(), Fail> {
+    assert!(rt; versions(rt.alloc())?);
+    Ok(())
+}
+
+/// How many numbers are put; a prime.
+const NUMBERS: u32 = 3001;
+
+/// The numbers below `NUMBERS`, each at one place below it, in an order that jumps.
+fn jumping(place: u32) -> u32 {
+    place.wrapping_mul(1009) % NUMBERS
+}
+
+/// The number as a key, so that the order of keys is that of numbers below 9,000.
+fn key_of(alloc: Global, number: u32) -> Result<String, NoMemory> {
+    let key = number.wrapping_add(1000);
+    format!(in alloc; "{key}")
+}
+
+/// The list with the numbers at those places, each under its key.
+fn with_places(
+    alloc: Global,
+    list: SharedList<Numbered>,
+    from: u32,
+    to: u32,
+) -> Result<SharedList<Numbered>, NoMemory> {
+    let mut list = list;
+    for place in from..to {
+        let number = jumping(place);
+        list = with(alloc, list, key_of(alloc, number)?.as_str(), number)?;
+    }
+    Ok(list)
+}
+
+/// The list without the numbers from the one and below the other.
+fn without_numbers(
+    alloc: Global,
+    list: SharedList<Numbered>,
+    from: u32,
+    to: u32,
+) -> Result<SharedList<Numbered>, NoMemory> {
+    let mut list = list;
+    for number in from..to {
+        list = list.without(key_of(alloc, number)?.as_str())?;
+    }
+    Ok(list)
+}
+
+/// How many of all numbers are found under their keys.
+fn found_in(alloc: Global, list: &SharedList<Numbered>) -> Result<u32, NoMemory> {
+    let mut count = 0u32;
+    for number in 0..NUMBERS {
+        let found = list.get(key_of(alloc, number)?.as_str());
+        if found.map(|item| item.number) == Some(number) {
+            count = count.wrapping_add(1);
+        }
+    }
+    Ok(count)
+}
+
+/// Whether a list of so many items that it has several nodes keeps them in order, as they come and go, while
+/// a version of it stays.
+fn many(alloc: Global) -> Result<bool, NoMemory> {
+    let old = with_places(alloc, SharedList::empty(alloc), 0, NUMBERS)?;
+    let back = without_numbers(alloc, old.share()?, 0, 2000)?;
+    let gap = without_numbers(alloc, old.share()?, 500, 2500)?;
+    let whole = with_places(alloc, gap.share()?, 0, NUMBERS)?;
+    Ok(
+        weighed(&old) == 419_067_408
+            && weighed(&whole) == 419_067_408
+            && weighed(&back) == 1_337_336_000
+            && weighed(&gap) == 1_086_836_000
+            && old.len() == 3001
+            && back.len() == 1001
+            && gap.len() == 1001
+            && whole.len() == 3001
+            && found_in(alloc, &old)? == 3001
+            && found_in(alloc, &back)? == 1001
+            && found_in(alloc, &gap)? == 1001,
+    )
+}
+
+#[test]
+fn many_items_stand_in_order(rt: HostRuntime) -> Result<(), Fail> {
+    assert!(rt; many(rt.alloc())?);
+    Ok(())
+}

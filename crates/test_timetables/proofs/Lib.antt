@@ -1,0 +1,2 @@
+mod AutumnLemmas
+mod LineLemmas

@@ -1,0 +1,283 @@
+//! The states of a trip of twenty places, which is left at 08:00:00, 08:01:00 and so on.
+
+ghost use Rattle.std.specs.Prelude.{◌≡◌, ◌<◌, map, IfOk};
+ghost use Rattle.std.specs.List.{range_with_len};
+ghost use Rattle.delay_defs.specs.Line as example;
+ghost use Rattle.delay_defs.specs.Line.{line_place};
+
+use delay_rule::{NoMemory, Steps, StopState, walk};
+use rt_types::{Bytes, Event, Items, StopRelation, StopUpdate, Text, TripRef, TripUpdate};
+use sched_types::{Place, Plan, PlanName, PlanParts, Route, Run, Stop, Trip};
+use std::alloc::Global;
+use std::marker::Brand;
+use std::sync::ledger::{Blank, Ledger};
+use std::test::Fail;
+
+const RUN: Run = Run { trip: 0, day: 0 };
+
+fn places(alloc: Global) -> Result<Vec<Place>, NoMemory>
+    ensures { IfOk result (λ places. places.items ≡ map line_place (range_with_len 0 20)) }
+{
+    let mut places = Vec::new(alloc);
+    for i in 0..20 {
+        places.push(Place {
+            stop: 0,
+            sequence: i + 1,
+            arrival: 28_800 + 60 * i,
+            departure: 28_800 + 60 * i,
+            pickup: 0,
+        })?;
+    }
+    Ok(places)
+}
+
+fn stops(alloc: Global) -> Result<Vec<Stop>, NoMemory>
+    ensures { IfOk result (λ stops. stops.items ≡ example.line.stops) }
+{
+    Ok(vec![in alloc;
+        Stop {
+            id: PlanName::new(alloc, "P")?,
+            name: PlanName::new(alloc, "Pole")?,
+            parent: None,
+        },
+    ]?)
+}
+
+fn routes(alloc: Global) -> Result<Vec<Route>, NoMemory>
+    ensures { IfOk result (λ routes. routes.items ≡ example.line.routes) }
+{
+    Ok(vec![in alloc;
+        Route {
+            id: PlanName::new(alloc, "L")?,
+            agency: None,
+            short: PlanName::new(alloc, "L")?,
+            long: PlanName::new(alloc, "")?,
+            kind: 3,
+        },
+    ]?)
+}
+
+fn trips(alloc: Global) -> Result<Vec<Trip>, NoMemory>
+    ensures { IfOk result (λ trips. trips.items ≡ example.line.trips) }
+{
+    Ok(vec![in alloc;
+        Trip {
+            id: PlanName::new(alloc, "T")?,
+            route: 0,
+            service: 0,
+            headsign: PlanName::new(alloc, "End")?,
+            direction: None,
+        },
+    ]?)
+}
+
+fn line(alloc: Global) -> Result<Plan, NoMemory>
+    ensures { IfOk result (λ plan. plan ≡ example.line) }
+{
+    let parts = PlanParts {
+        agencies: Vec::new(alloc),
+        stops: stops(alloc)?,
+        routes: routes(alloc)?,
+        trips: trips(alloc)?,
+        places: vec![in alloc; places(alloc)?]?,
+        active: vec![in alloc; vec![in alloc; 0]?]?,
+        first: 20250330,
+        bases: vec![in alloc; 1743285600]?,
+    };
+    Plan::build(alloc, parts)
+}
+
+/// An event with that delay.
+fn late(alloc: Global, seconds: i32) -> Option<Event> {
+    Some(Event {
+        delay: Some(seconds),
+        time: None,
+        uncertainty: None,
+        unknown: Bytes::from_vec(Vec::new(alloc)),
+    })
+}
+
+/// An event at that time.
+fn at(alloc: Global, time: i64) -> Option<Event> {
+    Some(Event {
+        delay: None,
+        time: Some(time),
+        uncertainty: None,
+        unknown: Bytes::from_vec(Vec::new(alloc)),
+    })
+}
+
+/// An update of the place with that `stop_sequence`.
+fn update_of(
+    alloc: Global,
+    sequence: u32,
+    departure: Option<Event>,
+    relation: Option<StopRelation>,
+) -> StopUpdate {
+    StopUpdate {
+        stop_sequence: Some(sequence),
+        arrival: None,
+        departure,
+        stop_id: None,
+        relation,
+        properties: None,
+        unknown: Bytes::from_vec(Vec::new(alloc)),
+    }
+}
+
+fn trip_update(alloc: Global, delay: Option<i32>, updates: Vec<StopUpdate>) -> TripUpdate {
+    TripUpdate {
+        trip: TripRef {
+            trip_id: None,
+            start_time: None,
+            start_date: None,
+            relation: None,
+            route_id: None,
+            direction_id: None,
+            unknown: Bytes::from_vec(Vec::new(alloc)),
+        },
+        stop_time_update: Items::new(updates),
+        vehicle: None,
+        timestamp: None,
+        delay,
+        unknown: Bytes::from_vec(Vec::new(alloc)),
+    }
+}
+
+/// The states of the run under an update, with a count of steps of its own.
+fn counted<L: Ledger>(
+    alloc: Global,
+    update: &TripUpdate,
+    blank: Blank,
+) -> Result<Vec<StopState>, NoMemory>
+    requires name { blank.name ≡ L.name }
+    requires parts { blank.parts ≡ L.parts }
+    requires some { 0 < blank.parts }
+{
+    let plan = line(alloc)?;
+    let mut out = Vec::new(alloc);
+    let mut steps = Steps::<L>::new(blank);
+    if plan.runs(RUN) {
+        walk(&plan, RUN, update, &mut out, &mut steps)?;
+    }
+    Ok(out)
+}
+
+/// The states of the run under an update.
+fn told(alloc: Global, update: &TripUpdate) -> Result<Vec<StopState>, NoMemory> {
+    counted::<Brand>(alloc, update, Blank::new(1))
+}
+
+/// The delay with which the place of that `stop_sequence` is left.
+fn departs(states: &[StopState], sequence: usize) -> Option<i64> {
+    match states.get(sequence.saturating_sub(1)) {
+        Some(state) => state.departure,
+        None => None,
+    }
+}
+
+/// When that place is left, as far as is known.
+fn leaves(states: &[StopState], sequence: usize) -> i64 {
+    let scheduled = 1743314340 + 60 * (sequence % 32) as i64;
+    scheduled.saturating_add(departs(states, sequence).unwrap_or(0))
+}
+
+/// Whether that place is skipped.
+fn skips(states: &[StopState], sequence: usize) -> bool {
+    match states.get(sequence.saturating_sub(1)) {
+        Some(state) => state.skipped,
+        None => false,
+    }
+}
+
+#[test]
+fn a_delay_holds_up_to_the_next_one(rt: HostRuntime) -> Result<(), Fail> {
+    let alloc = rt.alloc();
+    let updates = vec![in alloc;
+        update_of(alloc, 3, late(alloc, 300), None),
+        update_of(alloc, 8, late(alloc, 60), Some(StopRelation::Scheduled)),
+        update_of(alloc, 10, None, Some(StopRelation::NoData)),
+    ]?;
+    let states = told(alloc, &trip_update(alloc, None, updates))?;
+    assert_eq!(rt; states.len(), 20);
+    assert_eq!(rt; departs(&states, 2), None);
+    assert_eq!(rt; leaves(&states, 2), 1743314460);
+    assert_eq!(rt; departs(&states, 7), Some(300));
+    assert_eq!(rt; leaves(&states, 7), 1743315060);
+    assert_eq!(rt; departs(&states, 9), Some(60));
+    assert_eq!(rt; leaves(&states, 9), 1743314940);
+    assert_eq!(rt; departs(&states, 10), None);
+    assert_eq!(rt; leaves(&states, 10), 1743314940);
+    Ok(())
+}
+
+#[test]
+fn a_skipped_place_passes_its_delay_on(rt: HostRuntime) -> Result<(), Fail> {
+    let alloc = rt.alloc();
+    let updates = vec![in alloc;
+        update_of(alloc, 3, late(alloc, 300), None),
+        update_of(alloc, 5, None, Some(StopRelation::Skipped)),
+        update_of(alloc, 8, late(alloc, 60), None),
+        update_of(alloc, 10, None, Some(StopRelation::NoData)),
+    ]?;
+    let states = told(alloc, &trip_update(alloc, None, updates))?;
+    assert!(rt; !skips(&states, 4));
+    assert!(rt; skips(&states, 5));
+    assert!(rt; !skips(&states, 6));
+    assert_eq!(rt; departs(&states, 6), Some(300));
+    assert_eq!(rt; leaves(&states, 6), 1743315000);
+    Ok(())
+}
+
+#[test]
+fn each_relation_has_its_effect(rt: HostRuntime) -> Result<(), Fail> {
+    let alloc = rt.alloc();
+    let updates = vec![in alloc;
+        update_of(alloc, 2, None, Some(StopRelation::Scheduled)),
+        update_of(
+            alloc,
+            4,
+            at(alloc, 1743314640),
+            Some(StopRelation::Scheduled)
+        ),
+        update_of(alloc, 6, at(alloc, 1743314640), Some(StopRelation::Skipped)),
+        update_of(
+            alloc,
+            8,
+            at(alloc, 1743314640),
+            Some(StopRelation::Unscheduled)
+        ),
+        update_of(alloc, 1, late(alloc, 7), None),
+        update_of(alloc, 12, late(alloc, -30), None),
+        update_of(alloc, 21, late(alloc, 5), None),
+        update_of(alloc, 14, None, Some(StopRelation::NoData)),
+    ]?;
+    let states = told(alloc, &trip_update(alloc, Some(9), updates))?;
+    assert_eq!(rt; departs(&states, 1), Some(9));
+    assert_eq!(rt; departs(&states, 2), Some(9));
+    assert_eq!(rt; departs(&states, 4), Some(60));
+    assert_eq!(rt; departs(&states, 6), Some(60));
+    assert_eq!(rt; departs(&states, 8), None);
+    assert_eq!(rt; departs(&states, 11), None);
+    assert_eq!(rt; departs(&states, 13), Some(-30));
+    assert_eq!(rt; departs(&states, 20), None);
+    Ok(())
+}
+
+#[test]
+fn a_stop_is_found_by_its_id(rt: HostRuntime) -> Result<(), Fail> {
+    let alloc = rt.alloc();
+    let mut first = update_of(alloc, 0, late(alloc, 5), None);
+    first.stop_sequence = None;
+    first.stop_id = Some(Text::new(alloc, "P")?);
+    let mut other = update_of(alloc, 0, late(alloc, 7), None);
+    other.stop_sequence = None;
+    other.stop_id = Some(Text::new(alloc, "Q")?);
+    let states = told(
+        alloc,
+        &trip_update(alloc, None, vec![in alloc; other, first]?),
+    )?;
+    assert_eq!(rt; departs(&states, 1), Some(5));
+    assert_eq!(rt; departs(&states, 20), Some(5));
+    Ok(())
+}

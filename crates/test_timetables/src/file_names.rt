@@ -1,0 +1,8 @@
+//! The files by their names.
+
+use load_defs::File;
+
+#[test]
+fn the_names_of_files() {
+    prove!(File::CalendarDates.name() == "calendar_dates.txt");
+}

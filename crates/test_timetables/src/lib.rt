@@ -1,0 +1,25 @@
+//! Tests of timetables: of the rows of their files, their zones and days, their look-ups, the loading of
+//! folders, which trip an update means, and what it tells of each place.
+//!
+//! They call `gtfs_rows`, `service_day`, `sched_types`, `load_defs`, `sched_load`, `trip_match` and
+//! `delay_rule` by their public contracts. Every test is proved safe, and then it is run.
+#![tactic(auto)]
+
+#[cfg(test)]
+mod city_files;
+#[cfg(test)]
+mod days;
+#[cfg(test)]
+mod delays;
+#[cfg(test)]
+mod file_names;
+#[cfg(test)]
+mod folders;
+#[cfg(test)]
+mod forms;
+#[cfg(test)]
+mod matching;
+#[cfg(test)]
+mod plans;
+#[cfg(test)]
+mod rows;

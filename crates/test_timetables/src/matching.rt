@@ -1,0 +1,209 @@
+//! The rules of matching on a small timetable, around both changes of the clock.
+
+ghost use Rattle.std.specs.Prelude.{◌≡◌, map, IfOk};
+ghost use Rattle.match_defs.specs.Autumn as fall;
+ghost use Rattle.match_defs.specs.Autumn.{autumn_places};
+
+use rt_types::{Bytes, Text, TripRef, TripRelation};
+use sample_city::{NoMemory, city, place, routes, stops, trips};
+use sched_types::{Place, Plan, PlanName, PlanParts, Run};
+use std::alloc::Global;
+use std::test::Fail;
+use trip_match::{Found, Why, find};
+
+fn autumn_places(alloc: Global) -> Result<Vec<Vec<Place>>, NoMemory>
+    ensures { IfOk result (λ places. map (λ v. v.items) places.items ≡ autumn_places) }
+{
+    let night = vec![in alloc; place(0, 1, 90600, 90600), place(3, 2, 92400, 92400)]?;
+    let first = vec![in alloc; place(0, 1, 28800, 28800), place(3, 2, 30600, 30600)]?;
+    let second = vec![in alloc; place(1, 1, 28800, 28800), place(3, 2, 30000, 30000)]?;
+    Ok(vec![in alloc; night, first, second]?)
+}
+
+/// Around the change to winter time of 26 October 2025.
+fn autumn(alloc: Global) -> Result<Plan, NoMemory>
+    ensures { IfOk result (λ plan. plan ≡ fall.autumn) }
+{
+    let parts = PlanParts {
+        agencies: vec![in alloc; PlanName::new(alloc, "A")?]?,
+        stops: stops(alloc)?,
+        routes: routes(alloc)?,
+        trips: trips(alloc)?,
+        places: autumn_places(alloc)?,
+        active: vec![in alloc; vec![in alloc; 0, 1]?]?,
+        first: 20251025,
+        bases: vec![in alloc; 1761343200, 1761433200, 1761519600]?,
+    };
+    Plan::build(alloc, parts)
+}
+
+/// The text, if it is not empty; an absent one else.
+fn text(alloc: Global, text: &str) -> Result<Option<Text>, NoMemory> {
+    if text.is_empty() {
+        Ok(None)
+    } else {
+        Ok(Some(Text::new(alloc, text)?))
+    }
+}
+
+/// The descriptor of a trip by its id and its date, where they are not empty.
+fn named(
+    alloc: Global,
+    id: &str,
+    date: &str,
+    relation: Option<TripRelation>,
+) -> Result<TripRef, NoMemory> {
+    Ok(TripRef {
+        trip_id: text(alloc, id)?,
+        start_time: None,
+        start_date: text(alloc, date)?,
+        relation,
+        route_id: None,
+        direction_id: None,
+        unknown: Bytes::from_vec(Vec::new(alloc)),
+    })
+}
+
+/// What is found of a trip by its id, with a date where it is not empty.
+fn by_name(
+    alloc: Global,
+    plan: &Plan,
+    id: &str,
+    date: &str,
+    stamp: u64,
+) -> Result<Found, NoMemory> {
+    let trip = named(alloc, id, date, None)?;
+    Ok(find(plan, &trip, stamp))
+}
+
+/// What is found of a trip of that relation.
+fn related(
+    alloc: Global,
+    plan: &Plan,
+    id: &str,
+    date: &str,
+    relation: TripRelation,
+) -> Result<Found, NoMemory> {
+    let trip = named(alloc, id, date, Some(relation))?;
+    Ok(find(plan, &trip, 0))
+}
+
+/// What is found of a trip of the route by its date and time.
+fn departing(alloc: Global, plan: &Plan, date: &str, time: &str) -> Result<Found, NoMemory> {
+    let trip = TripRef {
+        trip_id: Some(Text::new(alloc, "")?),
+        start_time: text(alloc, time)?,
+        start_date: text(alloc, date)?,
+        relation: Some(TripRelation::Scheduled),
+        route_id: Some(Text::new(alloc, "R7")?),
+        direction_id: Some(0),
+        unknown: Bytes::from_vec(Vec::new(alloc)),
+    };
+    Ok(find(plan, &trip, 0))
+}
+
+fn run(trip: u32, day: u32) -> Found {
+    Found::Run(Run { trip, day })
+}
+
+#[test]
+fn a_night_trip_is_that_of_the_day_before(rt: HostRuntime) -> Result<(), Fail> {
+    let alloc = rt.alloc();
+    let plan = city(alloc)?;
+    assert_eq!(rt; by_name(alloc, &plan, "N1", "", 1743293700)?, run(0, 0));
+    // The last second of winter time and the first of summer time.
+    assert_eq!(rt; by_name(alloc, &plan, "N1", "", 1743296399)?, run(0, 0));
+    assert_eq!(rt; by_name(alloc, &plan, "N1", "", 1743296400)?, run(0, 0));
+    assert_eq!(rt; by_name(alloc, &plan, "N1", "", 1743335700)?, run(0, 0));
+    assert_eq!(rt; by_name(alloc, &plan, "N1", "", 1743335701)?, run(0, 1));
+    Ok(())
+}
+
+#[test]
+fn an_hour_that_comes_twice_is_of_one_day(rt: HostRuntime) -> Result<(), Fail> {
+    let alloc = rt.alloc();
+    let plan = autumn(alloc)?;
+    assert_eq!(rt; by_name(alloc, &plan, "N1", "", 1761438600)?, run(0, 0));
+    assert_eq!(rt; by_name(alloc, &plan, "N1", "", 1761442200)?, run(0, 0));
+    assert_eq!(rt; by_name(alloc, &plan, "N1", "", 1761479701)?, run(0, 1));
+    assert_eq!(rt; by_name(alloc, &plan, "T1", "20251026", 0)?, run(1, 1));
+    Ok(())
+}
+
+#[test]
+fn each_reason_is_told(rt: HostRuntime) -> Result<(), Fail> {
+    let alloc = rt.alloc();
+    let plan = autumn(alloc)?;
+    assert_eq!(rt;
+        by_name(alloc, &plan, "T9", "20251026", 0)?,
+        Found::NoMatch(Why::NoTrip)
+    );
+    assert_eq!(rt;
+        by_name(alloc, &plan, "T1", "20251028", 0)?,
+        Found::NoMatch(Why::NoDay)
+    );
+    assert_eq!(rt;
+        by_name(alloc, &plan, "T1", "", u64::MAX)?,
+        Found::NoMatch(Why::NoDay)
+    );
+    assert_eq!(rt;
+        by_name(alloc, &plan, "T1", "20251027", 0)?,
+        Found::NoMatch(Why::NotActive)
+    );
+    assert_eq!(rt;
+        by_name(alloc, &plan, "T9", "20250229", 0)?,
+        Found::NoMatch(Why::BadText)
+    );
+    Ok(())
+}
+
+#[test]
+fn relations_go_before_dates(rt: HostRuntime) -> Result<(), Fail> {
+    let alloc = rt.alloc();
+    let plan = autumn(alloc)?;
+    assert_eq!(rt;
+        related(alloc, &plan, "T1", "x", TripRelation::Replacement)?,
+        Found::NoMatch(Why::Relation)
+    );
+    assert_eq!(rt;
+        related(alloc, &plan, "X", "x", TripRelation::Added)?,
+        Found::NoMatch(Why::BadText)
+    );
+    assert_eq!(rt;
+        related(alloc, &plan, "X", "", TripRelation::Added)?,
+        Found::Added
+    );
+    assert_eq!(rt;
+        related(alloc, &plan, "", "", TripRelation::Added)?,
+        Found::NoMatch(Why::NoTrip)
+    );
+    assert_eq!(rt;
+        related(alloc, &plan, "T1", "20251026", TripRelation::Canceled)?,
+        run(1, 1)
+    );
+    Ok(())
+}
+
+#[test]
+fn trips_are_found_without_their_ids(rt: HostRuntime) -> Result<(), Fail> {
+    let alloc = rt.alloc();
+    let plan = autumn(alloc)?;
+    assert_eq!(rt; departing(alloc, &plan, "20251026", "25:10:00")?, run(0, 1));
+    assert_eq!(rt;
+        departing(alloc, &plan, "20251026", "8:00:00")?,
+        Found::NoMatch(Why::Several)
+    );
+    assert_eq!(rt;
+        departing(alloc, &plan, "20251026", "08:00:01")?,
+        Found::NoMatch(Why::NoTrip)
+    );
+    assert_eq!(rt;
+        departing(alloc, &plan, "20251028", "08:00")?,
+        Found::NoMatch(Why::BadText)
+    );
+    assert_eq!(rt;
+        departing(alloc, &plan, "20251026", "")?,
+        Found::NoMatch(Why::NoTrip)
+    );
+    Ok(())
+}
