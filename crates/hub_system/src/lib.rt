@@ -23,6 +23,8 @@ mod listening;
 mod opening;
 mod program;
 mod telling;
+#[cfg(test)]
+mod tests;
 
 pub use connection::Connection;
 pub use opening::SystemPort;
