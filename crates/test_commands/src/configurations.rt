@@ -1,0 +1,195 @@
+//! Configurations and faults from outside, written by hand after the table of keys.
+
+use hub_config::{ConfFault, NoMemory, PortKind, fault_line, read_conf};
+use std::alloc::Global;
+use std::test::Fail;
+
+const CITY: &str =
+    "[[schedule]]\nname = \"city\"\nfolder = \"city\"\nzone = \"CET-1CEST,M3.5.0,M10.5.0/3\"\nfirst = \"20250329\"\ndays = 3\n\n[[feed]]\nname = \"a\"\nschedule = \"city\"\n\n[[feed]]\nname = \"b\"\nschedule = \"city\"\n";
+
+/// Whether a text has this line for its fault, or has none where that is `ok`.
+fn has_fault(alloc: Global, text: &str, line: &str) -> Result<bool, NoMemory> {
+    match read_conf(alloc, text.as_bytes()) {
+        Ok(_) => Ok(line == "ok"),
+        Err(fault) => Ok(fault_line(alloc, &fault)?.as_slice() == line.as_bytes()),
+    }
+}
+
+/// The same of a schedule with these lines for its window.
+fn window_has(alloc: Global, window: &str, line: &str) -> Result<bool, NoMemory> {
+    let text = format!(in alloc;
+        "[[schedule]]\nname = \"city\"\nfolder = \"f\"\nzone = \"UTC0\"\n{window}"
+    )?;
+    has_fault(alloc, text.as_str(), line)
+}
+
+/// The same of the city between some more lines.
+fn city_has(alloc: Global, before: &str, after: &str, line: &str) -> Result<bool, NoMemory> {
+    let text = format!(in alloc; "{before}\n{CITY}{after}")?;
+    has_fault(alloc, text.as_str(), line)
+}
+
+#[test]
+fn reads_the_city(rt: HostRuntime) -> Result<(), Fail> {
+    let conf = read_conf(rt.alloc(), CITY.as_bytes())?;
+    assert_eq!(rt; conf.readers, 2);
+    assert_eq!(rt; conf.listen.as_str(), "127.0.0.1:8080");
+    assert_eq!(rt; conf.connections, 0);
+    let schedules = conf.schedules.as_slice();
+    assert_eq!(rt; schedules.len(), 1);
+    assert_eq!(rt; schedules[0].zone.as_str(), "CET-1CEST,M3.5.0,M10.5.0/3");
+    assert_eq!(rt; schedules[0].first, 20_250_329);
+    assert_eq!(rt; schedules[0].days, 3);
+    assert_eq!(rt; schedules[0].prefix.as_str(), "");
+    Ok(())
+}
+
+#[test]
+fn reads_its_feeds(rt: HostRuntime) -> Result<(), Fail> {
+    let conf = read_conf(rt.alloc(), CITY.as_bytes())?;
+    let feeds = conf.feeds.as_slice();
+    assert_eq!(rt; feeds.len(), 2);
+    assert_eq!(rt; feeds[1].name.as_str(), "b");
+    assert_eq!(rt; feeds[1].schedule, 0);
+    assert_eq!(rt; feeds[1].kind, PortKind::Nothing);
+    assert_eq!(rt; feeds[1].place.as_str(), "");
+    Ok(())
+}
+
+const FULL: &str =
+    "readers = 64\nconnections = 1000000000\nschedule = [{ name = \"a\", folder = \"f\", zone = \"UTC0\", first = \"19700201\", days = 1 }, { name = \"b_9\", folder = \"\", zone = \"\", first = \"29991231\", days = 400, prefix = \"12345678901234567890123456789012\" }]\nfeed = [{ name = \"a\", schedule = \"b_9\", kind = \"stream\", place = \"127.0.0.1:9\" }]\n";
+
+#[test]
+fn reads_every_key(rt: HostRuntime) -> Result<(), Fail> {
+    let conf = read_conf(rt.alloc(), FULL.as_bytes())?;
+    assert_eq!(rt; conf.readers, 64);
+    assert_eq!(rt; conf.connections, 1_000_000_000);
+    assert_eq!(rt; conf.schedules.as_slice().len(), 2);
+    let feeds = conf.feeds.as_slice();
+    assert_eq!(rt; feeds.len(), 1);
+    assert_eq!(rt; feeds[0].schedule, 1);
+    assert_eq!(rt; feeds[0].kind, PortKind::Stream);
+    assert_eq!(rt; feeds[0].place.as_str(), "127.0.0.1:9");
+    Ok(())
+}
+
+#[test]
+fn refuses_keys_of_the_document(rt: HostRuntime) -> Result<(), Fail> {
+    let cases: [(&str, &str, &str); 6] = [
+        ("readers = 0", "", "hub: config top 0 readers bad"),
+        (
+            "readers = 0\nzz = 1\nyy = 1",
+            "",
+            "hub: config top 0 yy unknown",
+        ),
+        (
+            "readers = 65\nlisten = 1",
+            "",
+            "hub: config top 0 readers bad",
+        ),
+        (
+            "listen = 1\nconnections = -1",
+            "",
+            "hub: config top 0 listen bad",
+        ),
+        (
+            "connections = 1000000001",
+            "",
+            "hub: config top 0 connections bad",
+        ),
+        ("\"a\\tb\" = 1", "", "hub: config top 0 a b unknown"),
+    ];
+    for (before, after, line) in cases {
+        assert!(rt; city_has(rt.alloc(), before, after, line)?, "{line}");
+    }
+    Ok(())
+}
+
+#[test]
+fn refuses_arrays(rt: HostRuntime) -> Result<(), Fail> {
+    let cases: [(&str, &str); 6] = [
+        ("", "hub: config top 0 schedule missing"),
+        ("schedule = []", "hub: config top 0 schedule bad"),
+        ("[schedule]\nname = \"a\"", "hub: config top 0 schedule bad"),
+        ("schedule = [{}, 1]", "hub: config top 0 schedule bad"),
+        ("schedule = [{}]", "hub: config schedule 1 name missing"),
+        ("schedule =", "hub: config toml"),
+    ];
+    for (text, line) in cases {
+        assert!(rt; has_fault(rt.alloc(), text, line)?, "{line}");
+    }
+    Ok(())
+}
+
+#[test]
+fn refuses_windows(rt: HostRuntime) -> Result<(), Fail> {
+    let cases: [(&str, &str); 5] = [
+        ("first = \"20240229\"\ndays = 400", "ok"),
+        (
+            "first = \"20230229\"\ndays = 401",
+            "hub: config schedule 1 first bad",
+        ),
+        (
+            "first = 20240229\ndays = 1",
+            "hub: config schedule 1 first bad",
+        ),
+        (
+            "first = \"19700131\"\ndays = 1",
+            "hub: config schedule 1 first bad",
+        ),
+        (
+            "first = \"20240229\"\ndays = 401",
+            "hub: config schedule 1 days bad",
+        ),
+    ];
+    for (window, line) in cases {
+        assert!(rt; window_has(rt.alloc(), window, line)?, "{line}");
+    }
+    Ok(())
+}
+
+#[test]
+fn refuses_feeds(rt: HostRuntime) -> Result<(), Fail> {
+    let cases: [(&str, &str, &str); 5] = [
+        (
+            "",
+            "[[feed]]\nname = \"a\"\nschedule = \"x\"",
+            "hub: config feed 3 name twice",
+        ),
+        (
+            "",
+            "[[feed]]\nname = \"c\"\nschedule = \"x\"\nkind = \"x\"",
+            "hub: config feed 3 schedule noname",
+        ),
+        (
+            "",
+            "[[feed]]\nname = \"c\"\nschedule = \"city\"\nkind = \"x\"",
+            "hub: config feed 3 kind bad",
+        ),
+        (
+            "",
+            "[[feed]]\nname = \"C\"\nschedule = 1",
+            "hub: config feed 3 name bad",
+        ),
+        (
+            "",
+            "[[schedule]]\nname = \"city\"",
+            "hub: config schedule 2 name twice",
+        ),
+    ];
+    for (before, after, line) in cases {
+        assert!(rt; city_has(rt.alloc(), before, after, line)?, "{line}");
+    }
+    Ok(())
+}
+
+#[test]
+fn refuses_what_is_not_text(rt: HostRuntime) -> Result<(), Fail> {
+    assert!(rt;
+        matches!(
+            read_conf(rt.alloc(), b"listen = \"\xff\""),
+            Err(ConfFault::Toml)
+        )
+    );
+    Ok(())
+}

@@ -1,0 +1,176 @@
+//! Doors: the form in memory, and the one over a listener on the loopback.
+use hub_outside::{
+    Door, DoorAnswer, Gate, GatePoint, MemoryDoor, MemoryLink, MemorySink, MemorySource, NoMemory,
+    OpenGate, ReadAnswer, Sink, Source, TcpDoor, WriteAnswer,
+};
+use std::alloc::Global;
+use std::cell::Cell;
+use std::io::{ErrorKind, Read, Write};
+use std::net::{OpenListener, SocketAddr, TcpListener, TcpStream};
+use std::sync::Arc;
+use std::test::Fail;
+use std::time::Duration;
+use std::{io, rt};
+
+/// A link in memory with these bytes to read.
+fn link_of(alloc: Global, bytes: &[u8]) -> Result<MemoryLink, NoMemory> {
+    Ok(MemoryLink {
+        input: MemorySource::new(
+            Vec::from_slice(alloc, bytes)?,
+            Vec::new(alloc),
+            Vec::new(alloc),
+        ),
+        output: MemorySink::new(alloc, Vec::new(alloc), Vec::new(alloc)),
+    })
+}
+
+/// Asks a door in memory once. A link is given back with these bytes written.
+fn ask(door: &mut MemoryDoor, bytes: &[u8]) -> &'static str {
+    match door.next() {
+        DoorAnswer::Link(input, mut output) => {
+            if !bytes.is_empty() {
+                output.write(bytes);
+            }
+            door.done(input, output);
+            "link"
+        }
+        DoorAnswer::End => "end",
+        DoorAnswer::Failed => "failed",
+    }
+}
+
+#[test]
+fn memory_door_hands_out_its_links(rt: HostRuntime) -> Result<(), Fail> {
+    let alloc = rt.alloc();
+    let links = vec![in alloc; link_of(alloc, b"one")?, link_of(alloc, b"two")?]?;
+    let mut door = MemoryDoor::new(alloc, links, vec![in alloc; 2]?)?;
+    assert_eq!(rt; ask(&mut door, b"1"), "link");
+    assert_eq!(rt; ask(&mut door, b"2"), "failed");
+    assert_eq!(rt; ask(&mut door, b"3"), "link");
+    assert_eq!(rt; ask(&mut door, b"4"), "end");
+    let mut written = String::new(alloc);
+    for link in door.links_done() {
+        if link.output.bytes() == b"1".as_slice() {
+            written.push_str("1")?;
+        }
+        if link.output.bytes() == b"3".as_slice() {
+            written.push_str("3")?;
+        }
+    }
+    assert_eq!(rt; written.as_str(), "13");
+    Ok(())
+}
+
+#[test]
+fn open_gate_holds_nobody(_rt: HostRuntime) -> Result<(), Fail> {
+    OpenGate.pass(GatePoint::Ingested(0));
+    Ok(())
+}
+
+#[test]
+fn tcp_door_hands_out_connections(rt: HostRuntime) -> Result<(), Fail> {
+    let listener = TcpListener::bind(&rt, "127.0.0.1:0")?;
+    let address = listener.local_addr()?;
+    let mut door = TcpDoor::new(Arc::new(rt.alloc(), listener)?, 1, rt);
+    let mut client = TcpStream::connect(&rt, address)?;
+    client.write_all(b"ask")?;
+    let DoorAnswer::Link(mut input, mut output) = door.next() else {
+        return Err(Fail::from(io::Error::from(ErrorKind::NotConnected)));
+    };
+    let mut into = [0u8; 8];
+    assert_eq!(rt; input.read(&mut into), ReadAnswer::Got(3));
+    assert_eq!(rt; &into[..3], b"ask".as_slice());
+    assert_eq!(rt; output.write(b"told"), WriteAnswer::Took(4));
+    door.done(input, output);
+    let got = client.read(&mut into)?;
+    assert_eq!(rt; got, 4);
+    assert_eq!(rt; &into[..4], b"told".as_slice());
+    assert_eq!(rt; client.read(&mut into)?, 0);
+    assert!(rt; matches!(door.next(), DoorAnswer::End));
+    Ok(())
+}
+
+/// A listener of which so many calls fail in this way before it accepts.
+#[derive(Drop)]
+struct Flaky {
+    listener: TcpListener,
+    failures: Cell<u32>,
+    kind: ErrorKind,
+}
+
+impl OpenListener for Flaky {
+    type Stream = TcpStream;
+
+    fn accept(&self) -> io::Result<(TcpStream, SocketAddr)> {
+        let left = self.failures.get();
+        if left > 0 {
+            self.failures.set(left - 1);
+            return Err(io::Error::from(self.kind));
+        }
+        self.listener.accept()
+    }
+}
+
+/// A clock that counts its pauses and makes none.
+#[derive(Drop)]
+struct Counting<'a> {
+    pauses: &'a Cell<u32>,
+}
+
+impl<'a> rt::Clock for Counting<'a> {
+    fn monotonic(&self) -> io::Result<Duration> {
+        Ok(Duration::from_secs(0))
+    }
+
+    fn since_1970(&self) -> io::Result<Duration> {
+        Ok(Duration::from_secs(0))
+    }
+
+    fn sleep(&self, _duration: Duration) {
+        self.pauses.set(self.pauses.get().saturating_add(1));
+    }
+}
+
+/// What a door answers over a listener of which so many calls fail so, where a client waits, and how
+/// often it paused.
+fn asked(rt: &HostRuntime, failures: u32, kind: ErrorKind) -> Result<(&'static str, u32), Fail> {
+    let listener = TcpListener::bind(rt, "127.0.0.1:0")?;
+    let _client = TcpStream::connect(rt, listener.local_addr()?)?;
+    let flaky = Flaky {
+        listener,
+        failures: Cell::new(failures),
+        kind,
+    };
+    let pauses = Cell::new(0);
+    let mut door = TcpDoor::new(
+        Arc::new(rt.alloc(), flaky)?,
+        0,
+        Counting { pauses: &pauses },
+    );
+    let answer = match door.next() {
+        DoorAnswer::Link(input, output) => {
+            door.done(input, output);
+            "link"
+        }
+        DoorAnswer::End => "end",
+        DoorAnswer::Failed => "failed",
+    };
+    Ok((answer, pauses.get()))
+}
+
+#[test]
+fn what_passes_is_waited_for(rt: HostRuntime) -> Result<(), Fail> {
+    assert_eq!(rt; asked(&rt, 3, ErrorKind::ConnectionAborted)?, ("link", 3));
+    assert_eq!(rt; asked(&rt, 599, ErrorKind::Uncategorized)?, ("link", 599));
+    assert_eq!(rt; asked(&rt, 600, ErrorKind::Uncategorized)?, ("failed", 600));
+    assert_eq!(rt; asked(&rt, 1, ErrorKind::InvalidInput)?, ("failed", 0));
+    Ok(())
+}
+
+#[test]
+fn closed_door_fails(rt: HostRuntime) -> Result<(), Fail> {
+    let mut door: TcpDoor<TcpListener, HostRuntime> = TcpDoor::closed(rt);
+    assert!(rt; matches!(door.next(), DoorAnswer::Failed));
+    assert!(rt; matches!(door.next(), DoorAnswer::Failed));
+    Ok(())
+}

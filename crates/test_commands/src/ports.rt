@@ -1,0 +1,163 @@
+//! Ports, listeners and doors over the loopback, with ample memory.
+
+use conf_defs::{FeedConf, PortKind};
+use feed_port::{FeedPort, LONGEST_MESSAGE, PortAnswer};
+use hub_outside::{Buf, Door, DoorAnswer, MemorySink, NoMemory};
+use hub_ports::{SystemPort, doors_of, listen, open_port, reader_count};
+use rt_types::Text;
+use std::alloc::Global;
+use std::io::{ErrorKind, Write};
+use std::net::TcpListener;
+use std::test::Fail;
+use std::{io, rt};
+
+/// A feed `b` of that kind, with messages from that place.
+fn feed(alloc: Global, kind: PortKind, place: &str) -> Result<FeedConf, NoMemory> {
+    Ok(FeedConf {
+        name: Text::new(alloc, "b")?,
+        schedule: 0,
+        kind,
+        place: Text::new(alloc, place)?,
+    })
+}
+
+/// Standard error in memory.
+fn errors_of(alloc: Global) -> MemorySink {
+    MemorySink::new(alloc, Vec::new(alloc), Vec::new(alloc))
+}
+
+/// What the first two asks of a port come to.
+fn two_asks<P: FeedPort>(
+    alloc: Global,
+    port: &mut P,
+) -> Result<(PortAnswer, PortAnswer), NoMemory> {
+    let mut into = Buf::new(alloc);
+    into.reserve(LONGEST_MESSAGE)?;
+    let first = port.next(&mut into);
+    Ok((first, port.next(&mut into)))
+}
+
+/// What the first two asks of a feed's port come to, whatever its kind.
+fn two_asks_of<R: rt::Files + Send + Copy>(
+    alloc: Global,
+    port: SystemPort<R>,
+) -> Result<(PortAnswer, PortAnswer), NoMemory>
+where
+    R::File: Send,
+    R::Dir: Send,
+{
+    match port {
+        SystemPort::Nothing(mut port) => two_asks(alloc, &mut port),
+        SystemPort::Spool(mut port) => two_asks(alloc, &mut port),
+        SystemPort::Stream(mut port) => two_asks(alloc, &mut port),
+    }
+}
+
+#[test]
+fn ports_without_messages_end(rt: HostRuntime) -> Result<(), Fail> {
+    let alloc = rt.alloc();
+    let mut errors = errors_of(alloc);
+    let none = open_port(
+        &rt,
+        alloc,
+        &feed(alloc, PortKind::Nothing, "")?,
+        &mut errors,
+    )?;
+    assert_eq!(rt;
+        two_asks_of(alloc, none)?,
+        (PortAnswer::End, PortAnswer::End)
+    );
+    let spool = feed(alloc, PortKind::Spool, "no/such/folder")?;
+    let spool = open_port(&rt, alloc, &spool, &mut errors)?;
+    assert_eq!(rt;
+        two_asks_of(alloc, spool)?,
+        (PortAnswer::End, PortAnswer::End)
+    );
+    assert_eq!(rt; errors.bytes(), b"".as_slice());
+    Ok(())
+}
+
+#[test]
+fn a_stream_gives_what_is_sent(rt: HostRuntime) -> Result<(), Fail> {
+    let alloc = rt.alloc();
+    let mut errors = errors_of(alloc);
+    let listener = TcpListener::bind(&rt, "127.0.0.1:0")?;
+    let place = format!(in alloc; "{}", listener.local_addr()?)?;
+    let feed = feed(alloc, PortKind::Stream, place.as_str())?;
+    let port = open_port(&rt, alloc, &feed, &mut errors)?;
+    let (mut sender, _) = listener.accept()?;
+    sender.write_all(&[0, 0, 0, 2, 7, 8])?;
+    drop(sender);
+    assert_eq!(rt;
+        two_asks_of(alloc, port)?,
+        (PortAnswer::Message, PortAnswer::End)
+    );
+    assert_eq!(rt; errors.bytes(), b"".as_slice());
+    Ok(())
+}
+
+#[test]
+fn a_connection_that_cannot_be_made_is_told(rt: HostRuntime) -> Result<(), Fail> {
+    let alloc = rt.alloc();
+    let mut errors = errors_of(alloc);
+    let gone = TcpListener::bind(&rt, "127.0.0.1:0")?;
+    let place = format!(in alloc; "{}", gone.local_addr()?)?;
+    drop(gone);
+    let feed = feed(alloc, PortKind::Stream, place.as_str())?;
+    let port = open_port(&rt, alloc, &feed, &mut errors)?;
+    assert_eq!(rt;
+        two_asks_of(alloc, port)?,
+        (PortAnswer::Failed, PortAnswer::End)
+    );
+    let line = format!(in alloc; "hub: feed b can't connect to {place}: refused\n")?;
+    assert_eq!(rt; errors.bytes(), line.as_bytes());
+    Ok(())
+}
+
+#[test]
+fn an_address_is_cleaned_and_judged(rt: HostRuntime) -> Result<(), Fail> {
+    let alloc = rt.alloc();
+    let mut errors = errors_of(alloc);
+    let feed = feed(alloc, PortKind::Stream, "no\nport")?;
+    let _port = open_port(&rt, alloc, &feed, &mut errors)?;
+    let line = "hub: feed b can't connect to no port: not an address with a port\n";
+    assert_eq!(rt; errors.bytes(), line.as_bytes());
+    Ok(())
+}
+
+#[test]
+fn a_listener_is_told_and_shared(rt: HostRuntime) -> Result<(), Fail> {
+    let alloc = rt.alloc();
+    let mut errors = errors_of(alloc);
+    let Some(listener) = listen(&rt, alloc, "127.0.0.1:0", &mut errors)? else {
+        return Err(Fail::from(io::Error::from(ErrorKind::NotConnected)));
+    };
+    let address = listener.local_addr()?;
+    let line = format!(in alloc; "hub: listening on {address}\n")?;
+    assert_eq!(rt; errors.bytes(), line.as_bytes());
+    assert_eq!(rt; doors_of(&rt, alloc, &Some(listener), 3, 0)?.len(), 3);
+    Ok(())
+}
+
+#[test]
+fn an_address_in_use_closes_the_doors(rt: HostRuntime) -> Result<(), Fail> {
+    let alloc = rt.alloc();
+    let mut errors = errors_of(alloc);
+    let first = TcpListener::bind(&rt, "127.0.0.1:0")?;
+    let address = format!(in alloc; "{}", first.local_addr()?)?;
+    let listener = listen(&rt, alloc, address.as_str(), &mut errors)?;
+    assert!(rt; listener.is_none());
+    let line = format!(in alloc; "hub: can't listen on {address}: address in use\n")?;
+    assert_eq!(rt; errors.bytes(), line.as_bytes());
+    for mut door in doors_of(&rt, alloc, &listener, 2, 5)? {
+        assert!(rt; matches!(door.next(), DoorAnswer::Failed));
+    }
+    Ok(())
+}
+
+#[test]
+fn readers_are_1_to_64(rt: HostRuntime) -> Result<(), Fail> {
+    assert_eq!(rt; (reader_count(0), reader_count(1)), (1, 1));
+    assert_eq!(rt; (reader_count(64), reader_count(65)), (64, 64));
+    Ok(())
+}
