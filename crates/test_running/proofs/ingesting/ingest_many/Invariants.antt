@@ -1,0 +1,6 @@
+-- The seat stays at its hub.
+use Rattle.std.proofs.Common.{◌≡◌}
+use Rattle.test_running.proofs.ingesting.ingest_many.Given as goal
+
+abbrev pub invariant-loop-stamp : goal.invariant-loop-stamp
+invariant-loop-stamp g l = l.seat.ties ≡ l.hub

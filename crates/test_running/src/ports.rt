@@ -1,0 +1,130 @@
+//! Ports, one ask after another, with ample memory.
+
+ghost use Rattle.std.specs.Prelude.{◌≤◌, IfOk};
+ghost use Rattle.feed_defs.specs.History.{longest_message};
+ghost use Rattle.hub_outside.specs.Buffer.{room_of};
+
+use feed_port::{
+    FeedPort, LONGEST_MESSAGE, MemoryPort, NoMemory, PortAnswer, SpoolPort, StreamPort,
+};
+use hub_outside::{Buf, MemoryFile, MemoryFiles, MemorySource};
+use rt_types::Text;
+use std::alloc::Global;
+use std::test::Fail;
+
+/// A buffer with room for a message.
+fn buffer(alloc: Global) -> Result<Buf, NoMemory>
+    ensures { IfOk result (λ into. longest_message ≤ room_of into) }
+{
+    let mut into = Buf::new(alloc);
+    into.reserve(LONGEST_MESSAGE)?;
+    Ok(into)
+}
+
+/// A copy of the bytes.
+fn copy(alloc: Global, bytes: &[u8]) -> Result<Vec<u8>, NoMemory> {
+    let mut same = Vec::new(alloc);
+    same.extend_from_slice(bytes)?;
+    Ok(same)
+}
+
+/// Whether the next ask hands in that message.
+fn hands_in<P: FeedPort>(port: &mut P, into: &mut Buf, message: &[u8]) -> bool
+    requires { longest_message ≤ room_of into.old }
+    ensures { longest_message ≤ room_of into.new }
+{
+    port.next(into) == PortAnswer::Message && into.as_slice() == message
+}
+
+/// Whether the next ask comes to that.
+fn comes_to<P: FeedPort>(port: &mut P, into: &mut Buf, answer: PortAnswer) -> bool
+    requires { longest_message ≤ room_of into.old }
+    ensures { longest_message ≤ room_of into.new }
+{
+    port.next(into) == answer
+}
+
+/// Whether a port of two messages, whose second ask fails, hands in both.
+fn memory(alloc: Global) -> Result<bool, NoMemory> {
+    let mut into = buffer(alloc)?;
+    let messages = vec![in alloc; copy(alloc, b"one")?, copy(alloc, b"two")?]?;
+    let mut port = MemoryPort::new(messages, vec![in alloc; 2]?);
+    let first = hands_in(&mut port, &mut into, b"one");
+    let failed = comes_to(&mut port, &mut into, PortAnswer::Failed);
+    let second = hands_in(&mut port, &mut into, b"two");
+    Ok(first && failed && second && comes_to(&mut port, &mut into, PortAnswer::End))
+}
+
+#[test]
+fn a_failed_ask_leaves_the_message(rt: HostRuntime) -> Result<(), Fail> {
+    assert!(rt; memory(rt.alloc())?);
+    Ok(())
+}
+
+/// A stream of these bytes, which come one by one.
+fn stream(alloc: Global, bytes: &[u8]) -> Result<StreamPort<MemorySource>, NoMemory> {
+    let pieces = vec![in alloc; 1, 1, 1, 1, 1, 1, 1, 1, 1, 1]?;
+    let source = MemorySource::new(copy(alloc, bytes)?, pieces, Vec::new(alloc));
+    Ok(StreamPort::new(source))
+}
+
+/// Whether a stream hands in its two messages, however it is cut.
+fn two_messages(alloc: Global) -> Result<bool, NoMemory> {
+    let mut into = buffer(alloc)?;
+    let mut port = stream(alloc, b"\0\0\0\x03one\0\0\0\0")?;
+    let first = hands_in(&mut port, &mut into, b"one");
+    let second = hands_in(&mut port, &mut into, b"");
+    Ok(first && second && comes_to(&mut port, &mut into, PortAnswer::End))
+}
+
+/// Whether the first ask of a stream comes to that, and the next to its end.
+fn ends_behind(alloc: Global, bytes: &[u8], answer: PortAnswer) -> Result<bool, NoMemory> {
+    let mut into = buffer(alloc)?;
+    let mut port = stream(alloc, bytes)?;
+    let first = comes_to(&mut port, &mut into, answer);
+    Ok(first && comes_to(&mut port, &mut into, PortAnswer::End))
+}
+
+#[test]
+fn a_stream_is_cut_into_messages(rt: HostRuntime) -> Result<(), Fail> {
+    let alloc = rt.alloc();
+    assert!(rt; two_messages(alloc)?);
+    assert!(rt; ends_behind(alloc, b"\x01\0\0\x01one", PortAnswer::TooLong(16_777_217))?);
+    assert!(rt; ends_behind(alloc, b"\0\0\0\x04one", PortAnswer::Failed)?);
+    assert!(rt; ends_behind(alloc, b"\0\0\0", PortAnswer::Failed)?);
+    Ok(())
+}
+
+/// A file of a spool.
+fn file(alloc: Global, path: &str, bytes: &[u8]) -> Result<MemoryFile, NoMemory> {
+    let mut same = String::new(alloc);
+    same.push_str(path)?;
+    Ok(MemoryFile {
+        path: same,
+        bytes: copy(alloc, bytes)?,
+    })
+}
+
+/// Whether a spool of three files, of which the second can't be read at first and the fourth is
+/// absent, hands in the three.
+fn spool(alloc: Global) -> Result<bool, NoMemory> {
+    let mut into = buffer(alloc)?;
+    let files = vec![in alloc;
+        file(alloc, "in/000003.pb", b"c")?,
+        file(alloc, "in/000001.pb", b"a")?,
+        file(alloc, "in/000002.pb", b"b")?,
+        file(alloc, "in/000005.pb", b"e")?,
+    ]?;
+    let files = MemoryFiles::new(files, vec![in alloc; 2]?);
+    let mut port = SpoolPort::new(alloc, files, Text::new(alloc, "in")?)?;
+    let first = hands_in(&mut port, &mut into, b"a");
+    let failed = comes_to(&mut port, &mut into, PortAnswer::Failed);
+    let second = hands_in(&mut port, &mut into, b"b") && hands_in(&mut port, &mut into, b"c");
+    Ok(first && failed && second && comes_to(&mut port, &mut into, PortAnswer::End))
+}
+
+#[test]
+fn a_spool_is_read_by_its_numbers(rt: HostRuntime) -> Result<(), Fail> {
+    assert!(rt; spool(rt.alloc())?);
+    Ok(())
+}
