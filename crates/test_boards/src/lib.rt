@@ -13,6 +13,8 @@ mod answers;
 #[cfg(test)]
 mod bare;
 #[cfg(test)]
+mod board_texts;
+#[cfg(test)]
 mod boards;
 #[cfg(test)]
 mod combined;
@@ -26,5 +28,3 @@ mod numbered;
 mod states;
 #[cfg(test)]
 mod tables;
-#[cfg(test)]
-mod texts;
