@@ -1,20 +1,24 @@
 //! Each record's line, with ample memory: want of memory may come in place of any answer, so that
 //! no contract refuses a reader that only says so.
 use hub_replay::{Line, LineFault, parse_line};
-use std::alloc::Global;
+use std::alloc::{AllocError as NoMemory, Global};
 use std::test::Fail;
 
-/// What a line says, in words.
-fn told(alloc: Global, line: &[u8]) -> Result<String, Fail> {
-    let line = match parse_line(alloc, line) {
-        Ok(line) => line,
-        Err(LineFault::NotALine) => return Ok(String::from_str(alloc, "no record")?),
-        Err(LineFault::NoMemory) => return Ok(String::from_str(alloc, "out of memory")?),
-    };
-    let told = match &line {
-        Line::Feed { name } => format!(in alloc; "feed [{}]", name.as_str())?,
-        Line::Message { feed, n } => format!(in alloc; "message [{}] {n}", feed.as_str())?,
-        Line::Combined { schedule } => format!(in alloc; "combined [{}]", schedule.as_str())?,
+/// What a record says, in words.
+fn words_of(alloc: Global, line: &Line) -> Result<String, NoMemory> {
+    match line {
+        Line::Feed { name } => {
+            let name = name.as_str();
+            format!(in alloc; "feed [{name}]")
+        }
+        Line::Message { feed, n } => {
+            let feed = feed.as_str();
+            format!(in alloc; "message [{feed}] {n}")
+        }
+        Line::Combined { schedule } => {
+            let schedule = schedule.as_str();
+            format!(in alloc; "combined [{schedule}]")
+        }
         Line::Board {
             schedule,
             stop,
@@ -24,13 +28,21 @@ fn told(alloc: Global, line: &[u8]) -> Result<String, Fail> {
             json,
         } => {
             let (schedule, stop) = (schedule.as_str(), stop.as_str());
-            format!(in alloc; "board [{schedule}] [{stop}] {moment} {span} {limit} {json}")?
+            format!(in alloc; "board [{schedule}] [{stop}] {moment} {span} {limit} {json}")
         }
-        Line::Connection { moment, n } => format!(in alloc; "connection {moment} {n}")?,
-        Line::End => String::from_str(alloc, "end")?,
-        _other => String::from_str(alloc, "another record")?,
-    };
-    Ok(told)
+        Line::Connection { moment, n } => format!(in alloc; "connection {moment} {n}"),
+        Line::End => String::from_str(alloc, "end"),
+        _other => String::from_str(alloc, "another record"),
+    }
+}
+
+/// What a line says, in words.
+fn told(alloc: Global, line: &[u8]) -> Result<String, NoMemory> {
+    match parse_line(alloc, line) {
+        Ok(line) => words_of(alloc, &line),
+        Err(LineFault::NotALine) => String::from_str(alloc, "no record"),
+        Err(LineFault::NoMemory) => String::from_str(alloc, "out of memory"),
+    }
 }
 
 /// The first line of these that says something else than is said beside it.
