@@ -30,6 +30,8 @@ mod gates;
 mod memory;
 mod sinks;
 mod sources;
+#[cfg(test)]
+mod tests;
 mod writing;
 
 pub use adapters::clock::SystemClock;
