@@ -105,7 +105,8 @@ pub(crate) fn opened<R: Wait>(
     let core = HubCore::new(alloc, one_feed(alloc)?)?;
     let view = Arc::try_clone(core.view())?;
     let Snapshots { publisher, passes } = snapshots(alloc, rt, view, readers)?;
-    Ok((Shower { publisher, core }, passes))
+    let shower = Shower { publisher, core };
+    Ok((shower, passes))
 }
 
 /// What two passes see while two messages are published: the first looks before and after it learns of
