@@ -222,7 +222,7 @@ rows("`looks.sh 4000000 2000`",
       joined([looks(1, False, "mutex"), looks(4, False, "mutex")], ".0f") + "; "
       + joined([looks(1, True, "mutex"), looks(4, True, "mutex")], ".0f") + " million"))
 rows("`intake.sh`",
-     ("messages of 47 bytes a second, by a hub that threads share; by one on one thread, which keeps them",
+     ("small messages a second, each made and taken in, by a hub that threads share; by one on one thread, which keeps them",
       joined(first("intake", r"ingest ([\d,]+)")) + "; " + joined(first("intake", r"offer ([\d,]+)"))))
 
 print("\n| Script | What | Figures |\n|---|---|---|")
