@@ -18,7 +18,7 @@ use Rattle.std.proofs.lemmas.Option.{none-some as none_some, same_Some}
 use Rattle.service_day.specs.declared.services.Exception.{Exception}
 use Rattle.gtfs_rows.specs.declared.rows.CalendarRow.{CalendarRow}
 use Rattle.sched_load.specs.Days.{runs_by}
-use Rattle.sched_load.proofs.Places.{range_more}
+use Rattle.order.proofs.Lists.{range_more}
 
 pub days_more : (test : ℕ → Bool) (day : ℕ) (b : Bool) (before after : List ℕ) → before ≡ filter test (range_with_len 0 day) → b ≡ test day → after ≡ (if b then before ++ day ∷ [] else before) → after ≡ filter test (range_with_len 0 (day + 1))
 days_more test day b before after so_far is pushed =

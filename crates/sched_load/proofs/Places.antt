@@ -17,6 +17,7 @@ use Rattle.std.proofs.lemmas.Cmp.{nat_list_cmp_total}
 use Rattle.std.proofs.lemmas.List.{length-map}
 use Rattle.std.proofs.lemmas.List.FromFn.{fill_by_all}
 use Rattle.std.proofs.lemmas.Option.{none-some as none_some, same_Some, slice_get_within}
+use Rattle.order.proofs.Lists.{any_same, range_more}
 use Rattle.load_defs.specs.Numbers.{rows_with_keys, rows_by_key}
 use Rattle.load_defs.proofs.Listing.{find_keyed}
 use Rattle.sched_load.specs.Listed.{IsOrder, same_id, texts_seen}
@@ -25,14 +26,6 @@ use Rattle.sched_load.proofs.Numbered.{text_same, turned}
 
 pub true_false : true ≡ false → ⊥
 true_false e = subst T e tt
-
--- numbers from one on, with the next
-pub range_more : (a m j : ℕ) → a + m ≡ j → range_with_len a (m + 1) ≡ range_with_len a m ++ j ∷ []
-range_more a zero j e = let is : a ≡ j = omega (arith, e) in ap (λ x. x ∷ []) is
-range_more a (suc m) j e =
-    let more : suc m + 1 ≡ suc (m + 1) = omega arith in
-    let rest : a + 1 + m ≡ j = omega (arith, e) in
-    ap (range_with_len a) more ∙ ap (λ xs. a ∷ xs) (range_more (a + 1) m j rest)
 
 -- where none passes, none in the list does
 pub not_any : {X : Type 0} (test : X → Bool) (xs : List X) (k : ℕ) (x : X) → list_any test xs ≡ false → slice_get xs k ≡ Some x → test x ≡ false
@@ -82,10 +75,6 @@ text_looked_up k (e ∷ es) = ap (cond (eq_by_cmp (slice_cmp nat_cmp) k.now (e.0
 pub any_map : {X Y : Type 0} (test : Y → Bool) (f : X → Y) (xs : List X) → list_any (λ x. test (f x)) xs ≡ list_any test (map f xs)
 any_map test f [] = refl
 any_map test f (x ∷ xs) = ap (λ b. test (f x) || b) (any_map test f xs)
-
-pub any_same : {X : Type 0} (p q : X → Bool) (xs : List X) → ((x : X) → p x ≡ q x) → list_any p xs ≡ list_any q xs
-any_same p q [] same = refl
-any_same p q (x ∷ xs) same = ap (λ b. b || list_any p xs) (same x) ∙ ap (λ b. q x || b) (any_same p q xs same)
 
 module _ {R : Type 0} (id_of : R → List ℕ) where
   -- the id of a row, if there is one

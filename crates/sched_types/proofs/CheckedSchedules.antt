@@ -1,5 +1,5 @@
 -- Timetables and feeds are those of a hub, by tests of their names that compute.
-use Rattle.std.proofs.Common.{◌≡◌, ◌≢◌, ℕ, Bool, true, not, nat_lt, ◌&&◌, Some, List, length, slice_get, sym, arith, inl, inr}
+use Rattle.std.proofs.Common.{◌≡◌, ◌≢◌, ℕ, Bool, true, not, nat_lt, ◌&&◌, Some, List, length, slice_get, sym, inl, inr}
 use Rattle.std.specs.Prelude.{nat_le}
 use Rattle.std.specs.List.{list_all}
 use Rattle.std.specs.Str.{bytes_eq}

@@ -1,5 +1,5 @@
 -- The children among the first stops, as a pass over the stops gathers them.
-use Rattle.std.proofs.Common.{◌≡◌, ◌≢◌, ℕ, zero, suc, ◌+◌, ◌<◌, Bool, true, false, nat_eq, Some, None, List, [], ◌∷◌, ◌++◌, length, map, filter, get_or, set, slice_get, refl, sym, ap, append-nil, ◌∙◌, inl, inr, add-one, arith}
+use Rattle.std.proofs.Common.{◌≡◌, ◌≢◌, ℕ, ◌+◌, ◌<◌, Bool, true, false, nat_eq, Some, None, List, [], ◌∷◌, ◌++◌, length, map, filter, get_or, set, slice_get, refl, sym, ap, append-nil, ◌∙◌, inl, inr, arith}
 use Rattle.std.specs.Global.{Vec}
 use Rattle.std.specs.List.{range_with_len}
 use Rattle.std.proofs.lemmas.Bool.{cases_order}
@@ -7,6 +7,7 @@ use Rattle.std.proofs.lemmas.Bool.Decides.{nat_tests}
 use Rattle.std.proofs.lemmas.List.{same_lists, get_or-map, length-map, get_or-set_same, get_or-set_other, length-set}
 use Rattle.std.proofs.lemmas.List.Elements.{filter-append}
 use Rattle.std.proofs.lemmas.List.FromFn.{get_or-map-range_with_len, length-map-range_with_len}
+use Rattle.order.proofs.Lists.{range_more}
 use Rattle.sched_types.specs.declared.rows.Stop.{Stop}
 use Rattle.sched_types.specs.Timetable.{is_given, names_parent}
 
@@ -14,25 +15,17 @@ use Rattle.sched_types.specs.Timetable.{is_given, names_parent}
 abbrev pub children_among : List Stop → ℕ → ℕ → List ℕ
 children_among stops count parent = filter (λ stop. names_parent parent (slice_get stops stop)) (range_with_len 0 count)
 
-range_more : (a n : ℕ) → range_with_len a (n + 1) ≡ range_with_len a n ++ (a + n) ∷ []
-range_more a zero = ap (λ x. x ∷ []) (omega arith)
-range_more a (suc n) = rw add-one (ap (λ xs. a ∷ xs) (sym (ap (λ m. range_with_len (a + 1) m) (add-one n)) ∙ range_more (a + 1) n ∙ ap (λ x. range_with_len (a + 1) n ++ x ∷ []) (omega arith)))
-
 -- one more number joins those that pass, where it passes
 filter_one : (p : ℕ → Bool) (i : ℕ) → p i ≡ true → filter p (range_with_len 0 (i + 1)) ≡ filter p (range_with_len 0 i) ++ i ∷ []
 filter_one p i e =
-    let same : 0 + i ≡ i = omega arith in
-    ap (filter p) (range_more 0 i)
-    ∙ filter-append p (range_with_len 0 i) ((0 + i) ∷ [])
-    ∙ ap (λ j. filter p (range_with_len 0 i) ++ filter p (j ∷ [])) same
+    ap (filter p) (range_more 0 i i (omega arith))
+    ∙ filter-append p (range_with_len 0 i) (i ∷ [])
     ∙ rw e refl
 
 filter_none : (p : ℕ → Bool) (i : ℕ) → p i ≡ false → filter p (range_with_len 0 (i + 1)) ≡ filter p (range_with_len 0 i)
 filter_none p i e =
-    let same : 0 + i ≡ i = omega arith in
-    ap (filter p) (range_more 0 i)
-    ∙ filter-append p (range_with_len 0 i) ((0 + i) ∷ [])
-    ∙ ap (λ j. filter p (range_with_len 0 i) ++ filter p (j ∷ [])) same
+    ap (filter p) (range_more 0 i i (omega arith))
+    ∙ filter-append p (range_with_len 0 i) (i ∷ [])
     ∙ rw e (append-nil (filter p (range_with_len 0 i)))
 
 same_number : (a b : ℕ) → a ≡ b → nat_eq a b ≡ true

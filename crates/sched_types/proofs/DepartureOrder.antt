@@ -13,6 +13,7 @@ use Rattle.sched_types.specs.declared.departures.Departure.{Departure}
 use Rattle.std.specs.List.{range_with_len}
 use Rattle.sched_types.specs.declared.rows.Trip.{Trip}
 use Rattle.sched_types.specs.declared.rows.Place.{Place}
+use Rattle.order.proofs.Lists.{equal_then, filter_same}
 use Rattle.sched_types.specs.Departures.{AreInOrder, is_departure, departure_of, leaves_so, departure_cmp}
 
 -- ---- the order of departures
@@ -49,11 +50,6 @@ departures_total = option_total departure_total
 equal_number : (a b : ℕ) → nat_eq a b ≡ is_eq (nat_cmp a b)
 equal_number a b = grind (arith, nat_tests)
 
-equal_then : (a b : Ordering) → is_eq (ordering_then a b) ≡ (is_eq a && is_eq b)
-equal_then Less b = refl
-equal_then Equal b = refl
-equal_then Greater b = refl
-
 and_last : (a b c : Bool) → (a && b && c) ≡ (a && (b && c))
 and_last true b c = refl
 and_last false b c = refl
@@ -70,10 +66,6 @@ wanted_is wanted (Some d) =
     ∙ sym (equal_then (nat_cmp d.route wanted.route) (ordering_then (nat_cmp d.direction wanted.direction) (nat_cmp d.seconds wanted.seconds)))
 
 -- ---- filters
-
-pub filter_same : {X : Type 0} (p q : X → Bool) (xs : List X) → ((x : X) → p x ≡ q x) → filter p xs ≡ filter q xs
-filter_same p q [] same = refl
-filter_same p q (x ∷ xs) same = ap (λ b. cond b (x ∷ filter p xs) (filter p xs)) (same x) ∙ ap (λ rest. cond (q x) (x ∷ rest) rest) (filter_same p q xs same)
 
 first_passes : {X : Type 0} (p : X → Bool) (xs : List X) (y : X) (ys : List X) → filter p xs ≡ y ∷ ys → p y ≡ true
 first_passes p [] y ys e = cc

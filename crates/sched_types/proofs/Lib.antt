@@ -5,6 +5,7 @@ pub mod Lists
 pub mod RunLemmas
 pub mod ChildrenLemmas
 pub mod Checks
+pub mod Checked
 pub mod TimetableLaws
 pub mod DepartureOrder
 pub mod CheckedSchedules

@@ -1,2 +1,1 @@
-mod AutumnLemmas
-mod LineLemmas
+mod Samples

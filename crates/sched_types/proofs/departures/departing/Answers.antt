@@ -4,7 +4,8 @@ use Rattle.std.specs.Ordering.{is_lt, is_le}
 use Rattle.std.proofs.lemmas.List.{take_all, length-drop}
 use Rattle.std.proofs.lemmas.List.Sorted.{IsPartitionPoint-from_clause}
 use Rattle.sched_types.specs.Departures.{departure_of, departure_cmp, leaves_so}
-use Rattle.sched_types.proofs.DepartureOrder.{departures_total, wanted_is, filter_same, has, below_first, up_to_last, between_in}
+use Rattle.order.proofs.Lists.{filter_same}
+use Rattle.sched_types.proofs.DepartureOrder.{departures_total, wanted_is, has, below_first, up_to_last, between_in}
 use Rattle.sched_types.proofs.departures.departing.Goals as goal
 
 pub returns : goal.returns

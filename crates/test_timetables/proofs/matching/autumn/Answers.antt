@@ -1,10 +1,12 @@
 use Rattle.std.proofs.Common.{◌∙◌, ap, refl, ◌∷◌, [], List, ℕ}
 use Rattle.sched_types.specs.declared.rows.PlanParts.{PlanParts}
-use Rattle.test_timetables.proofs.AutumnLemmas.{autumn_parts}
+use Rattle.sched_types.proofs.Checked.{checked_parts}
+use Rattle.match_defs.specs.Autumn.{autumn}
+use Rattle.test_timetables.proofs.Samples.{autumn_passes}
 use Rattle.test_timetables.proofs.matching.autumn.Goals as goal
 
 pub build-requires : goal.build-requires
 build-requires c =
     let parts : PlanParts = record { agencies = c.in_ok-vec.field-0; stops = c.in_ok-stops.field-0; routes = c.in_ok-routes.field-0; trips = c.in_ok-trips.field-0; places = c.in_ok-autumn_places.field-0; active = c.in_ok-vec-3.field-0; first = 20251025; bases = c.in_ok-vec-4.field-0 } in
-    autumn_parts parts (c.in_ok-vec.ensures.items ∙ ap (λ (id : List ℕ). id ∷ []) c.in_ok-new.ensures) c.in_ok-stops.ensures c.in_ok-routes.ensures c.in_ok-trips.ensures c.in_ok-autumn_places.ensures
+    checked_parts autumn autumn_passes parts (c.in_ok-vec.ensures.items ∙ ap (λ (id : List ℕ). id ∷ []) c.in_ok-new.ensures) c.in_ok-stops.ensures c.in_ok-routes.ensures c.in_ok-trips.ensures c.in_ok-autumn_places.ensures
     (rw c.in_ok-vec-3.ensures.items (ap (λ (days : List ℕ). days ∷ []) c.in_ok-vec-2.ensures.items)) refl c.in_ok-vec-4.ensures.items
