@@ -29,12 +29,6 @@ module _ {X : Type 0} (P : X → Type 0) where
   each_insert [] (suc i) x all h = (h, tt)
   each_insert (y ∷ xs) (suc i) x all h = (all.0, each_insert xs i x all.1 h)
 
-  pub each_remove : (xs : List X) (i : ℕ) → AllByRecursion P xs → AllByRecursion P (remove xs i)
-  each_remove [] zero all = tt
-  each_remove [] (suc i) all = tt
-  each_remove (x ∷ xs) zero all = all.1
-  each_remove (x ∷ xs) (suc i) all = (all.0, each_remove xs i all.1)
-
   pub each_before : (xs ys : List X) → AllByRecursion P (xs ++ ys) → AllByRecursion P xs
   each_before [] ys all = tt
   each_before (x ∷ xs) ys all = (all.0, each_before xs ys all.1)

@@ -1,6 +1,6 @@
 -- What a list's nodes make of its count, its items and its order.
 use Rattle.std.proofs.Common.{◌≡◌, ℕ, ◌+◌, ◌-◌, List, [], ◌∷◌, Bool, true, false, cond, not, Option, Some, None, length, refl, sym, ap, ◌∙◌, subst, arith}
-use Rattle.std.specs.Prelude.{T, is_some, is_none, if◌then◌else◌, Vec}
+use Rattle.std.specs.Prelude.{T, is_some, if◌then◌else◌, Vec}
 use Rattle.std.specs.Option.{option_copied}
 use Rattle.std.specs.Str.{bytes_eq}
 use Rattle.std.specs.Ordering.{eq_by_cmp}
@@ -11,29 +11,22 @@ use Rattle.std.specs.declared.alloc.Global.{Global}
 use Rattle.std.proofs.lemmas.Cmp.{nat_list_cmp_total}
 use Rattle.std.proofs.lemmas.Map.Text.{is_eq-slice_cmp}
 use Rattle.shared_list.specs.declared.node.Node.{Node}
-use Rattle.shared_list.specs.Order.{key_cmp, entries, without, Rises}
+use Rattle.shared_list.specs.Order.{key_cmp, entries, has_key, without, Rises}
 use denote.Ref.{Bor}
 use Rattle.shared_list.specs.Parts.{items_in, node_items, IsFilled, AreSound, AreNodes}
 
 module _ {X : Type 0} (key : X → List ℕ) where
-  copied_none : (o : Option (Bor X)) → is_none (option_copied o) ≡ is_none o
-  copied_none None = refl
-  copied_none (Some x) = refl
-
-  counted_put : (found : Option X) (is_new : Bool) (n before now : ℕ) → is_new ≡ is_none found → n ≡ (if is_new then before + 1 else before) → now ≡ cond (is_some found) before (before + 1) → n ≡ now
-  counted_put None is_new n before now new e f = e ∙ ap (λ b. if b then before + 1 else before) new ∙ sym f
-  counted_put (Some x) is_new n before now new e f = e ∙ ap (λ b. if b then before + 1 else before) new ∙ sym f
-
-  pub AreNodes-put : (old new : List (Arc (Node (Vec X Global)) Global)) (k : List ℕ) (v : X) (got : Option (Bor X)) (is_new : Bool) (before len : ℕ) → AreNodes key old before → option_copied got ≡ find key_cmp k (entries key (items_in node_items old)) → is_new ≡ is_none got → len ≡ (if is_new then before + 1 else before) → entries key (items_in node_items new) ≡ put key_cmp k v (entries key (items_in node_items old)) → AreSound node_items IsFilled new → AreNodes key new len
-  AreNodes-put old new k v got is_new before len are found asked count is sound =
+  pub AreNodes-put : (old new : List (Arc (Node (Vec X Global)) Global)) (k : List ℕ) (v : X) (replaced : Bool) (before len : ℕ) → AreNodes key old before → replaced ≡ has_key key k (items_in node_items old) → len ≡ (if replaced then before else before + 1) → entries key (items_in node_items new) ≡ put key_cmp k v (entries key (items_in node_items old)) → AreSound node_items IsFilled new → AreNodes key new len
+  AreNodes-put old new k v replaced before len are told count is sound =
       let es = entries key (items_in node_items old) in
       record {
         sound = sound;
         rising = record { sorted = subst (λ xs. T (is_sorted key_cmp xs)) (sym is) (is_sorted-put key_cmp nat_list_cmp_total k v es are.rising.sorted) };
-        counted = counted_put (find key_cmp k es) is_new len (length es) (length (entries key (items_in node_items new)))
-            (asked ∙ sym (copied_none got) ∙ ap is_none found)
-            (count ∙ ap (λ n. if is_new then n + 1 else n) are.counted)
-            (ap length is ∙ length-put key_cmp nat_list_cmp_total k v es are.rising.sorted);
+        counted =
+            count
+            ∙ ap (λ b. if b then before else before + 1) told
+            ∙ ap (λ n. if has_key key k (items_in node_items old) then n else n + 1) are.counted
+            ∙ sym (ap length is ∙ length-put key_cmp nat_list_cmp_total k v es are.rising.sorted);
       }
 
 -- what isn't found isn't taken away
@@ -54,22 +47,19 @@ without_is k (e ∷ es) =
     ap (λ xs. cond (not (bytes_eq k e.0)) (e ∷ xs) xs) (without_is k es)
     ∙ ap (λ b. cond (not b) (e ∷ where_key key_cmp (λ x. not (eq_by_cmp key_cmp k x)) es) (where_key key_cmp (λ x. not (eq_by_cmp key_cmp k x)) es)) (sym (is_eq-slice_cmp k e.0))
 
-some_taken : {X : Type 0} (o : Option X) (less n : ℕ) → is_none o ≡ false → cond (is_some o) 1 0 + less ≡ n → n - 1 ≡ less
-some_taken None less n asked e = absurd (apart asked)
-  where
-    apart : true ≡ false → ⊥
-    apart h = cc
-some_taken (Some x) less n asked e = omega arith
+one_less : (was_there : Bool) (before left all len : ℕ) → len ≡ (if was_there then before - 1 else before) → before ≡ all → cond was_there 1 0 + left ≡ all → len ≡ left
+one_less true before left all len count own taken = omega arith
+one_less false before left all len count own taken = omega arith
 
-pub AreNodes-without : {X : Type 0} (key : X → List ℕ) (old new : List (Arc (Node (Vec X Global)) Global)) (k : List ℕ) (got : Option (Bor X)) (before : ℕ) → AreNodes key old before → option_copied got ≡ find key_cmp k (entries key (items_in node_items old)) → is_none got ≡ false → entries key (items_in node_items new) ≡ without k (entries key (items_in node_items old)) → AreSound node_items IsFilled new → AreNodes key new (before - 1)
-AreNodes-without key old new k got before are found asked is sound =
+pub AreNodes-without : {X : Type 0} (key : X → List ℕ) (old new : List (Arc (Node (Vec X Global)) Global)) (k : List ℕ) (was_there : Bool) (before len : ℕ) → AreNodes key old before → was_there ≡ has_key key k (items_in node_items old) → len ≡ (if was_there then before - 1 else before) → entries key (items_in node_items new) ≡ without k (entries key (items_in node_items old)) → AreSound node_items IsFilled new → AreNodes key new len
+AreNodes-without key old new k was_there before len are told count is sound =
     let es = entries key (items_in node_items old) in
     record {
       sound = sound;
       rising = record { sorted = subst (λ xs. T (is_sorted key_cmp xs)) (sym is) (is_sorted-where_key key_cmp (λ x. not (bytes_eq k x)) es are.rising.sorted) };
       counted =
-          ap (λ n. n - 1) are.counted
-          ∙ some_taken (find key_cmp k es) (length (where_key key_cmp (λ x. not (eq_by_cmp key_cmp k x)) es)) (length es) (sym (ap is_none found) ∙ copied_none key got ∙ asked) (length_without key_cmp nat_list_cmp_total k es are.rising.sorted)
+          one_less was_there before (length (where_key key_cmp (λ x. not (eq_by_cmp key_cmp k x)) es)) (length es) len count are.counted
+          (ap (λ b. cond b 1 0 + length (where_key key_cmp (λ x. not (eq_by_cmp key_cmp k x)) es)) told ∙ length_without key_cmp nat_list_cmp_total k es are.rising.sorted)
           ∙ sym (ap length (is ∙ without_is k es));
     }
 
@@ -81,22 +71,10 @@ AreNodes-same key old new len same sound are = record {
   counted = subst (λ xs. len ≡ length (entries key xs)) (sym same) are.counted;
 }
 
-pub absent : {X : Type 0} (got : Option (Bor X)) (found : Option X) → option_copied got ≡ found → is_none got ≡ true → found ≡ None
-absent None found e h = sym e
-absent (Some x) found e h = absurd (apart h)
-  where
-    apart : false ≡ true → ⊥
-    apart g = cc
-
 -- `is_none` as std tells it
-pub asked : {A : Type 0} (o : Option A) (b t : Bool) → is_some o ≡ not b → b ≡ t → is_none o ≡ t
-asked None true t e f = f
-asked None false t e f = absurd (let g : false ≡ true = e in apart g)
-  where
-    apart : false ≡ true → ⊥
-    apart g = cc
-asked (Some x) true t e f = absurd (let g : true ≡ false = e in apart g)
+pub absent : {X : Type 0} (got : Option (Bor X)) (found : Option X) (asked : Bool) → option_copied got ≡ found → is_some got ≡ not asked → asked ≡ true → found ≡ None
+absent None found asked e is none = sym e
+absent (Some x) found asked e is none = absurd (apart (is ∙ ap not none))
   where
     apart : true ≡ false → ⊥
-    apart g = cc
-asked (Some x) false t e f = f
+    apart h = cc

@@ -108,9 +108,6 @@ module _ {X : Type 0} where
   above_less k x [] p h = tt
   above_less k x (e ∷ es) p h = (nat_list_cmp_total.trans k x e.0 p h.0, above_less k x es p h.1)
 
-  pub above_equal : (k x : List ℕ) (es : List (List ℕ × X)) → key_cmp k x ≡ Equal → AllAbove x es → AllAbove k es
-  above_equal k x es p = subst (λ y. AllAbove y es) (sym (slice_cmp-IsAntisymmetric nat_cmp-IsAntisymmetric k x p))
-
   pub below_equal : (k x : List ℕ) (es : List (List ℕ × X)) → key_cmp k x ≡ Equal → AllBelow x es → AllBelow k es
   below_equal k x es p = subst (λ y. AllBelow y es) (sym (slice_cmp-IsAntisymmetric nat_cmp-IsAntisymmetric k x p))
 
@@ -132,10 +129,6 @@ module _ {X : Type 0} where
 
   pub sorted_behind : (x : List ℕ × X) (xs : List (List ℕ × X)) → T (is_sorted key_cmp (x ∷ xs)) → AllAbove x.0 xs
   sorted_behind x xs h = below_all_is x.0 xs (first_so _ _ h)
-
-  pub below_front : (k : List ℕ) (xs ys : List (List ℕ × X)) → AllBelow k xs → AllBelow k ys → AllBelow k (xs ++ ys)
-  below_front k [] ys g h = h
-  below_front k (x ∷ xs) ys g h = (g.0, below_front k xs ys g.1 h)
 
   pub below_back : (k : List ℕ) (xs ys : List (List ℕ × X)) → T (below_all key_cmp k (xs ++ ys)) → T (below_all key_cmp k ys)
   below_back k [] ys h = h

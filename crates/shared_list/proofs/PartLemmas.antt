@@ -1,6 +1,6 @@
 -- The laws of parts at parts that are shared.
 use Rattle.std.proofs.Common.{◌≡◌, ℕ, zero, suc, ◌+◌, ◌-◌, ◌<◌, ◌≤◌, List, [], ◌∷◌, ◌++◌, Ok, Err, length, map, take, drop, get_or, set, refl, sym, ap, ◌∙◌, subst, arith, append-nil, Bool, false, nat_eq, Less, Equal, Greater}
-use Rattle.std.specs.Prelude.{T, insert, remove}
+use Rattle.std.specs.Prelude.{T, is_some, insert, remove}
 use Rattle.std.specs.FinMap.{find, put, is_sorted}
 use Rattle.std.specs.List.{flat_map, HoldsAt, AllByRecursion}
 use Rattle.std.specs.List.Sorted.{IsNonDecreasingBy, IsPartitionPoint}
@@ -10,10 +10,10 @@ use Rattle.std.specs.declared.alloc.Global.{Global}
 use Rattle.std.proofs.Math.Dec.{eqb-suc-zero}
 use Rattle.std.proofs.lemmas.Grind.{flat_map-append}
 use Rattle.std.proofs.lemmas.List.{length-map, map-append, map-set}
-use Rattle.shared_list.specs.Order.{key_cmp, entries, all_entries, without, lead, AllBelow, AllAbove, IsGap, IsAt, IsHome, Rises, AreParts}
+use Rattle.shared_list.specs.Order.{key_cmp, entries, all_entries, has_key, without, lead, AllBelow, AllAbove, IsGap, IsAt, IsHome, Rises, AreParts}
 use Rattle.shared_list.specs.Parts.{parts_of, items_in, AreSound, TellsLeft}
 use Rattle.shared_list.proofs.Places.{searched, IsAt-map, IsGap-map, Rises-map}
-use Rattle.shared_list.proofs.Each.{each_front, each_back, each_at, each_set, each_insert, each_remove, each_before, each_behind, remove_set}
+use Rattle.shared_list.proofs.Each.{each_front, each_back, each_at, each_set, each_insert, each_before, each_behind, remove_set}
 use Rattle.shared_list.proofs.Homes.{Rises-leads, Rises-part, home_at, home_before, home_first, put_home, put_home_split, without_home, without_home_all, find_home}
 
 abbrev Share : Type 0 → Type 0
@@ -150,11 +150,12 @@ module _ {P X : Type 0} (key : X → List ℕ) (items : P → List X) (sound : P
   -- ---- the part at its home, and what a change of it makes of all
 
   module _ (k : List ℕ) (shares : List (Share P)) (i : ℕ) (here : Share P) (home : IsHome key k (parts_of items shares) i) (seen : here ≡ get_or shares i here) where
-    pub sound_here : AreSound items sound shares → sound here.value
-    sound_here are =
+    pub good_here : AreSound items sound shares → (sound here.value) × (0 < length (items here.value))
+    good_here are =
         let long : length (parts_of items shares) ≡ length shares = length-map shares (λ share. items share.value) in
         let h = home.within in
-        subst (λ share. sound share.value) (sym seen) (each_at (λ share. (sound share.value) × (0 < length (items share.value))) i shares here (omega arith) are).0
+        let good : Share P → Type 0 = λ share. (sound share.value) × (0 < length (items share.value)) in
+        subst good (sym seen) (each_at good i shares here (omega arith) are)
 
     pub Rises-here : AreSound items sound shares → Rises key (items_in items shares) → Rises key (items here.value)
     Rises-here are up =
@@ -166,6 +167,10 @@ module _ {P X : Type 0} (key : X → List ℕ) (items : P → List X) (sound : P
         ap (λ xs. find key_cmp k (entries key xs)) (part_at items shares i here home.within seen)
         ∙ sym (find_home key k (parts_of items shares) i [] home)
         ∙ ap (find key_cmp k) (sym (joined_entries key (parts_of items shares)))
+
+    -- the key stands in it where it stands in any
+    pub has_here : (b : Bool) → b ≡ has_key key k (items here.value) → b ≡ has_key key k (items_in items shares)
+    has_here b is = is ∙ ap is_some find_here
 
     -- an item more, or another in its place
     pub put_kept : (x : X) (after : Share P) → entries key (items after.value ++ []) ≡ put key_cmp k x (entries key (items here.value)) → entries key (items_in items (set shares i after)) ≡ put key_cmp k x (entries key (items_in items shares))
@@ -222,9 +227,6 @@ module _ {P X : Type 0} (items : P → List X) (sound : P → Type 0) where
   sound_cut shares i j share behind rest are good some held good_rest some_rest =
       each_insert Good (set shares i share) j behind (sound_set shares i share are good some)
       (subst (λ part. sound part) (sym held) good_rest, subst (λ part. 0 < length (items part)) (sym held) some_rest)
-
-  pub sound_gone : (shares rest : List (Share P)) (i : ℕ) (share : Share P) → rest ≡ remove (set shares i share) i → AreSound items sound shares → AreSound items sound rest
-  sound_gone shares rest i share gone are = subst (λ ss. AreSound items sound ss) (sym (gone ∙ remove_set shares i share)) (each_remove Good shares i are)
 
   pub sound_front : (front back whole : List (Share P)) → front ++ back ≡ whole → AreSound items sound whole → AreSound items sound front
   sound_front front back whole is are = each_before Good front back (subst (λ ss. AreSound items sound ss) (sym is) are)

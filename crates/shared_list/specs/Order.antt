@@ -1,12 +1,12 @@
 -- Lists in the byte order of their keys, and where a key stands in them.
-use Rattle.std.specs.Prelude.{◌≡◌, ℕ, suc, ◌<◌, ◌≤◌, not, T, List, [], ◌∷◌, length, map, take, drop, slice_index_or}
+use Rattle.std.specs.Prelude.{◌≡◌, ℕ, suc, ◌<◌, ◌≤◌, Bool, not, T, is_some, List, [], ◌∷◌, length, map, take, drop, slice_index_or}
 use Rattle.std.specs.List.{flat_map, AllByRecursion}
 use Rattle.std.specs.Ordering.{nat_cmp}
 use Rattle.std.specs.declared.cmp.Ordering.{Ordering}
 use Rattle.std.specs.declared.cmp.Ordering.TheVariants.{Less, Equal}
 use Rattle.std.specs.Cmp.Lexicographic.{slice_cmp}
 use Rattle.std.specs.Str.{bytes_eq}
-use Rattle.std.specs.FinMap.{is_sorted}
+use Rattle.std.specs.FinMap.{find, is_sorted}
 use Rattle.std.specs.FinMap.Entries.{where_key}
 
 -- keys go by their bytes
@@ -20,6 +20,10 @@ entries key xs = map (λ x. (key x, x)) xs
 -- the same of several lists, one after another
 abbrev pub all_entries : {X : Type 0} → (X → List ℕ) → List (List X) → List (List ℕ × X)
 all_entries key parts = flat_map (entries key) parts
+
+-- whether an item has the key
+abbrev pub has_key : {X : Type 0} → (X → List ℕ) → List ℕ → List X → Bool
+has_key key k xs = is_some (find key_cmp k (entries key xs))
 
 -- the entries of other keys
 abbrev pub without : {X : Type 0} → List ℕ → List (List ℕ × X) → List (List ℕ × X)

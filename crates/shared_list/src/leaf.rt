@@ -1,13 +1,13 @@
 //! The lowest parts of a list: items in the order of their keys.
 
-ghost use Rattle.std.specs.Prelude.{◌≡◌, ◌<◌, length, OnOk, MatchResult};
+ghost use Rattle.std.specs.Prelude.{◌≡◌, ◌<◌, length, IfOk, OnOk, MatchResult};
 ghost use Rattle.std.specs.FinMap.{put};
-ghost use Rattle.shared_list.specs.Order.{key_cmp, entries, without, IsAt, IsGap, Rises};
+ghost use Rattle.shared_list.specs.Order.{key_cmp, entries, has_key, without, IsAt, IsGap, Rises};
 
 use crate::NoMemory;
 use crate::keyed::{Keyed, key_order};
-use crate::part::Part;
-use crate::split::split_off;
+use crate::part::{Part, PutOutcome, TakeOutcome};
+use crate::split::{Arrival, split_off};
 use std::alloc::Global;
 use std::cmp::Ordering;
 
@@ -21,27 +21,46 @@ fn place<T: Keyed>(items: &[T], key: &str) -> Result<usize, usize>
 }
 
 /// Puts the item in its place, which is that of the item with its key, if there is one.
-fn put_among<T: Keyed>(items: &mut Vec<T>, item: T) -> Result<(), NoMemory>
+fn put_among<T: Keyed>(items: &mut Vec<T>, item: T) -> Result<Arrival, NoMemory>
     requires { Rises T.key_of items.old.items }
     ensures put { OnOk result (entries T.key_of items.new.items
         ≡ put key_cmp (T.key_of item) item (entries T.key_of items.old.items)) }
+    ensures replaced { IfOk result (λ arrival. arrival.replaced
+        ≡ has_key T.key_of (T.key_of item) items.old.items) }
     ensures filled { OnOk result (0 < length items.new.items) }
 {
     match place(items.as_slice(), item.key()) {
-        Ok(at) => items[at] = item,
-        Err(at) => items.insert(at, item)?,
+        Ok(at) => {
+            items[at] = item;
+            Ok(Arrival {
+                replaced: true,
+                at_end: false,
+            })
+        }
+        Err(at) => {
+            let at_end = at == items.len();
+            items.insert(at, item)?;
+            Ok(Arrival {
+                replaced: false,
+                at_end,
+            })
+        }
     }
-    Ok(())
 }
 
-/// Takes the item with that key out, if there is one.
-fn take_among<T: Keyed>(items: &mut Vec<T>, key: &str)
+/// Takes the item with that key out, and says whether there was one.
+fn take_among<T: Keyed>(items: &mut Vec<T>, key: &str) -> bool
     requires { Rises T.key_of items.old.items }
-    ensures { entries T.key_of items.new.items
+    ensures without { entries T.key_of items.new.items
         ≡ without key.now (entries T.key_of items.old.items) }
+    ensures there { result ≡ has_key T.key_of key.now items.old.items }
 {
-    if let Ok(at) = place(items.as_slice(), key) {
-        items.remove(at);
+    match place(items.as_slice(), key) {
+        Ok(at) => {
+            items.remove(at);
+            true
+        }
+        Err(_) => false,
     }
 }
 
@@ -77,22 +96,26 @@ impl<T: Keyed> Part for Vec<T> {
         }
     }
 
-    fn copied(&self) -> Result<Self, NoMemory> {
-        let mut same = Vec::with_capacity(*self.allocator(), self.len())?;
+    fn copied(&self, more: usize) -> Result<Self, NoMemory> {
+        let mut same = Vec::with_capacity(*self.allocator(), self.len().saturating_add(more))?;
         for item in self {
             same.push(item.copy()?)?;
         }
         Ok(same)
     }
 
-    fn put_item(&mut self, item: T) -> Result<Option<Self>, NoMemory> {
-        put_among(self, item)?;
-        split_off(self)
+    fn put_item(&mut self, item: T) -> Result<PutOutcome<Self>, NoMemory> {
+        let Arrival { replaced, at_end } = put_among(self, item)?;
+        let back = split_off(self, at_end)?;
+        Ok(PutOutcome { replaced, back })
     }
 
-    fn take_out(&mut self, key: &str) -> Result<bool, NoMemory> {
-        take_among(self, key);
-        Ok(self.is_empty())
+    fn take_out(&mut self, key: &str) -> Result<TakeOutcome, NoMemory> {
+        let was_there = take_among(self, key);
+        Ok(TakeOutcome {
+            was_there,
+            none_left: self.is_empty(),
+        })
     }
 
     ghost leads = { λ leaf sound. refl };

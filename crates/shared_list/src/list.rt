@@ -1,6 +1,6 @@
 //! A list that shares its parts with other versions of it.
 
-ghost use Rattle.std.specs.Prelude.{◌≡◌, ◌+◌, [], length, map, T as IsSo, if◌then◌else◌, IfOk};
+ghost use Rattle.std.specs.Prelude.{◌≡◌, ◌+◌, ◌-◌, [], length, map, T as IsSo, if◌then◌else◌, IfOk};
 ghost use Rattle.std.specs.FinMap.{put, find, is_sorted};
 ghost use Rattle.std.specs.Option.{option_copied};
 ghost use Rattle.shared_list.specs.Order.{key_cmp, entries, without};
@@ -51,7 +51,7 @@ impl<T: Keyed> SharedList<T> {
         ensures { IfOk result (λ same. same ≡ self.now) }
     {
         Ok(SharedList {
-            nodes: share(&self.nodes)?,
+            nodes: share(&self.nodes, 0)?,
             len: self.len,
         })
     }
@@ -61,10 +61,9 @@ impl<T: Keyed> SharedList<T> {
     pub fn with(self, item: T) -> Result<Self, NoMemory>
         ensures { IfOk result (λ list. list ≡ put key_cmp (T.key_of item) item self) }
     {
-        let is_new = self.get(item.key()).is_none();
         let SharedList { mut nodes, len } = self;
-        let len = len_with(len, is_new)?;
-        put_shared(&mut nodes, item)?;
+        let arrival = put_shared(&mut nodes, item)?;
+        let len = len_with(len, arrival.replaced)?;
         Ok(SharedList { nodes, len })
     }
 
@@ -72,15 +71,10 @@ impl<T: Keyed> SharedList<T> {
     pub fn without(self, key: &str) -> Result<Self, NoMemory>
         ensures { IfOk result (λ list. list ≡ without key.now self) }
     {
-        if self.get(key).is_none() {
-            return Ok(self);
-        }
         let SharedList { mut nodes, len } = self;
-        take_out_shared(&mut nodes, key)?;
-        Ok(SharedList {
-            nodes,
-            len: len - 1,
-        })
+        let was_there = take_out_shared(&mut nodes, key)?;
+        let len = len_without(len, was_there);
+        Ok(SharedList { nodes, len })
     }
 
     /// The item with that key; `None` exactly where there is none.
@@ -108,12 +102,23 @@ impl<T: Keyed> SharedList<T> {
 }
 
 /// How many items there are with one that may be new. More than can be counted are more than memory holds.
-fn len_with(len: usize, is_new: bool) -> Result<usize, NoMemory>
-    ensures { IfOk result (λ count. count ≡ (if is_new then len + 1 else len)) }
+fn len_with(len: usize, replaced: bool) -> Result<usize, NoMemory>
+    ensures { IfOk result (λ count. count ≡ (if replaced then len else len + 1)) }
 {
-    if is_new {
-        len.checked_add(1).ok_or(NoMemory)
-    } else {
+    if replaced {
         Ok(len)
+    } else {
+        len.checked_add(1).ok_or(NoMemory)
+    }
+}
+
+/// How many items there are without one that may have been there.
+fn len_without(len: usize, was_there: bool) -> usize
+    ensures { result ≡ (if was_there then len - 1 else len) }
+{
+    if was_there {
+        len.saturating_sub(1)
+    } else {
+        len
     }
 }

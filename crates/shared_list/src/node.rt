@@ -1,9 +1,9 @@
 //! The upper parts of a list: parts that several versions may share.
 
 use crate::NoMemory;
-use crate::part::Part;
+use crate::part::{Part, PutOutcome, TakeOutcome};
 use crate::shared::{item_in, put_shared, share, take_out_shared};
-use crate::split::split_off;
+use crate::split::{Arrival, split_off};
 use std::alloc::Global;
 use std::cmp::Ordering;
 use std::sync::Arc;
@@ -43,23 +43,32 @@ impl<P: Part> Part for Node<P> {
         item_in(self.parts.as_slice(), key)
     }
 
-    fn copied(&self) -> Result<Self, NoMemory> {
+    fn copied(&self, more: usize) -> Result<Self, NoMemory> {
         Ok(Node {
-            parts: share(&self.parts)?,
+            parts: share(&self.parts, more)?,
         })
     }
 
-    fn put_item(&mut self, item: P::Item) -> Result<Option<Self>, NoMemory> {
-        put_shared(&mut self.parts, item)?;
-        match split_off(&mut self.parts)? {
-            Some(parts) => Ok(Some(Node { parts })),
-            None => Ok(None),
+    fn put_item(&mut self, item: P::Item) -> Result<PutOutcome<Self>, NoMemory> {
+        let Arrival { replaced, at_end } = put_shared(&mut self.parts, item)?;
+        match split_off(&mut self.parts, at_end)? {
+            Some(parts) => Ok(PutOutcome {
+                replaced,
+                back: Some(Node { parts }),
+            }),
+            None => Ok(PutOutcome {
+                replaced,
+                back: None,
+            }),
         }
     }
 
-    fn take_out(&mut self, key: &str) -> Result<bool, NoMemory> {
-        take_out_shared(&mut self.parts, key)?;
-        Ok(self.parts.is_empty())
+    fn take_out(&mut self, key: &str) -> Result<TakeOutcome, NoMemory> {
+        let was_there = take_out_shared(&mut self.parts, key)?;
+        Ok(TakeOutcome {
+            was_there,
+            none_left: self.parts.is_empty(),
+        })
     }
 
     ghost leads = { λ node sound.

@@ -3,12 +3,13 @@
 ghost use Rattle.std.specs.Prelude.{◌≡◌, ◌<◌, ◌++◌, length, IfSome, IfOk, OnOk};
 ghost use Rattle.std.specs.FinMap.{put, find};
 ghost use Rattle.std.specs.Option.{option_copied};
-ghost use Rattle.shared_list.specs.Order.{key_cmp, entries, without, IsHome, Rises};
+ghost use Rattle.shared_list.specs.Order.{key_cmp, entries, has_key, without, IsHome, Rises};
 ghost use Rattle.shared_list.specs.Parts.{parts_of, items_in, items_if_some, AreSound, TellsLeft};
 
 use crate::NoMemory;
 use crate::keyed::Keyed;
-use crate::part::Part;
+use crate::part::{Part, PutOutcome, TakeOutcome};
+use crate::split::Arrival;
 use std::alloc::Global;
 use std::sync::Arc;
 
@@ -39,93 +40,129 @@ pub(crate) fn item_in<'a, P: Part>(parts: &'a [Arc<P>], key: &str) -> Option<&'a
 }
 
 /// Puts the item in its place in the part, and takes the back of the part off where it has become too long.
-fn put_in<P: Part>(alloc: Global, part: &mut Arc<P>, item: P::Item) -> Result<Option<P>, NoMemory>
+fn put_in<P: Part>(
+    alloc: Global,
+    part: &mut Arc<P>,
+    item: P::Item,
+) -> Result<PutOutcome<P>, NoMemory>
     requires sound { P.sound part.old.value }
     requires rising { Rises P.Item.key_of (P.items part.old.value) }
-    ensures put { IfOk result (λ rest.
-        entries P.Item.key_of (P.items part.new.value ++ items_if_some P.items rest)
+    ensures put { IfOk result (λ outcome.
+        entries P.Item.key_of (P.items part.new.value ++ items_if_some P.items outcome.back)
         ≡ put key_cmp (P.Item.key_of item) item (entries P.Item.key_of (P.items part.old.value))) }
+    ensures replaced { IfOk result (λ outcome. outcome.replaced
+        ≡ has_key P.Item.key_of (P.Item.key_of item) (P.items part.old.value)) }
     ensures front { OnOk result (0 < length (P.items part.new.value)) }
     ensures sound { OnOk result (P.sound part.new.value) }
-    ensures back { IfOk result (λ rest. IfSome rest (λ back. 0 < length (P.items back))) }
-    ensures back_sound { IfOk result (λ rest. IfSome rest (λ back. P.sound back)) }
+    ensures back { IfOk result (λ outcome.
+        IfSome outcome.back (λ back. 0 < length (P.items back))) }
+    ensures back_sound { IfOk result (λ outcome. IfSome outcome.back (λ back. P.sound back)) }
 {
     if let Some(own) = Arc::get_mut(part) {
         return own.put_item(item);
     }
-    let mut own = part.copied()?;
-    let rest = own.put_item(item)?;
+    let mut own = part.copied(1)?;
+    let outcome = own.put_item(item)?;
     *part = Arc::new(alloc, own)?;
-    Ok(rest)
+    Ok(outcome)
 }
 
-/// Takes the item with that key out of the part, and tells whether nothing is left in it.
-fn take_from<P: Part>(alloc: Global, part: &mut Arc<P>, key: &str) -> Result<bool, NoMemory>
+/// Takes the item with that key out of the part, if there is one. A part that has none stays shared.
+fn take_from<P: Part>(alloc: Global, part: &mut Arc<P>, key: &str) -> Result<TakeOutcome, NoMemory>
+    requires some { 0 < length (P.items part.old.value) }
     requires sound { P.sound part.old.value }
     requires rising { Rises P.Item.key_of (P.items part.old.value) }
     ensures without { OnOk result (entries P.Item.key_of (P.items part.new.value)
         ≡ without key.now (entries P.Item.key_of (P.items part.old.value))) }
     ensures sound { OnOk result (P.sound part.new.value) }
-    ensures left { IfOk result (λ none_left. TellsLeft none_left (P.items part.new.value)) }
+    ensures there { IfOk result (λ outcome. outcome.was_there
+        ≡ has_key P.Item.key_of key.now (P.items part.old.value)) }
+    ensures left { IfOk result (λ outcome. TellsLeft outcome.none_left (P.items part.new.value)) }
 {
     if let Some(own) = Arc::get_mut(part) {
         return own.take_out(key);
     }
-    let mut own = part.copied()?;
-    let none_left = own.take_out(key)?;
+    if part.item_of(key).is_none() {
+        return Ok(TakeOutcome {
+            was_there: false,
+            none_left: false,
+        });
+    }
+    let mut own = part.copied(0)?;
+    let outcome = own.take_out(key)?;
     *part = Arc::new(alloc, own)?;
-    Ok(none_left)
+    Ok(outcome)
 }
 
-/// Puts the item in its place in its part.
-pub(crate) fn put_shared<P: Part>(parts: &mut Vec<Arc<P>>, item: P::Item) -> Result<(), NoMemory>
+/// Puts the item in its place in its part, whose back becomes a part of its own where it is taken off.
+pub(crate) fn put_shared<P: Part>(
+    parts: &mut Vec<Arc<P>>,
+    item: P::Item,
+) -> Result<Arrival, NoMemory>
     requires sound { AreSound P.items P.sound parts.old.items }
     requires rising { Rises P.Item.key_of (items_in P.items parts.old.items) }
     ensures put { OnOk result (entries P.Item.key_of (items_in P.items parts.new.items)
         ≡ put key_cmp (P.Item.key_of item) item
         (entries P.Item.key_of (items_in P.items parts.old.items))) }
+    ensures replaced { IfOk result (λ arrival. arrival.replaced
+        ≡ has_key P.Item.key_of (P.Item.key_of item) (items_in P.items parts.old.items)) }
     ensures some { OnOk result (0 < length parts.new.items) }
     ensures sound { OnOk result (AreSound P.items P.sound parts.new.items) }
 {
     let alloc = *parts.allocator();
     if parts.is_empty() {
         parts.push(Arc::new(alloc, P::of_one(alloc, item)?)?)?;
-        return Ok(());
+        return Ok(Arrival {
+            replaced: false,
+            at_end: true,
+        });
     }
     let at = home(parts.as_slice(), item.key());
-    if let Some(rest) = put_in(alloc, &mut parts[at], item)? {
-        parts.insert(at + 1, Arc::new(alloc, rest)?)?;
+    let PutOutcome { replaced, back } = put_in(alloc, &mut parts[at], item)?;
+    match back {
+        Some(back) => {
+            let at_end = at + 1 == parts.len();
+            parts.insert(at + 1, Arc::new(alloc, back)?)?;
+            Ok(Arrival { replaced, at_end })
+        }
+        None => Ok(Arrival {
+            replaced,
+            at_end: false,
+        }),
     }
-    Ok(())
 }
 
-/// Takes the item with that key out of its part, and the part out where nothing is left in it.
-pub(crate) fn take_out_shared<P: Part>(parts: &mut Vec<Arc<P>>, key: &str) -> Result<(), NoMemory>
+/// Takes the item with that key out of its part, and the part out where nothing is left in it. It says whether
+/// there was such an item.
+pub(crate) fn take_out_shared<P: Part>(parts: &mut Vec<Arc<P>>, key: &str) -> Result<bool, NoMemory>
     requires sound { AreSound P.items P.sound parts.old.items }
     requires rising { Rises P.Item.key_of (items_in P.items parts.old.items) }
     ensures without { OnOk result (entries P.Item.key_of (items_in P.items parts.new.items)
         ≡ without key.now (entries P.Item.key_of (items_in P.items parts.old.items))) }
+    ensures there { IfOk result (λ was_there. was_there
+        ≡ has_key P.Item.key_of key.now (items_in P.items parts.old.items)) }
     ensures sound { OnOk result (AreSound P.items P.sound parts.new.items) }
 {
     if parts.is_empty() {
-        return Ok(());
+        return Ok(false);
     }
     let alloc = *parts.allocator();
     let at = home(parts.as_slice(), key);
-    if take_from(alloc, &mut parts[at], key)? {
+    let outcome = take_from(alloc, &mut parts[at], key)?;
+    if outcome.none_left {
         parts.remove(at);
     }
-    Ok(())
+    Ok(outcome.was_there)
 }
 
-/// The same parts, each shared.
-pub(crate) fn share<P: Part>(parts: &Vec<Arc<P>>) -> Result<Vec<Arc<P>>, NoMemory>
+/// The same parts, each shared, with room for so many more.
+pub(crate) fn share<P: Part>(parts: &Vec<Arc<P>>, more: usize) -> Result<Vec<Arc<P>>, NoMemory>
     requires { AreSound P.items P.sound parts.now.items }
     ensures items { IfOk result (λ same.
         items_in P.items same.items ≡ items_in P.items parts.now.items) }
     ensures sound { IfOk result (λ same. AreSound P.items P.sound same.items) }
 {
-    let mut same = Vec::with_capacity(*parts.allocator(), parts.len())?;
+    let mut same = Vec::with_capacity(*parts.allocator(), parts.len().saturating_add(more))?;
     for part in parts {
         same.push(Arc::try_clone(part)?)?;
     }

@@ -1,13 +1,20 @@
 -- The item goes from the place that was found.
 use Rattle.std.proofs.Common.{sym, ap, ◌∙◌}
+use Rattle.std.specs.Prelude.{is_some}
 use Rattle.shared_list.specs.Order.{entries}
-use Rattle.shared_list.proofs.Places.{without_at, without_gap}
+use Rattle.shared_list.proofs.Places.{without_at, without_gap, find_at, find_gap}
 use Rattle.shared_list.proofs.leaf.take_among.Goals as goal
 
-pub returns-in-Ok : goal.returns-in-Ok
-returns-in-Ok g c =
+pub returns-in-Ok-clause-without : goal.returns-in-Ok-clause-without
+returns-in-Ok-clause-without g c =
     ap (entries g.T.Keyed.key_of) c.remove.ensures.items
     ∙ without_at g.T.Keyed.key_of c.args.items.now.items c.args.key.now c.in-Ok.at (rw c.as_slice.ensures.value at c.in-Ok.ensures)
 
-pub returns-in_default : goal.returns-in_default
-returns-in_default g c = sym (without_gap g.T.Keyed.key_of c.args.items.now.items c.args.key.now c.in_default.field-0 (rw c.as_slice.ensures.value at c.in_default.ensures))
+pub returns-in-Ok-clause-there : goal.returns-in-Ok-clause-there
+returns-in-Ok-clause-there g c = sym (ap is_some (find_at g.T.Keyed.key_of c.args.items.now.items c.args.key.now c.in-Ok.at c.remove.result (rw c.as_slice.ensures.value at c.in-Ok.ensures)))
+
+pub returns-in-Err-clause-without : goal.returns-in-Err-clause-without
+returns-in-Err-clause-without g c = sym (without_gap g.T.Keyed.key_of c.args.items.now.items c.args.key.now c.in-Err.field-0 (rw c.as_slice.ensures.value at c.in-Err.ensures))
+
+pub returns-in-Err-clause-there : goal.returns-in-Err-clause-there
+returns-in-Err-clause-there g c = sym (ap is_some (find_gap g.T.Keyed.key_of c.args.items.now.items c.args.key.now c.in-Err.field-0 (rw c.as_slice.ensures.value at c.in-Err.ensures)))

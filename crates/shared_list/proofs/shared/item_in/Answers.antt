@@ -2,13 +2,13 @@
 use Rattle.std.proofs.Common.{sym, ap, ◌∙◌, subst}
 use Rattle.std.specs.FinMap.{find}
 use Rattle.shared_list.specs.Order.{key_cmp, entries, Rises}
-use Rattle.shared_list.proofs.PartLemmas.{sound_here, Rises-here, find_here}
+use Rattle.shared_list.proofs.PartLemmas.{good_here, Rises-here, find_here}
 use Rattle.shared_list.proofs.shared.item_in.Goals as goal
 
 pub item_of-requires-clause-sound : goal.item_of-requires-clause-sound
 item_of-requires-clause-sound g c =
     subst (λ part. g.P.Part.sound part) (sym c.deref.ensures)
-    (sound_here g.P.Item.Keyed.key_of g.P.Part.items g.P.Part.sound c.args.key.now c.args.parts.now c.home.result c.index-parts-home.result c.home.ensures c.index-parts-home.is c.requires.sound)
+    (good_here g.P.Item.Keyed.key_of g.P.Part.items g.P.Part.sound c.args.key.now c.args.parts.now c.home.result c.index-parts-home.result c.home.ensures c.index-parts-home.is c.requires.sound).0
 
 pub item_of-requires-clause-rising : goal.item_of-requires-clause-rising
 item_of-requires-clause-rising g c =

@@ -6,39 +6,39 @@ use Rattle.shared_list.proofs.node.NodePart.put_item.Goals as goal
 pub returns-in-Some-clause-put : goal.returns-in-Some-clause-put
 returns-in-Some-clause-put g c =
     put_halves g.P.Part.items g.P.Part.sound g.P.Item.Keyed.key_of c.args.item _ c.split_off.new.items.items c.in-Some.parts.items c.put_shared.new.parts.items
-    (rw c.in-Some.is at c.in_ok-parts.ensures.parts) c.in_ok-put_shared.ensures.put
+    (rw c.in-Some.is at c.in_ok-parts.ensures.parts) c.in_ok-replaced.ensures.put
 
 pub returns-in-Some-clause-front : goal.returns-in-Some-clause-front
 returns-in-Some-clause-front g c =
     some_items g.P.Part.items g.P.Part.sound c.split_off.new.items.items
-    (sound_front g.P.Part.items g.P.Part.sound c.split_off.new.items.items c.in-Some.parts.items c.put_shared.new.parts.items (rw c.in-Some.is at c.in_ok-parts.ensures.parts) c.in_ok-put_shared.ensures.sound)
-    (c.in_ok-parts.ensures.front c.in_ok-put_shared.ensures.some)
+    (sound_front g.P.Part.items g.P.Part.sound c.split_off.new.items.items c.in-Some.parts.items c.put_shared.new.parts.items (rw c.in-Some.is at c.in_ok-parts.ensures.parts) c.in_ok-replaced.ensures.sound)
+    (c.in_ok-parts.ensures.front c.in_ok-replaced.ensures.some)
 
 pub returns-in-Some-clause-sound : goal.returns-in-Some-clause-sound
 returns-in-Some-clause-sound g c =
-    sound_front g.P.Part.items g.P.Part.sound c.split_off.new.items.items c.in-Some.parts.items c.put_shared.new.parts.items (rw c.in-Some.is at c.in_ok-parts.ensures.parts) c.in_ok-put_shared.ensures.sound
+    sound_front g.P.Part.items g.P.Part.sound c.split_off.new.items.items c.in-Some.parts.items c.put_shared.new.parts.items (rw c.in-Some.is at c.in_ok-parts.ensures.parts) c.in_ok-replaced.ensures.sound
 
 pub returns-in-Some-clause-back : goal.returns-in-Some-clause-back
 returns-in-Some-clause-back g c =
     some_items g.P.Part.items g.P.Part.sound c.in-Some.parts.items
-    (sound_back g.P.Part.items g.P.Part.sound c.split_off.new.items.items c.in-Some.parts.items c.put_shared.new.parts.items (rw c.in-Some.is at c.in_ok-parts.ensures.parts) c.in_ok-put_shared.ensures.sound)
+    (sound_back g.P.Part.items g.P.Part.sound c.split_off.new.items.items c.in-Some.parts.items c.put_shared.new.parts.items (rw c.in-Some.is at c.in_ok-parts.ensures.parts) c.in_ok-replaced.ensures.sound)
     (rw c.in-Some.is at c.in_ok-parts.ensures.back)
 
 pub returns-in-Some-clause-back_sound : goal.returns-in-Some-clause-back_sound
 returns-in-Some-clause-back_sound g c =
-    sound_back g.P.Part.items g.P.Part.sound c.split_off.new.items.items c.in-Some.parts.items c.put_shared.new.parts.items (rw c.in-Some.is at c.in_ok-parts.ensures.parts) c.in_ok-put_shared.ensures.sound
+    sound_back g.P.Part.items g.P.Part.sound c.split_off.new.items.items c.in-Some.parts.items c.put_shared.new.parts.items (rw c.in-Some.is at c.in_ok-parts.ensures.parts) c.in_ok-replaced.ensures.sound
 
 pub returns-in-None-clause-put : goal.returns-in-None-clause-put
 returns-in-None-clause-put g c =
     put_whole g.P.Part.items g.P.Part.sound g.P.Item.Keyed.key_of c.args.item _ c.split_off.new.items.items c.put_shared.new.parts.items
-    (rw c.in-None.is at c.in_ok-parts.ensures.parts) c.in_ok-put_shared.ensures.put
+    (rw c.in-None.is at c.in_ok-parts.ensures.parts) c.in_ok-replaced.ensures.put
 
 pub returns-in-None-clause-front : goal.returns-in-None-clause-front
 returns-in-None-clause-front g c =
     some_items g.P.Part.items g.P.Part.sound c.split_off.new.items.items
-    (sound_front g.P.Part.items g.P.Part.sound c.split_off.new.items.items [] c.put_shared.new.parts.items (rw c.in-None.is at c.in_ok-parts.ensures.parts) c.in_ok-put_shared.ensures.sound)
-    (c.in_ok-parts.ensures.front c.in_ok-put_shared.ensures.some)
+    (sound_front g.P.Part.items g.P.Part.sound c.split_off.new.items.items [] c.put_shared.new.parts.items (rw c.in-None.is at c.in_ok-parts.ensures.parts) c.in_ok-replaced.ensures.sound)
+    (c.in_ok-parts.ensures.front c.in_ok-replaced.ensures.some)
 
 pub returns-in-None-clause-sound : goal.returns-in-None-clause-sound
 returns-in-None-clause-sound g c =
-    sound_front g.P.Part.items g.P.Part.sound c.split_off.new.items.items [] c.put_shared.new.parts.items (rw c.in-None.is at c.in_ok-parts.ensures.parts) c.in_ok-put_shared.ensures.sound
+    sound_front g.P.Part.items g.P.Part.sound c.split_off.new.items.items [] c.put_shared.new.parts.items (rw c.in-None.is at c.in_ok-parts.ensures.parts) c.in_ok-replaced.ensures.sound
