@@ -44,8 +44,8 @@ update_of feed change (Some update) = Some (record {
 abbrev pub update_in : ℕ → Change → Option Update
 update_in feed change = update_of feed change change.1.entity.trip_update
 
--- The trip updates of a schedule's feeds that count at a moment, by feed and id; the feeds are numbered from
--- `first` on. All count, whatever the moment: none grows too old.
+-- The trip updates of a schedule's feeds, by feed and id; the feeds are numbered from `first` on. An
+-- update counts at any moment, whatever its age, so `at` makes no difference.
 unfoldable pub updates_from : ℕ → ℕ → ℕ → List NamedFeed → List FeedFold → List Update
 updates_from plan at first (feed ∷ feeds) (fold ∷ folds) =
     (if feed.plan == plan then filter_map (update_in first) fold.entities else [])
