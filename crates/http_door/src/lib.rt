@@ -1,6 +1,6 @@
 //! The connections of a door, one after another.
 //!
-//! [`serve_door`] takes a link of a door, serves it by `http_serve::serve_connection` and gives it
+//! [`serve_door`] takes a link of a door, serves it by a `http_serve::ConnectionServer` and gives it
 //! back, until the door ends or fails. Its contract is one record, `ServesDoor` of `specs/Doors`: the
 //! links that were handed out, each served from where the one before it left clock and oracle, and
 //! the report that counts them.

@@ -6,14 +6,15 @@ ghost use Rattle.http_door.specs.Visits.{ends, hub};
 
 use crate::report::{DoorEnd, DoorReport};
 use board_core::Oracle;
-use http_serve::{Session, serve_connection};
+use http_serve::ConnectionServer;
 use hub_outside::{Clock, Door, DoorAnswer, Gate, GatePoint, Sink, Source};
 use std::alloc::Global;
 use std::sync::Wait;
 
 /// Serves the links of a door, up to its first end or fault. Each is served between two points of the
 /// gate, which have the number of this reader, and then given back. Where memory is wanting for a
-/// link, it is given back all the same, and the next one is served.
+/// link, it is given back all the same, and the next one is served. Router and buffers are made once
+/// for all links.
 pub fn serve_door<D: Door, O: Oracle, C: Clock, G: Gate, R: Wait>(
     rt: &R,
     alloc: Global,
@@ -31,11 +32,12 @@ pub fn serve_door<D: Door, O: Oracle, C: Clock, G: Gate, R: Wait>(
         (O.steady oracle.new)) result }
 {
     let mut report = DoorReport::none();
+    let mut server = ConnectionServer::new(alloc);
     'links: for _ in rt.forever() {
         match door.next() {
             DoorAnswer::Link(mut input, mut output) => {
                 gate.pass(GatePoint::BeforeAnswer(reader));
-                let session = serve_connection(alloc, &mut input, &mut output, oracle, clock);
+                let session = server.serve(&mut input, &mut output, oracle, clock);
                 gate.pass(GatePoint::Answered(reader));
                 door.done(input, output);
                 report.count(&session);

@@ -11,7 +11,8 @@
 //! - [`Taken::Bad`] comes only where no request follows, whatever the bytes that are left;
 //! - [`Taken::ReadFault`] comes only where the source's count of faults rose, and before a whole
 //!   head;
-//! - no bytes are lost: after `Bad`, `ReadFault` and `NoMemory` all that was read is held.
+//! - no bytes are lost: after `Bad`, `ReadFault` and `NoMemory` all that was read is held;
+//! - a reader that was cleared is as a new one, so that connections can share one reader's room.
 //!
 //! A head is looked at only once its end may have come, an empty line, so that one that comes byte
 //! by byte takes time in proportion to its length. The crate stands on `http_defs`, on

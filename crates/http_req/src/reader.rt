@@ -27,8 +27,8 @@ pub enum Taken {
     NoMemory,
 }
 
-/// The requests of one connection. A contract sees the bytes that were read and stand behind the
-/// last request.
+/// The requests of one connection, or of several, one after another, with [`RequestReader::clear`]
+/// before each. A contract sees the bytes that were read and stand behind the last request.
 #[derive(Drop)]
 pub struct RequestReader {
     buffer: Vec<u8>,
@@ -83,7 +83,7 @@ impl RequestReader {
                 }
             }
             Next::End => {
-                self.filled = 0;
+                self.clear();
                 Taken::End
             }
             Next::Never(filled) => {
@@ -95,6 +95,13 @@ impl RequestReader {
                 Taken::ReadFault
             }
         }
+    }
+
+    /// Holds nothing any more, as before the first byte of a connection. The room stays.
+    pub fn clear(&mut self)
+        ensures nothing_is_held { self.new ≡ [] }
+    {
+        self.filled = 0;
     }
 
     /// Lets go of the first bytes held.

@@ -1,5 +1,5 @@
 //! The requests of a connection, one after another.
-ghost use Rattle.std.specs.Prelude.{◌≡◌, [], IfOk};
+ghost use Rattle.std.specs.Prelude.{◌≡◌};
 ghost use Rattle.http_serve.specs.Setting.{setting};
 ghost use Rattle.http_serve.specs.Notes.{noted_in};
 ghost use Rattle.http_serve.specs.Serves.{Serves};
@@ -23,117 +23,88 @@ pub(crate) enum Turn {
     Ends(End),
 }
 
-/// What a connection is served with.
+/// What connections are served with.
 #[derive(Drop)]
-struct Service {
+pub(crate) struct Service {
+    alloc: Global,
     reader: RequestReader,
     responder: Responder,
-    notes: Notes,
 }
 
 impl Service {
-    /// A service before the first byte of a connection; or want of memory.
-    fn new(alloc: Global) -> Result<Service, NoMemory>
-        ensures held { IfOk result (λ service. service.reader ≡ []) }
-        ensures noted { IfOk result (λ service. noted_in service.notes
-            ≡ record { numbers = []; moments = [] }) }
-    {
+    /// One for the first connection, or want of memory.
+    pub(crate) fn new(alloc: Global) -> Result<Service, NoMemory> {
         Ok(Service {
+            alloc,
             reader: RequestReader::new(alloc)?,
             responder: Responder::new(alloc)?,
-            notes: Notes::none(alloc),
         })
     }
-}
 
-/// Serves a connection, from the first byte that its source has left to its end, with up to a
-/// thousand responses. Each has the number and the timetables of a look at the oracle, and a moment
-/// of the clock that was read behind that look. A response is written whole before more is read.
-pub fn serve_connection<S: Source, K: Sink, O: Oracle, C: Clock>(
-    alloc: Global,
-    source: &mut S,
-    sink: &mut K,
-    oracle: &mut O,
-    clock: &mut C,
-) -> Session
-    ensures serves { Serves (S.left source.old) (S.left source.new)
-        (S.faults source.old) (S.faults source.new)
-        (setting (K.written sink.old) (K.faults sink.old) (C.ahead clock.old)
-        (O.plans oracle.old) (O.history oracle.old) (O.reads oracle.old) (O.steady oracle.old))
-        (setting (K.written sink.new) (K.faults sink.new) (C.ahead clock.new)
-        (O.plans oracle.new) (O.history oracle.new) (O.reads oracle.new) (O.steady oracle.new))
-        result.end result.numbers.items result.moments.items }
-{
-    match Service::new(alloc) {
-        Ok(service) => serve_all(alloc, service, source, sink, oracle, clock),
-        Err(_) => Notes::none(alloc).session(End::NoMemory),
-    }
-}
-
-/// The same with a service that holds no byte and noted nothing.
-fn serve_all<S: Source, K: Sink, O: Oracle, C: Clock>(
-    alloc: Global,
-    mut service: Service,
-    source: &mut S,
-    sink: &mut K,
-    oracle: &mut O,
-    clock: &mut C,
-) -> Session
-    requires held { service.reader ≡ [] }
-    requires noted { noted_in service.notes ≡ record { numbers = []; moments = [] } }
-    ensures serves { Serves (S.left source.old) (S.left source.new)
-        (S.faults source.old) (S.faults source.new)
-        (setting (K.written sink.old) (K.faults sink.old) (C.ahead clock.old)
-        (O.plans oracle.old) (O.history oracle.old) (O.reads oracle.old) (O.steady oracle.old))
-        (setting (K.written sink.new) (K.faults sink.new) (C.ahead clock.new)
-        (O.plans oracle.new) (O.history oracle.new) (O.reads oracle.new) (O.steady oracle.new))
-        result.end result.numbers.items result.moments.items }
-{
-    'requests: for place in 1..LAST_PLACE + 1 {
-        match serve_next(alloc, place, &mut service, source, sink, oracle, clock) {
-            Turn::GoesOn => {}
-            Turn::Ends(end) => return service.notes.session(end),
+    /// Serves a connection. What the reader holds of the one before it is dropped.
+    pub(crate) fn serve<S: Source, K: Sink, O: Oracle, C: Clock>(
+        &mut self,
+        source: &mut S,
+        sink: &mut K,
+        oracle: &mut O,
+        clock: &mut C,
+    ) -> Session
+        ensures serves { Serves (S.left source.old) (S.left source.new)
+            (S.faults source.old) (S.faults source.new)
+            (setting (K.written sink.old) (K.faults sink.old) (C.ahead clock.old)
+            (O.plans oracle.old) (O.history oracle.old) (O.reads oracle.old) (O.steady oracle.old))
+            (setting (K.written sink.new) (K.faults sink.new) (C.ahead clock.new)
+            (O.plans oracle.new) (O.history oracle.new) (O.reads oracle.new) (O.steady oracle.new))
+            result.end result.numbers.items result.moments.items }
+    {
+        self.reader.clear();
+        let mut notes = Notes::none(self.alloc);
+        'requests: for place in 1..LAST_PLACE + 1 {
+            match self.serve_next(place, &mut notes, source, sink, oracle, clock) {
+                Turn::GoesOn => {}
+                Turn::Ends(end) => return notes.session(end),
+            }
         }
+        unreachable!()
     }
-    unreachable!()
-}
 
-/// Takes the item at a place and answers it.
-fn serve_next<S: Source, K: Sink, O: Oracle, C: Clock>(
-    alloc: Global,
-    place: u16,
-    service: &mut Service,
-    source: &mut S,
-    sink: &mut K,
-    oracle: &mut O,
-    clock: &mut C,
-) -> Turn
-    ensures turns { Turns place service.old.reader service.new.reader
-        (S.left source.old) (S.left source.new)
-        (setting (K.written sink.old) (K.faults sink.old) (C.ahead clock.old)
-        (O.plans oracle.old) (O.history oracle.old) (O.reads oracle.old) (O.steady oracle.old))
-        (setting (K.written sink.new) (K.faults sink.new) (C.ahead clock.new)
-        (O.plans oracle.new) (O.history oracle.new) (O.reads oracle.new) (O.steady oracle.new))
-        (noted_in service.old.notes) (noted_in service.new.notes) result }
-    ensures cause { HasTurnCause result (S.faults source.old) (S.faults source.new)
-        (K.faults sink.old) (K.faults sink.new) }
-{
-    let item = match take_item(alloc, &mut service.reader, source) {
-        Ok(item) => item,
-        Err(end) => return Turn::Ends(end),
-    };
-    match reply(
-        place,
-        &item,
-        &mut service.responder,
-        &mut service.notes,
-        sink,
-        oracle,
-        clock,
-    ) {
-        Ok(()) => turn_after(place, &item),
-        Err(Unwritten::Cut) => Turn::Ends(End::WriteFault),
-        Err(Unwritten::Starved) => Turn::Ends(End::NoMemory),
+    /// Takes the item at a place of its connection and answers it.
+    fn serve_next<S: Source, K: Sink, O: Oracle, C: Clock>(
+        &mut self,
+        place: u16,
+        notes: &mut Notes,
+        source: &mut S,
+        sink: &mut K,
+        oracle: &mut O,
+        clock: &mut C,
+    ) -> Turn
+        ensures turns { Turns place self.old.reader self.new.reader
+            (S.left source.old) (S.left source.new)
+            (setting (K.written sink.old) (K.faults sink.old) (C.ahead clock.old)
+            (O.plans oracle.old) (O.history oracle.old) (O.reads oracle.old) (O.steady oracle.old))
+            (setting (K.written sink.new) (K.faults sink.new) (C.ahead clock.new)
+            (O.plans oracle.new) (O.history oracle.new) (O.reads oracle.new) (O.steady oracle.new))
+            (noted_in notes.old) (noted_in notes.new) result }
+        ensures cause { HasTurnCause result (S.faults source.old) (S.faults source.new)
+            (K.faults sink.old) (K.faults sink.new) }
+    {
+        let item = match take_item(self.alloc, &mut self.reader, source) {
+            Ok(item) => item,
+            Err(end) => return Turn::Ends(end),
+        };
+        match reply(
+            place,
+            &item,
+            &mut self.responder,
+            notes,
+            sink,
+            oracle,
+            clock,
+        ) {
+            Ok(()) => turn_after(place, &item),
+            Err(Unwritten::Cut) => Turn::Ends(End::WriteFault),
+            Err(Unwritten::Starved) => Turn::Ends(End::NoMemory),
+        }
     }
 }
 

@@ -3,10 +3,10 @@ ghost use Rattle.std.specs.Prelude.{◌≡◌, ◌≤◌, true, IfOk};
 ghost use Rattle.text_defs.specs.Moments.{last_moment};
 ghost use Rattle.http_serve.specs.Transcript.{IsTranscript, Finishes};
 
-use crate::serving::serve_connection;
+use crate::server::ConnectionServer;
 use crate::{End, NoMemory};
 use board_core::Oracle;
-use hub_outside::{FixedClock, MemorySink, MemorySource};
+use hub_outside::MemorySink;
 use std::alloc::Global;
 
 /// Why a connection whose whole input is there has no further request.
@@ -45,18 +45,13 @@ pub fn serve_bytes<O: Oracle>(
     ensures plans { O.plans oracle.new ≡ O.plans oracle.old }
     ensures history { O.steady oracle.old ≡ true → O.history oracle.new ≡ O.history oracle.old }
 {
-    let bytes = Vec::from_slice(alloc, input)?;
-    let mut source = MemorySource::new(bytes, Vec::new(alloc), Vec::new(alloc));
-    let mut written = MemorySink::new(alloc, Vec::new(alloc), Vec::new(alloc));
-    let mut clock = FixedClock::new(vec![in alloc; moment]?);
-    let session = serve_connection(alloc, &mut source, &mut written, oracle, &mut clock);
-    let finish = finish_of(session.end)?;
-    Ok(Transcript { written, finish })
+    let mut server = ConnectionServer::new(alloc);
+    server.serve_bytes(oracle, moment, input)
 }
 
 /// Why there is no further request. Where neither source nor sink fails but for want of memory, an
 /// end without one is that want.
-fn finish_of(end: End) -> Result<Finish, NoMemory>
+pub(crate) fn finish_of(end: End) -> Result<Finish, NoMemory>
     ensures { IfOk result (λ finish. Finishes end finish) }
 {
     match end {

@@ -16,7 +16,7 @@ ghost use Rattle.hub_replay.specs.Feeds.{declaring, running, hub_given, shown_hu
 
 use crate::NoMemory;
 use board_core::Oracle;
-use http_serve::{Transcript, serve_bytes};
+use http_serve::{ConnectionServer, Transcript};
 use hub_core::Refusal;
 use hub_state::ReplayHub;
 use rt_types::Text;
@@ -41,10 +41,11 @@ pub(crate) enum ScriptState {
 }
 
 /// The hub of a script. Without a configuration it is made at the first record that declares no
-/// feed.
+/// feed. Its connections are served with the same router and buffers.
 #[derive(Drop)]
 pub(crate) struct ScriptHub {
     state: ScriptState,
+    server: ConnectionServer,
 }
 
 impl Model for ScriptHub {
@@ -76,6 +77,7 @@ impl ScriptHub {
     {
         ScriptHub {
             state: ScriptState::Declaring(Vec::new(alloc)),
+            server: ConnectionServer::new(alloc),
         }
     }
 
@@ -87,6 +89,7 @@ impl ScriptHub {
         hub.sound();
         Ok(ScriptHub {
             state: ScriptState::Running(hub),
+            server: ConnectionServer::new(alloc),
         })
     }
 
@@ -177,10 +180,10 @@ impl ScriptHub {
         ensures { Serves result self.old self.new moment input.now }
     {
         match &mut self.state {
-            ScriptState::Running(hub) => serve_on(alloc, hub, moment, input),
+            ScriptState::Running(hub) => serve_on(&mut self.server, hub, moment, input),
             ScriptState::Declaring(feeds) => {
                 let mut hub = hub_with(alloc, feeds)?;
-                let served = serve_on(alloc, &mut hub, moment, input);
+                let served = serve_on(&mut self.server, &mut hub, moment, input);
                 self.state = ScriptState::Running(hub);
                 served
             }
@@ -263,7 +266,7 @@ fn tell_of(
 
 /// Serves the connection of this input on a hub, where each moment is this one.
 fn serve_on(
-    alloc: Global,
+    server: &mut ConnectionServer,
     hub: &mut ReplayHub,
     moment: u64,
     input: &[u8],
@@ -272,7 +275,7 @@ fn serve_on(
     ensures serves { Serves result (shown_hub hub.old) (shown_hub hub.new) moment input.now }
     ensures plans { hub.new.shown.plans ≡ hub.old.shown.plans }
 {
-    serve_bytes(alloc, hub, moment, input)
+    server.serve_bytes(hub, moment, input)
 }
 
 /// Whether a feed of that name may follow those.

@@ -13,13 +13,18 @@ use std::test::Fail;
 /// A request for a board of a stop that is not there.
 const BOARD: &[u8] = b"GET /board/city/S3?limit=1 HTTP/1.1\r\n\r\n";
 
-/// A link with that request.
-fn link(alloc: Global) -> Result<MemoryLink, NoMemory> {
-    let bytes = Vec::from_slice(alloc, BOARD)?;
+/// A link with these bytes, of which the reads of these numbers fail.
+fn link_of(alloc: Global, bytes: &[u8], failing: Vec<u64>) -> Result<MemoryLink, NoMemory> {
+    let bytes = Vec::from_slice(alloc, bytes)?;
     Ok(MemoryLink {
-        input: MemorySource::new(bytes, Vec::new(alloc), Vec::new(alloc)),
+        input: MemorySource::new(bytes, Vec::new(alloc), failing),
         output: MemorySink::new(alloc, Vec::new(alloc), Vec::new(alloc)),
     })
+}
+
+/// A link with that request.
+fn link(alloc: Global) -> Result<MemoryLink, NoMemory> {
+    link_of(alloc, BOARD, Vec::new(alloc))
 }
 
 /// A door of two such links, of which the calls of these numbers fail.
@@ -97,5 +102,35 @@ fn door_that_fails_is_served_no_further(rt: HostRuntime) -> Result<(), Fail> {
     assert_eq!(rt; points, 12);
     let bytes = written(rt.alloc(), &door)?;
     assert!(rt; bytes.as_slice() == NOT_FOUND);
+    Ok(())
+}
+
+/// Whether that request is answered as ever after a link with these bytes, of which the reads of these
+/// numbers fail.
+fn is_answered_after<R: Wait>(
+    rt: &R,
+    alloc: Global,
+    bytes: &[u8],
+    failing: Vec<u64>,
+) -> Result<bool, Fail> {
+    let links = vec![in alloc; link_of(alloc, bytes, failing)?, link(alloc)?]?;
+    let mut door = MemoryDoor::new(alloc, links, Vec::new(alloc))?;
+    let (report, _points) = serve(rt, alloc, &mut door)?;
+    let [_first, second] = door.links_done() else {
+        return Ok(false);
+    };
+    Ok(report.connections == 2 && second.output.bytes() == NOT_FOUND)
+}
+
+/// The front of a head, before a read that fails and before the end of its input; and a request after
+/// one that closes its connection.
+#[test]
+fn no_link_leaves_bytes_to_the_next(rt: HostRuntime) -> Result<(), Fail> {
+    let alloc = rt.alloc();
+    let front = b"GET /board/city/S3?limit=1 HT";
+    assert!(rt; is_answered_after(&rt, alloc, front, vec![in alloc; 2]?)?);
+    assert!(rt; is_answered_after(&rt, alloc, front, Vec::new(alloc))?);
+    let closed = b"POST /status HTTP/1.1\r\n\r\nGET /feed/city HTTP/1.1\r\n\r\n";
+    assert!(rt; is_answered_after(&rt, alloc, closed, Vec::new(alloc))?);
     Ok(())
 }
