@@ -2,6 +2,9 @@
 
 use rt_types::{Entity, FeedMessage};
 
+/// The most bytes that a message may have.
+pub const LONGEST_MESSAGE: usize = 16_777_216;
+
 /// An accepted message, with the number of the feed that sent it.
 #[derive(Drop)]
 pub struct Entry {

@@ -7,9 +7,10 @@
 //! and `Examples` computes them on whole messages. The `proofs/` have the laws between them.
 //!
 //! The crate stands on `wire_defs`, whose fields it reads, and on `rt_types`, whose structs are the
-//! messages that it speaks of. Its own two structs are what a history and its fold are made of.
+//! messages that it speaks of. Its own code is two structs, of which a history and its fold are made, and the length that
+//! code compares with.
 #![tactic(auto)]
 
 mod history;
 
-pub use history::{Entry, Stored};
+pub use history::{Entry, LONGEST_MESSAGE, Stored};

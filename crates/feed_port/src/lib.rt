@@ -19,8 +19,9 @@ mod port;
 mod spool;
 mod stream;
 
+pub use feed_defs::LONGEST_MESSAGE;
 pub use memory::MemoryPort;
-pub use port::{FeedPort, LONGEST_MESSAGE, PortAnswer};
+pub use port::{FeedPort, PortAnswer};
 pub use spool::SpoolPort;
 pub use std::alloc::AllocError as NoMemory;
 pub use stream::StreamPort;

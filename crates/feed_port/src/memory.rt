@@ -7,7 +7,8 @@ ghost use Rattle.hub_outside.specs.Calls.{no_calls, is_failing};
 ghost use Rattle.feed_port.specs.Memory.{messages_ahead, message_faults, after_ask, IsHandedIn};
 ghost use Rattle.feed_port.specs.Ports.{Answers, HasPortCause};
 
-use crate::port::{FeedPort, LONGEST_MESSAGE, PortAnswer};
+use crate::port::{FeedPort, PortAnswer};
+use feed_defs::LONGEST_MESSAGE;
 use hub_outside::{Buf, Calls};
 use std::marker::Model;
 

@@ -7,15 +7,12 @@ ghost use Rattle.feed_port.specs.Ports.{Answers, GoesOnToTell, HasPortCause};
 
 use hub_outside::Buf;
 
-/// The most bytes of a message.
-pub const LONGEST_MESSAGE: usize = 16_777_216;
-
 /// What one ask of a [`FeedPort`] came to.
 #[derive(Clone, Copy, Debug, PartialEq, Eq)]
 pub enum PortAnswer {
     /// The buffer holds the next message.
     Message,
-    /// The next message has more than [`LONGEST_MESSAGE`] bytes, so many as far as they were seen. It
+    /// The next message has more than [`feed_defs::LONGEST_MESSAGE`] bytes, so many as far as they were seen. It
     /// is gone.
     TooLong(u64),
     /// No message is left.

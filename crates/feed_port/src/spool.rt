@@ -8,7 +8,8 @@ ghost use Rattle.feed_port.specs.Spooling.{spool_files, spool_folder, spool_numb
 
 use crate::NoMemory;
 use crate::paths::SpoolPath;
-use crate::port::{FeedPort, LONGEST_MESSAGE, PortAnswer};
+use crate::port::{FeedPort, PortAnswer};
+use feed_defs::LONGEST_MESSAGE;
 use hub_outside::{Buf, FileAnswer, Files};
 use rt_types::Text;
 use std::alloc::Global;

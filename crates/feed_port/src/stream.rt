@@ -8,7 +8,8 @@ ghost use Rattle.feed_port.specs.Ports.{Answers, GoesOnToTell, HasPortCause};
 ghost use Rattle.feed_port.specs.Streams.{source_of, stage_of, stream_ahead, own_faults, IsExact, NextStage, ReadsFrame};
 
 use crate::filling::{Filled, fill};
-use crate::port::{FeedPort, LONGEST_MESSAGE, PortAnswer};
+use crate::port::{FeedPort, PortAnswer};
+use feed_defs::LONGEST_MESSAGE;
 use hub_outside::{Buf, Source};
 
 /// Where a stream of messages stands.

@@ -6,13 +6,11 @@ ghost use Rattle.answer_defs.specs.Defined.{AsDefined};
 ghost use Rattle.hub_core.specs.Answers.{cause_of};
 
 use crate::refusal::Refusal;
+use feed_defs::LONGEST_MESSAGE;
 use feed_read::{ReadFault, read_message};
 use rt_types::{FeedMessage, Header};
 use std::alloc::Global;
 use texts::LAST_MOMENT;
-
-/// The most bytes that a message may have.
-const LONGEST_MESSAGE: usize = 16_777_216;
 
 /// The message of the bytes, where it is well-formed and its stamp is above `last`, which is in seconds
 /// since 1970; else why it is refused.

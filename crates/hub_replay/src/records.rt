@@ -11,11 +11,9 @@ use crate::connections::do_connection;
 use crate::feeds::ScriptHub;
 use crate::lines::{LONGEST_LINE, Line, LineFault, line_end, parse_line};
 use crate::replies::reply_line;
+use feed_defs::LONGEST_MESSAGE;
 use std::alloc::Global;
 use view_answers::Question;
-
-/// The most bytes of a message that is looked at; a longer one is refused unseen.
-const LONGEST_MESSAGE: u32 = 16_777_216;
 
 /// What stands in front of some bytes of a script.
 pub(crate) enum Step {
@@ -178,7 +176,7 @@ fn do_message(
         return Step::Refused;
     };
     let end = behind + size as usize;
-    if size > LONGEST_MESSAGE {
+    if size as usize > LONGEST_MESSAGE {
         return Step::Long { end, size };
     }
     match byte_at(bytes, end) {
