@@ -1,2 +1,2 @@
 mod Lists
-mod Parts
+pub mod Parts

@@ -15,7 +15,7 @@ use Rattle.feed_defs.specs.History.{Change, is_full, is_kept, stamp_of, changes_
 use Rattle.feed_defs.proofs.Applied.{sorted_filter, sorted_changed, find-without}
 use Rattle.feed_defs.proofs.Kept.{id_cmp, left, right}
 use Rattle.shared_list.proofs.Middle.{put_middle, sorted_before, both_so}
-use Rattle.entity_table.proofs.TableLemmas.{change_of, all_stepped}
+use Rattle.entity_table.proofs.TableLemmas.{after_each, all_stepped}
 use Rattle.alert_select.specs.FeedAlerts.{has_alert, alerts_of, alerts_with, alerts_and}
 
 less_not_equal : (o : Ordering) → T (is_lt o) → is_eq o ≡ false
@@ -181,11 +181,11 @@ ids_of items table are keyed = each_id items ∙ ap (λ xs. map (λ change. chan
 -- ---- a table from message to message
 
 -- when no entity is left, the alerts are those of what the feed then holds
-pub alerts_then : (now start old table : List Change) (stamp : ℕ) (m : FeedMessage) (items : List Entity) (i : ℕ) → T (is_sorted id_cmp table) → old ≡ alerts_of table → start ≡ (if is_full m then [] else old)
-    → length items ≤ i → items ≡ m.entity → stamp ≡ stamp_of m → fold alerts_with now (map (change_of stamp) (drop i items)) ≡ fold alerts_with start (map (change_of stamp) items) → now ≡ alerts_of (entities_after m table)
+pub alerts_then : (now start old table : List Change) (stamp : ℕ) (m : FeedMessage) (items left_over : List Entity) → T (is_sorted id_cmp table) → old ≡ alerts_of table → start ≡ (if is_full m then [] else old)
+    → left_over ≡ [] → items ≡ m.entity → stamp ≡ stamp_of m → after_each alerts_with stamp now left_over ≡ after_each alerts_with stamp start items → now ≡ alerts_of (entities_after m table)
 unfolding entities_after
-alerts_then now start old table stamp m items i h are begun past all own so_far =
-    all_stepped alerts_with now start stamp m items i past all own so_far
+alerts_then now start old table stamp m items left_over h are begun none all own so_far =
+    all_stepped alerts_with now start stamp m items left_over none all own so_far
     ∙ ap (λ es. fold alerts_with es (changes_in m)) begun
     ∙ by_kind (is_full m)
   where

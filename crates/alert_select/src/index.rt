@@ -1,13 +1,13 @@
 //! The alerts of a feed.
 
-ghost use Rattle.std.specs.Prelude.{◌≡◌, [], map, IfOk};
+ghost use Rattle.std.specs.Prelude.{◌≡◌, [], map, if◌then◌else◌, IfOk};
 ghost use Rattle.std.specs.Iterator.{YieldsFirstRef, item_count};
-ghost use Rattle.feed_defs.specs.History.{entities_after};
+ghost use Rattle.feed_defs.specs.History.{is_full};
 ghost use Rattle.alert_select.specs.FeedAlerts.{alerts_of, alerts_with, alerts_and};
 
 use crate::NoMemory;
-use entity_table::{Stored, Table, TableIter};
-use rt_types::{Entity, FeedMessage, Text};
+use entity_table::{SharedStored, Stored, Table, TableIter};
+use rt_types::{Copied, FeedMessage, Text};
 use std::alloc::Global;
 use std::marker::Model;
 
@@ -48,24 +48,24 @@ impl AlertIndex {
         Ok(AlertIndex { alerts })
     }
 
-    /// The index of what the feed holds after the message, where this is the index of the table before it; or want
-    /// of memory. It looks at the message's entities alone, and shares with this index what they leave.
-    pub fn after(
-        &self,
-        alloc: Global,
-        table: &Table,
-        message: &FeedMessage,
-    ) -> Result<AlertIndex, NoMemory>
-        requires { self.now ≡ alerts_of table.now }
-        ensures { IfOk result (λ next. next ≡ alerts_of (entities_after message.now table.now)) }
+    /// What a message goes on from: nothing, where it is a whole data set, and else an index that shares with this
+    /// one all that it holds; or want of memory.
+    pub fn start(&self, alloc: Global, message: &FeedMessage) -> Result<AlertIndex, NoMemory>
+        ensures { IfOk result (λ start. start ≡ (if is_full message.now then [] else self.now)) }
     {
-        table.sound();
-        let mut alerts = self.alerts.start(alloc, message)?;
-        let stamp = message.header.timestamp.unwrap_or(0);
-        for entity in message.entity.as_slice() {
-            alerts = change(alloc, alerts, entity, stamp)?;
-        }
-        Ok(AlertIndex { alerts })
+        Ok(AlertIndex {
+            alerts: self.alerts.start(alloc, message)?,
+        })
+    }
+
+    /// The index, changed by one entity of a message, of which it holds a further share if it has an alert. What has
+    /// none takes one away that its id had. Or want of memory.
+    pub fn with(self, stored: &SharedStored) -> Result<AlertIndex, NoMemory>
+        ensures { IfOk result (λ next. next ≡ alerts_with self (stored.now.entity.id, stored.now)) }
+    {
+        Ok(AlertIndex {
+            alerts: changed(self.alerts, stored)?,
+        })
     }
 
     /// The ids of the entities that have an alert, in byte order.
@@ -118,19 +118,24 @@ fn listed(alloc: Global, alerts: Table, stored: &Stored) -> Result<Table, NoMemo
     ensures { IfOk result (λ next. next ≡ alerts_and alerts stored.now) }
 {
     if stored.entity.alert.is_some() {
-        alerts.put(alloc, &stored.entity, stored.stamp)
+        let stored = Stored {
+            entity: stored.entity.copy()?,
+            stamp: stored.stamp,
+        };
+        alerts.put(SharedStored::new(alloc, stored)?)
     } else {
         Ok(alerts)
     }
 }
 
-/// The alerts, changed by one entity of a message of that stamp. What has no alert takes one away that its id had.
-fn change(alloc: Global, alerts: Table, entity: &Entity, stamp: u64) -> Result<Table, NoMemory>
+/// The alerts, changed by one entity of a message.
+fn changed(alerts: Table, stored: &SharedStored) -> Result<Table, NoMemory>
     ensures { IfOk result (λ next. next
-        ≡ alerts_with alerts (entity.now.id, record { entity = entity.now; stamp = stamp })) }
+        ≡ alerts_with alerts (stored.now.entity.id, stored.now)) }
 {
+    let entity = &stored.get().entity;
     if entity.alert.is_some() {
-        alerts.with(alloc, entity, stamp)
+        alerts.with(stored.copy()?)
     } else {
         alerts.without(entity.id.as_str())
     }

@@ -31,7 +31,11 @@ pub fn apply(alloc: Global, table: &Table, message: &FeedMessage) -> Result<Tabl
     let mut next = table.start(alloc, message)?;
     let stamp = message.header.timestamp.unwrap_or(0);
     for entity in message.entity.as_slice() {
-        next = next.with(alloc, entity, stamp)?;
+        let stored = Stored {
+            entity: entity.copy()?,
+            stamp,
+        };
+        next = next.with(SharedStored::new(alloc, stored)?)?;
     }
     Ok(next)
 }
@@ -48,32 +52,27 @@ impl Table {
         }
     }
 
-    /// The table, changed by one entity of a message of that stamp, in seconds since 1970. One that says that it
-    /// is deleted takes its id away; any other takes the place of what its id had. Or want of memory.
-    pub fn with(self, alloc: Global, entity: &Entity, stamp: u64) -> Result<Table, NoMemory>
-        ensures { IfOk result (λ next. next
-            ≡ changes_with self (entity.now.id, record { entity = entity.now; stamp = stamp })) }
+    /// The table, changed by one entity of a message. One that says that it is deleted takes its id away; any other
+    /// takes the place of what its id had. Or want of memory.
+    pub fn with(self, stored: SharedStored) -> Result<Table, NoMemory>
+        ensures { IfOk result (λ next. next ≡ changes_with self (stored.entity.id, stored)) }
     {
+        let entity = &stored.get().entity;
         if is_deleted(entity) {
             self.without(entity.id.as_str())
         } else {
-            self.put(alloc, entity, stamp)
+            self.put(stored)
         }
     }
 
-    /// The table with the entity in the place of what its id had, whatever the entity says of itself, and with that
-    /// stamp, in seconds since 1970; or want of memory.
-    pub fn put(self, alloc: Global, entity: &Entity, stamp: u64) -> Result<Table, NoMemory>
-        ensures { IfOk result (λ next. next ≡ put (slice_cmp nat_cmp) entity.now.id
-            (record { entity = entity.now; stamp = stamp }) self) }
+    /// The table with the entity in the place of what its id had, whatever the entity says of itself; or want of
+    /// memory.
+    pub fn put(self, stored: SharedStored) -> Result<Table, NoMemory>
+        ensures { IfOk result (λ next. next ≡ put (slice_cmp nat_cmp) stored.entity.id stored self) }
     {
-        let stored = Stored {
-            entity: entity.copy()?,
-            stamp,
-        };
         let Table { list } = self;
         Ok(Table {
-            list: list.with(SharedStored::new(alloc, stored)?)?,
+            list: list.with(stored)?,
         })
     }
 

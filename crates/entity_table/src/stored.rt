@@ -1,4 +1,4 @@
-//! A stored entity that several tables share.
+//! A stored entity that several tables may hold.
 
 ghost use Rattle.std.specs.Prelude.{◌≡◌, IfOk};
 
@@ -9,9 +9,10 @@ use shared_list::Keyed;
 use std::alloc::Global;
 use std::marker::Model;
 
-/// A share of a stored entity. A contract sees the entity.
+/// A share of an entity with its stamp, which are on the heap once for all tables that hold them: a copy is a further
+/// share, and takes no memory. A contract sees the entity and the stamp.
 #[derive(Drop)]
-pub(crate) struct SharedStored {
+pub struct SharedStored {
     inner: Shared<Stored>,
 }
 
@@ -24,8 +25,8 @@ impl Model for SharedStored {
 }
 
 impl SharedStored {
-    /// The first share.
-    pub(crate) fn new(alloc: Global, stored: Stored) -> Result<Self, NoMemory>
+    /// The first share, or want of memory.
+    pub fn new(alloc: Global, stored: Stored) -> Result<Self, NoMemory>
         ensures { IfOk result (λ shared. shared ≡ stored) }
     {
         Ok(SharedStored {
@@ -33,8 +34,8 @@ impl SharedStored {
         })
     }
 
-    /// The entity.
-    pub(crate) fn get(&self) -> &Stored
+    /// The entity and its stamp.
+    pub fn get(&self) -> &Stored
         ensures { result.now ≡ self.now }
     {
         self.inner.get()

@@ -9,7 +9,7 @@ ghost use Rattle.board_defs.specs.Views.{nothing_kept, feed_after};
 use crate::NoMemory;
 use alert_select::AlertIndex;
 use delay_rule::Steps;
-use entity_table::{Table, apply};
+use entity_table::{SharedStored, Stored, Table};
 use rt_types::FeedMessage;
 use sched_types::Plan;
 use std::alloc::Global;
@@ -60,9 +60,31 @@ impl FeedView {
         }
     }
 
-    /// The view after one message more, whose stamp is a moment behind the last one; or want of memory. The
-    /// feed is one of the given timetable. The count of steps rises by up to two for each entity. The two views share
-    /// what the message doesn't touch.
+    /// The view after one message more, whose stamp is a moment after the last one; or out of memory. The message's
+    /// entities are taken out of it, and the two views share what it doesn't touch.
+    pub fn after(alloc: Global, old: &FeedView, message: FeedMessage) -> Result<FeedView, NoMemory>
+        requires moment { IsTrue (is_stamp (stamp_of message)) }
+        requires newer { old.now.fold.stamp < stamp_of message }
+        ensures { IfOk result (λ next. next ≡ feed_after message old.now) }
+    {
+        old.table.sound();
+        let stamp = message.header.timestamp.unwrap_or(0);
+        let mut table = old.table.start(alloc, &message)?;
+        let mut alerts = old.alerts.start(alloc, &message)?;
+        for entity in message.entity.into_vec() {
+            let stored = SharedStored::new(alloc, Stored { entity, stamp })?;
+            alerts = alerts.with(&stored)?;
+            table = table.with(stored)?;
+        }
+        Ok(FeedView {
+            table,
+            alerts,
+            stamp,
+            count: old.count + 1,
+        })
+    }
+
+    /// The same for a feed of the given timetable, with a count of steps, which rises by up to two for each entity.
     pub fn next<L: Ledger>(
         alloc: Global,
         _plan: &Plan,
@@ -75,15 +97,7 @@ impl FeedView {
         ensures after { IfOk result (λ next. next ≡ feed_after message old.now) }
         ensures few { _steps.new ≤ _steps.old + 2 * length message.entity }
     {
-        let table = apply(alloc, &old.table, &message)?;
-        let alerts = old.alerts.after(alloc, &old.table, &message)?;
-        let stamp = message.header.timestamp.unwrap_or(0);
-        Ok(FeedView {
-            table,
-            alerts,
-            stamp,
-            count: old.count + 1,
-        })
+        FeedView::after(alloc, old, message)
     }
 
     /// What the feed holds.

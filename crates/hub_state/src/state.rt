@@ -5,18 +5,16 @@ ghost use Rattle.std.specs.Arc.{arc_value};
 ghost use Rattle.feed_defs.specs.declared.history.Entry.{Entry};
 ghost use Rattle.feed_defs.specs.History.{stamp_of};
 ghost use Rattle.text_defs.specs.Moments.{is_stamp};
-ghost use Rattle.board_defs.specs.Views.{StandsFor, feed_at, feed_after, hub_first, hub_after};
+ghost use Rattle.board_defs.specs.Views.{StandsFor, feed_at, hub_first, hub_after};
 
 use crate::NoMemory;
 use board_core::HubView;
-use delay_rule::Steps;
 use feed_view::FeedView;
 use rt_types::FeedMessage;
-use sched_types::{Plan, Plans};
+use sched_types::Plans;
 use std::alloc::Global;
-use std::marker::{Brand, Model};
+use std::marker::Model;
 use std::sync::Arc;
-use std::sync::ledger::{Blank, Ledger};
 
 /// The state of a hub. A contract sees it as the `HubKept` of its view.
 #[derive(Drop)]
@@ -91,49 +89,6 @@ fn next_view(
     ensures { IfOk result (λ next. next ≡ hub_after feed message view.now) }
 {
     view.sound();
-    let plan = plan_of(view.plans(), feed);
-    let next = feed_after(alloc, plan, &view.feeds()[feed as usize], message)?;
+    let next = FeedView::after(alloc, &view.feeds()[feed as usize], message)?;
     view.with_feed(alloc, feed, next)
-}
-
-/// The timetable of the feed of that number.
-fn plan_of(plans: &Plans, feed: u32) -> &Plan
-    requires { feed < length plans.now.feeds }
-{
-    plans.sound();
-    let plan = plans.feeds()[feed as usize].plan;
-    &plans.plans()[plan as usize].plan
-}
-
-/// The view of a feed after one message more.
-fn feed_after(
-    alloc: Global,
-    plan: &Plan,
-    old: &FeedView,
-    message: FeedMessage,
-) -> Result<FeedView, NoMemory>
-    requires moment { IsTrue (is_stamp (stamp_of message)) }
-    requires newer { old.now.fold.stamp < stamp_of message }
-    ensures { IfOk result (λ next. next ≡ feed_after message old.now) }
-{
-    counted::<Brand>(alloc, plan, old, message, Blank::new(1))
-}
-
-/// The same, with a count of steps of its own.
-fn counted<L: Ledger>(
-    alloc: Global,
-    plan: &Plan,
-    old: &FeedView,
-    message: FeedMessage,
-    blank: Blank,
-) -> Result<FeedView, NoMemory>
-    requires moment { IsTrue (is_stamp (stamp_of message)) }
-    requires newer { old.now.fold.stamp < stamp_of message }
-    requires name { blank.name ≡ L.name }
-    requires parts { blank.parts ≡ L.parts }
-    requires some { 0 < blank.parts }
-    ensures { IfOk result (λ next. next ≡ feed_after message old.now) }
-{
-    let mut steps = Steps::<L>::new(blank);
-    FeedView::next(alloc, plan, old, message, &mut steps)
 }

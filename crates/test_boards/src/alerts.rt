@@ -1,10 +1,10 @@
 //! Periods, and the alerts of a small table after two messages.
 
 use alert_select::{AlertIndex, NoMemory, active};
-use entity_table::{Table, apply};
+use entity_table::{SharedStored, Stored, Table, apply};
 use rt_types::{
-    Alert, Entities, Entity, FeedMessage, Header, Incrementality, Period, Periods, Selectors,
-    Shared, StopUpdates, Text, TripRef, TripUpdate,
+    Alert, Copied, Entities, Entity, FeedMessage, Header, Incrementality, Period, Periods,
+    Selectors, Shared, StopUpdates, Text, TripRef, TripUpdate,
 };
 use sample_city::no_bytes;
 use std::alloc::Global;
@@ -120,18 +120,26 @@ fn message(alloc: Global, kind: Incrementality, words: &[&str]) -> Result<FeedMe
     })
 }
 
+/// The index after the message, entity by entity.
+fn after(alloc: Global, index: &AlertIndex, message: &FeedMessage) -> Result<AlertIndex, NoMemory> {
+    let mut next = index.start(alloc, message)?;
+    for entity in message.entity.as_slice() {
+        let entity = entity.copy()?;
+        next = next.with(&SharedStored::new(alloc, Stored { entity, stamp: 5 })?)?;
+    }
+    Ok(next)
+}
+
 /// The index after two messages, made message by message, and that of the whole table.
 fn indexes(
     alloc: Global,
     first: &FeedMessage,
     second: &FeedMessage,
 ) -> Result<(AlertIndex, AlertIndex), NoMemory> {
-    let nothing = Table::empty(alloc);
-    let index = AlertIndex::empty(alloc).after(alloc, &nothing, first)?;
-    let table = apply(alloc, &nothing, first)?;
-    let after = index.after(alloc, &table, second)?;
+    let index = after(alloc, &AlertIndex::empty(alloc), first)?;
+    let table = apply(alloc, &Table::empty(alloc), first)?;
     let whole = AlertIndex::build(alloc, &apply(alloc, &table, second)?)?;
-    Ok((after, whole))
+    Ok((after(alloc, &index, second)?, whole))
 }
 
 /// Whether an index holds just the alerts of these ids, in their order.

@@ -8,7 +8,7 @@ use board_core::HubView;
 use feed_out::{NoMemory, combined};
 use feed_view::FeedView;
 use rt_types::{Entity, Shared, Text, Vehicle};
-use sample_city::{dataset_of, feed_after, no_bytes};
+use sample_city::{dataset_of, no_bytes};
 use sched_types::{NamedFeed, NamedPlan, Plan, PlanName, Plans};
 use std::alloc::Global;
 use std::sync::Arc;
@@ -77,7 +77,7 @@ fn sent(alloc: Global, entities: Vec<Entity>) -> Result<FeedView, NoMemory>
     ensures { IfOk result (λ view. view.fold.count ≡ 1) }
 {
     let message = dataset_of(alloc, 5, entities)?;
-    feed_after(alloc, &FeedView::empty(alloc), message)
+    FeedView::after(alloc, &FeedView::empty(alloc), message)
 }
 
 /// The combined feed of the schedule of that number, after the feed of that number sent the entity `x`.

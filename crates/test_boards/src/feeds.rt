@@ -6,7 +6,7 @@ use feed_view::FeedView;
 use rt_types::{
     Alert, Entities, Entity, FeedMessage, Header, Incrementality, Periods, Selectors, Shared, Text,
 };
-use sample_city::{NoMemory, feed_after, no_bytes};
+use sample_city::{NoMemory, no_bytes};
 use std::alloc::Global;
 use std::test::Fail;
 
@@ -56,8 +56,8 @@ fn message(
 /// The view of a feed that sent two messages.
 fn spoken(alloc: Global) -> Result<FeedView, NoMemory> {
     let none = FeedView::empty(alloc);
-    let first = feed_after(alloc, &none, message(alloc, 5, "a", Some(alert(alloc)?))?)?;
-    feed_after(alloc, &first, message(alloc, 7, "b", None)?)
+    let first = FeedView::after(alloc, &none, message(alloc, 5, "a", Some(alert(alloc)?))?)?;
+    FeedView::after(alloc, &first, message(alloc, 7, "b", None)?)
 }
 
 #[test]

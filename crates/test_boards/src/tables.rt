@@ -1,6 +1,6 @@
 //! Tables of few ids and of several hundred, with ample memory.
 
-use entity_table::{NoMemory, Table, apply};
+use entity_table::{NoMemory, SharedStored, Stored, Table, apply};
 use rt_types::{Bytes, Entities, Entity, FeedMessage, Header, Incrementality, Text};
 use std::alloc::Global;
 use std::test::Fail;
@@ -142,12 +142,23 @@ fn the_given_table_stays(rt: HostRuntime) -> Result<(), Fail> {
     Ok(())
 }
 
+/// That entity at the stamp 9, for a table to hold.
+fn stored(
+    alloc: Global,
+    id: &str,
+    deleted: Option<bool>,
+    mark: u8,
+) -> Result<SharedStored, NoMemory> {
+    let entity = entity(alloc, id, deleted, mark)?;
+    SharedStored::new(alloc, Stored { entity, stamp: 9 })
+}
+
 /// Whether a share that is changed entity by entity holds what is told, and the given table stays.
 fn changes_one_by_one(alloc: Global) -> Result<bool, NoMemory> {
     let old = after(alloc, &Table::empty(alloc), 7, "~ +a +b +c")?;
     let new = old.share()?;
-    let new = new.with(alloc, &entity(alloc, "d", None, b'x')?, 9)?;
-    let new = new.with(alloc, &entity(alloc, "a", Some(true), b'y')?, 9)?;
+    let new = new.with(stored(alloc, "d", None, b'x')?)?;
+    let new = new.with(stored(alloc, "a", Some(true), b'y')?)?;
     let new = new.without("b")?;
     let told = holds(&new, &[("c", 7, b'3'), ("d", 9, b'x')]);
     Ok(told && holds(&old, &[("a", 7, b'1'), ("b", 7, b'2'), ("c", 7, b'3')]))

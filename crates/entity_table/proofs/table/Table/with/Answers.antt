@@ -1,8 +1,13 @@
 -- A deleted entity takes its id away.
+use Rattle.std.proofs.Common.{false, ap, ◌∙◌}
+use Rattle.std.specs.Prelude.{unwrap_or}
+use Rattle.feed_defs.specs.declared.history.Stored.{Stored}
 use Rattle.entity_table.proofs.TableLemmas.{taken}
 use Rattle.entity_table.proofs.table.Table.with.Goals as goal
 
 pub returns-then-is_deleted : goal.returns-then-is_deleted
 returns-then-is_deleted c =
-    let entity = c.args.entity.now in
-    taken c.without.result c.args.self c.as_str.result.now entity c.args.stamp c.is_deleted.result c.as_str.ensures c.is_deleted.ensures c.if-is_deleted.true c.without.ensures
+    taken c.without.result c.args.self c.as_str.result.now c.args.stored c.is_deleted.result
+    (c.as_str.ensures ∙ ap (λ (s : Stored). s.entity.id) c.get.ensures)
+    (c.is_deleted.ensures ∙ ap (λ (s : Stored). unwrap_or s.entity.is_deleted false) c.get.ensures)
+    c.if-is_deleted.true c.without.ensures
