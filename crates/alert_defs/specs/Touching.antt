@@ -7,8 +7,8 @@ use Rattle.rt_types.specs.declared.alert.Selector.{Selector}
 use Rattle.rt_types.specs.declared.descriptor.TripRef.{TripRef}
 use Rattle.sched_types.specs.declared.rows.Route.{Route}
 use Rattle.sched_types.specs.Timetable.{Timetable, number_of, is_given, names_parent}
-use Rattle.match_defs.specs.declared.found.Found.{Found}
-use Rattle.match_defs.specs.Matching.{match_of}
+use Rattle.trip_match_defs.specs.declared.found.Found.{Found}
+use Rattle.trip_match_defs.specs.Matching.{match_of}
 use Rattle.board_defs.specs.Choice.{is_run_found, is_added_found, is_added_trip}
 use Rattle.board_defs.specs.Rows.{Subject}
 use Rattle.board_defs.specs.Rows.Subject.{RunOf, AddedTrip}

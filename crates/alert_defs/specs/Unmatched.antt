@@ -6,9 +6,9 @@ use Rattle.rt_types.specs.declared.vehicle.Vehicle.{Vehicle}
 use Rattle.feed_defs.specs.History.{Change}
 use Rattle.sched_types.specs.Schedules.{Schedules}
 use Rattle.sched_types.specs.Timetable.{Timetable}
-use Rattle.match_defs.specs.declared.found.Found.{Found}
-use Rattle.match_defs.specs.declared.found.Found.TheVariants as found
-use Rattle.match_defs.specs.Matching.{match_of}
+use Rattle.trip_match_defs.specs.declared.found.Found.{Found}
+use Rattle.trip_match_defs.specs.declared.found.Found.TheVariants as found
+use Rattle.trip_match_defs.specs.Matching.{match_of}
 use Rattle.board_defs.specs.Choice.{stamp_or}
 use Rattle.board_defs.specs.Fold.{FeedFold}
 use Rattle.board_defs.specs.Rows.{timetable_in}

@@ -1,7 +1,7 @@
 //! The rows of lists beside a board.
 
-use match_defs::Why;
 use rt_types::Text;
+use trip_match_defs::Why;
 
 /// An alert of a feed, as a list shows it (GTFS Realtime 2.0, Alert).
 #[derive(Debug, Drop)]

@@ -2,7 +2,7 @@
 use Rattle.std.specs.Prelude.{◌≡◌, ◌<◌, length, IfSome}
 use Rattle.std.specs.Option.{option_and_then, option_map}
 use Rattle.sched_types.specs.Timetable.{Timetable, number_of}
-use Rattle.match_defs.specs.Matching.{match_of}
+use Rattle.trip_match_defs.specs.Matching.{match_of}
 use Rattle.alert_defs.specs.Touching.{stop_with}
 use Rattle.alert_select.specs.declared.aim.Aim.{Aim}
 

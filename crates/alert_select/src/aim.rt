@@ -3,7 +3,7 @@
 ghost use Rattle.std.specs.Prelude.{◌≡◌, ◌<◌, length, IfSome};
 ghost use Rattle.std.specs.Option.{option_and_then, option_map};
 ghost use Rattle.sched_types.specs.Timetable.{number_of};
-ghost use Rattle.match_defs.specs.Matching.{match_of};
+ghost use Rattle.trip_match_defs.specs.Matching.{match_of};
 ghost use Rattle.alert_defs.specs.Touching.{stop_with};
 ghost use Rattle.alert_select.specs.Aims.{IsAim};
 

@@ -3,7 +3,7 @@
 ghost use Rattle.std.specs.Prelude.{◌≡◌, ◌<◌, Bool, ◌||◌, ◌&&◌, length, slice_get, IfSome};
 ghost use Rattle.std.specs.Option.{is_some, is_none, option_and_then, option_map};
 ghost use Rattle.sched_types.specs.Timetable.{is_given, names_parent};
-ghost use Rattle.match_defs.specs.Matching.{match_of};
+ghost use Rattle.trip_match_defs.specs.Matching.{match_of};
 ghost use Rattle.board_defs.specs.Choice as choosing;
 ghost use Rattle.board_defs.specs.Choice.{is_run_found};
 ghost use Rattle.board_defs.specs.Rows.Subject.{RunOf, AddedTrip};

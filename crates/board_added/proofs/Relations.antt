@@ -10,12 +10,12 @@ use Rattle.sched_types.specs.Timetable.{Timetable, number_of, is_run, day_with_d
 use Rattle.sched_types.specs.Departures.{departs_so}
 use Rattle.text_defs.specs.Dates.{date_in}
 use Rattle.text_defs.specs.Times.{time_in}
-use Rattle.match_defs.specs.declared.found.Found.{Found}
-use Rattle.match_defs.specs.declared.found.Found.TheVariants as found
-use Rattle.match_defs.specs.declared.found.Near.{Near}
-use Rattle.match_defs.specs.declared.found.Why.TheVariants as why
-use Rattle.match_defs.specs.Texts.{text_given}
-use Rattle.match_defs.specs.Matching.{match_of, first_rule, rule_1_relation, unless_date, rule_2_start_date, rule_3_added_trip, run_on, run_of_trip, trip_with, rule_4_trip_id, is_near, nearest, run_near, by_near, run_near_instant, rule_5_nearest_day, only_trip, trips_running, on_route, on_day, at_time, rule_6_route_and_time, relation_of, start_day}
+use Rattle.trip_match_defs.specs.declared.found.Found.{Found}
+use Rattle.trip_match_defs.specs.declared.found.Found.TheVariants as found
+use Rattle.trip_match_defs.specs.declared.found.Near.{Near}
+use Rattle.trip_match_defs.specs.declared.found.Why.TheVariants as why
+use Rattle.trip_match_defs.specs.Texts.{text_given}
+use Rattle.trip_match_defs.specs.Matching.{match_of, first_rule, rule_1_relation, unless_date, rule_2_start_date, rule_3_added_trip, run_on, run_of_trip, trip_with, rule_4_trip_id, is_near, nearest, run_near, by_near, run_near_instant, rule_5_nearest_day, only_trip, trips_running, on_route, on_day, at_time, rule_6_route_and_time, relation_of, start_day}
 use Rattle.board_defs.specs.Choice.{is_added_found}
 use Rattle.board_added.specs.Added.{is_added_relation}
 

@@ -4,7 +4,7 @@ ghost use Rattle.std.specs.Prelude.{◌≡◌, ◌<◌, length, IfOk, IfSome};
 ghost use Rattle.std.specs.List.{All};
 ghost use Rattle.std.specs.Option.{option_or, option_and_then};
 ghost use Rattle.sched_types.specs.Timetable.{number_of};
-ghost use Rattle.delay_defs.specs.Delays.{relation_of};
+ghost use Rattle.delay_rule_defs.specs.Delays.{relation_of};
 ghost use Rattle.board_defs.specs.Rows as rule;
 ghost use Rattle.board_added.specs.Added.{IsCall};
 

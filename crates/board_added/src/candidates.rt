@@ -5,14 +5,13 @@ ghost use Rattle.std.specs.Arc.{arc_value};
 ghost use Rattle.std.specs.List.{filter_map};
 ghost use Rattle.board_defs.specs.Choice as choosing;
 ghost use Rattle.board_defs.specs.Choice.{stamp_or};
-ghost use Rattle.match_defs.specs.Matching.{match_of};
+ghost use Rattle.trip_match_defs.specs.Matching.{match_of};
 ghost use Rattle.board_added.specs.Added.{is_added_relation, added_in, added_stored, added_feed, added_from, key_cmp, full_cmp};
 
 use crate::NoMemory;
 use crate::row::text_of;
 use entity_table::{Stored, Table};
 use feed_view::FeedView;
-use match_defs::Found;
 use rt_types::{TripRef, TripRelation, TripUpdate};
 use sched_types::{NamedFeed, Plan};
 use std::alloc::Global;
@@ -21,6 +20,7 @@ use std::marker::Model;
 use std::sync::Arc;
 use texts::LAST_MOMENT;
 use trip_match::find;
+use trip_match_defs::Found;
 
 /// An update of an added trip. A contract sees it as `Update`.
 #[derive(Drop)]

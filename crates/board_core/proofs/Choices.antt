@@ -16,9 +16,9 @@ use Rattle.sched_types.specs.declared.plans.NamedFeed.{NamedFeed}
 use Rattle.sched_types.specs.declared.rows.Run.{Run}
 use Rattle.sched_types.specs.Timetable.{Timetable}
 use Rattle.sched_types.proofs.DepartureOrder.{kept}
-use Rattle.match_defs.specs.declared.found.Found.{Found}
-use Rattle.match_defs.specs.declared.found.Found.TheVariants as found
-use Rattle.match_defs.specs.Matching.{match_of}
+use Rattle.trip_match_defs.specs.declared.found.Found.{Found}
+use Rattle.trip_match_defs.specs.declared.found.Found.TheVariants as found
+use Rattle.trip_match_defs.specs.Matching.{match_of}
 use Rattle.order.specs.Order.{greatest}
 use Rattle.board_defs.specs.Fold.{FeedFold}
 use Rattle.board_defs.specs.Choice.{Update, update_in, updates_from, is_run_found, is_about, choice_cmp, chosen}

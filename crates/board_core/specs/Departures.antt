@@ -8,9 +8,9 @@ use Rattle.rt_types.specs.declared.trip_update.TripUpdate.{TripUpdate}
 use Rattle.sched_types.specs.declared.rows.Place.{Place}
 use Rattle.sched_types.specs.declared.rows.Run.{Run}
 use Rattle.sched_types.specs.Timetable.{Timetable, is_run, places_of}
-use Rattle.delay_defs.specs.Delays.{states}
+use Rattle.delay_rule_defs.specs.Delays.{states}
 use Rattle.delay_rule.specs.Near.{IsNearState}
-use Rattle.match_defs.specs.Matching.{relation_of}
+use Rattle.trip_match_defs.specs.Matching.{relation_of}
 use Rattle.board_defs.specs.Rows.{BoardRow, RunOf, Shown, as_scheduled, by_relation, is_within, is_asked, may_board, stands_at, departures_of, row_of, route_text, stop_id_of, date_text}
 use Rattle.board_core.specs.Told.{Told, update_for}
 use Rattle.board_core.specs.declared.departure.Asked.{Asked}

@@ -11,9 +11,9 @@ use Rattle.feed_defs.specs.History.{Change}
 use Rattle.sched_types.specs.declared.plans.NamedFeed.{NamedFeed}
 use Rattle.sched_types.specs.declared.rows.Run.{Run}
 use Rattle.sched_types.specs.Timetable.{Timetable}
-use Rattle.match_defs.specs.declared.found.Found.{Found}
-use Rattle.match_defs.specs.declared.found.Found.TheVariants as found
-use Rattle.match_defs.specs.Matching.{match_of}
+use Rattle.trip_match_defs.specs.declared.found.Found.{Found}
+use Rattle.trip_match_defs.specs.declared.found.Found.TheVariants as found
+use Rattle.trip_match_defs.specs.Matching.{match_of}
 use Rattle.order.specs.Order.{greatest}
 use Rattle.board_defs.specs.Choice.{Update, update_in, choice_cmp}
 use Rattle.board_defs.specs.Fold.{FeedFold}

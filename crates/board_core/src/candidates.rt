@@ -10,7 +10,6 @@ use crate::NoMemory;
 use board_added::stamp_of;
 use entity_table::{Stored, Table};
 use feed_view::FeedView;
-use match_defs::Found;
 use rt_types::TripUpdate;
 use sched_types::{NamedFeed, Plan, Run};
 use std::alloc::Global;
@@ -18,6 +17,7 @@ use std::cmp::Ordering;
 use std::marker::Model;
 use std::sync::Arc;
 use trip_match::find;
+use trip_match_defs::Found;
 
 /// What runs are ordered by: the day and then the trip, by their numbers.
 #[derive(Clone, Copy, PartialEq, Eq, PartialOrd, Ord, Drop)]

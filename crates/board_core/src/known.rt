@@ -4,7 +4,7 @@ ghost use Rattle.std.specs.Prelude.{◌≡◌, ◌<◌, Some, IfOk, IfSome, IsTr
 ghost use Rattle.std.specs.List.{All};
 ghost use Rattle.std.specs.Option.{option_map, option_copied};
 ghost use Rattle.sched_types.specs.Timetable.{is_run};
-ghost use Rattle.delay_defs.specs.Delays.{states};
+ghost use Rattle.delay_rule_defs.specs.Delays.{states};
 ghost use Rattle.delay_rule.specs.Near.{IsNear, IsNearState};
 ghost use Rattle.board_defs.specs.Rows.{by_relation, by_state};
 ghost use Rattle.board_core.specs.Departures.{Knows, shown_by, as_shown};

@@ -5,9 +5,9 @@ use Rattle.std.specs.List.{list_any}
 use Rattle.rt_types.specs.declared.enums.StopRelation.TheVariants.{Skipped, NoData}
 use Rattle.rt_types.specs.declared.trip_update.StopUpdate.{StopUpdate}
 use Rattle.text_defs.specs.Dates.{is_day, date_plus, next_day, date_in}
-use Rattle.delay_defs.specs.Delays.{states}
-use Rattle.delay_defs.specs.Line.{line}
-use Rattle.match_defs.specs.Matching.{match_of, by_near}
+use Rattle.delay_rule_defs.specs.Delays.{states}
+use Rattle.delay_rule_defs.specs.Line.{line}
+use Rattle.trip_match_defs.specs.Matching.{match_of, by_near}
 use Rattle.board_defs.specs.declared.row.RowState.{RowState}
 use Rattle.board_defs.specs.declared.row.RowState.TheVariants as state
 use Rattle.board_defs.specs.Choice.{Update, chosen}

@@ -22,10 +22,10 @@ use Rattle.sched_types.specs.declared.rows.Stop.{Stop}
 use Rattle.sched_types.specs.declared.rows.Trip.{Trip}
 use Rattle.sched_types.specs.Schedules.{Schedules}
 use Rattle.sched_types.specs.Timetable.{Timetable, number_of, places_of, is_run, is_given, base_of, dates_of}
-use Rattle.delay_defs.specs.declared.state.StopState.{StopState}
-use Rattle.delay_defs.specs.Delays.{states}
-use Rattle.delay_defs.specs.Delays.{relation_of as served_as}
-use Rattle.match_defs.specs.Matching.{relation_of}
+use Rattle.delay_rule_defs.specs.declared.state.StopState.{StopState}
+use Rattle.delay_rule_defs.specs.Delays.{states}
+use Rattle.delay_rule_defs.specs.Delays.{relation_of as served_as}
+use Rattle.trip_match_defs.specs.Matching.{relation_of}
 use Rattle.order.specs.Order.{ordered}
 use Rattle.text_defs.specs.Moments.{last_moment}
 use Rattle.board_defs.specs.declared.call.Call.{Call}

@@ -16,12 +16,12 @@ use board_added::stamp_of;
 use board_core::HubView;
 use entity_table::{Stored, Table};
 use feed_view::FeedView;
-use match_defs::Found;
 use rt_types::{Copied, Text, TripRef};
 use sched_types::{NamedFeed, Plan};
 use std::alloc::Global;
 use std::sync::Arc;
 use trip_match::find;
+use trip_match_defs::Found;
 
 /// The trip updates and vehicles, in the feeds of the schedule of that number, whose trip is no run of its
 /// timetable and no added trip, and why, by feed and then by id, a trip update before its vehicle; or want of

@@ -10,8 +10,8 @@ use crate::cells::feed_name;
 use crate::lines::push_line;
 use alert_defs::Unmatched;
 use board_core::HubView;
-use match_defs::Why;
 use sched_types::NamedFeed;
+use trip_match_defs::Why;
 
 /// Appends the list of unmatched trips of a view's feeds: a line with the names of the columns, and a line for
 /// each row, with the name of its feed. Want of memory leaves `out` as it was.

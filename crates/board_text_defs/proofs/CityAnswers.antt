@@ -8,8 +8,8 @@ use Rattle.feed_defs.specs.declared.history.Entry.{Entry}
 use Rattle.feed_defs.specs.History.{messages_of, since_full, changes_by_id, entities_of}
 use Rattle.sched_types.specs.City.{city}
 use Rattle.sched_types.specs.Schedules.{Schedules}
-use Rattle.match_defs.specs.Matching.{match_of, by_near}
-use Rattle.delay_defs.specs.Delays.{states}
+use Rattle.trip_match_defs.specs.Matching.{match_of, by_near}
+use Rattle.delay_rule_defs.specs.Delays.{states}
 use Rattle.order.specs.Order.{inserted, ordered}
 use Rattle.board_defs.specs.declared.row.Row.{Row}
 use Rattle.board_defs.specs.declared.row.RowState.TheVariants as state

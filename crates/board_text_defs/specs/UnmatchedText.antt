@@ -3,8 +3,8 @@
 use Rattle.std.specs.Prelude.{ℕ, Bool, true, false, List, [], ◌∷◌, ◌++◌, codes}
 use Rattle.std.specs.List.{flat_map}
 use Rattle.sched_types.specs.declared.plans.NamedFeed.{NamedFeed}
-use Rattle.match_defs.specs.declared.found.Why.{Why}
-use Rattle.match_defs.specs.declared.found.Why.TheVariants as why
+use Rattle.trip_match_defs.specs.declared.found.Why.{Why}
+use Rattle.trip_match_defs.specs.declared.found.Why.TheVariants as why
 use Rattle.alert_defs.specs.declared.rows.Unmatched.{Unmatched}
 use Rattle.board_text_defs.specs.Lines.{line_of_fields}
 use Rattle.board_text_defs.specs.Alerts.{feed_name}

@@ -12,7 +12,7 @@ use Rattle.rt_types.specs.declared.trip_update.TripUpdate.{TripUpdate}
 use Rattle.sched_types.specs.declared.rows.Place.{Place}
 use Rattle.sched_types.specs.declared.rows.Run.{Run}
 use Rattle.sched_types.specs.Timetable.{Timetable, places_of, base_of}
-use Rattle.delay_defs.specs.Delays.{EventDelays, fits, placements_of, taken, event_delays_at, relation_of, carry_of, carry_of_update, carry_at, plain, state_by, state_with, state_at, states}
+use Rattle.delay_rule_defs.specs.Delays.{EventDelays, fits, placements_of, taken, event_delays_at, relation_of, carry_of, carry_of_update, carry_at, plain, state_by, state_with, state_at, states}
 use Rattle.delay_rule.specs.Pass.{state_here, turned, walked}
 use Rattle.delay_rule.proofs.Ranges.{map_split, map_same, map_constant}
 use Rattle.delay_rule.proofs.Search.{found_within}

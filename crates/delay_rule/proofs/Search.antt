@@ -12,7 +12,7 @@ use Rattle.std.proofs.lemmas.Option.{slice_get-get_or}
 use Rattle.std.proofs.Math.ListN.{drop_of_length-le}
 use Rattle.sched_types.specs.declared.rows.Place.{Place}
 use Rattle.sched_types.specs.Timetable.{Timetable, number_of, is_given}
-use Rattle.delay_defs.specs.Delays.{is_at}
+use Rattle.delay_rule_defs.specs.Delays.{is_at}
 use Rattle.delay_rule.specs.Pass.{SequencesRise}
 
 -- where it lies

@@ -6,8 +6,8 @@ use Rattle.sched_types.specs.declared.rows.Place.{Place}
 use Rattle.rt_types.specs.declared.trip_update.TripUpdate.{TripUpdate}
 use Rattle.sched_types.specs.declared.rows.Run.{Run}
 use Rattle.sched_types.specs.Timetable.{Timetable, places_of}
-use Rattle.delay_defs.specs.declared.state.StopState.{StopState}
-use Rattle.delay_defs.specs.Delays.{fits, relation_of, plain, state_by, states}
+use Rattle.delay_rule_defs.specs.declared.state.StopState.{StopState}
+use Rattle.delay_rule_defs.specs.Delays.{fits, relation_of, plain, state_by, states}
 use Rattle.delay_rule.specs.Near.{IsNear, AddsNear}
 use Rattle.delay_rule.specs.Pass.{told_by, state_here, turned, walked, StartsWith}
 use Rattle.delay_rule.proofs.NearLaw.{adds_on}

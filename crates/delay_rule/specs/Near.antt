@@ -1,7 +1,7 @@
 -- How large the delays are that the pass writes.
 use Rattle.std.specs.Prelude.{◌≡◌, List, ◌++◌, IfSome, ℤ, pos, negsuc, ◌≤ℤ◌}
 use Rattle.std.specs.List.{All}
-use Rattle.delay_defs.specs.declared.state.StopState.{StopState}
+use Rattle.delay_rule_defs.specs.declared.state.StopState.{StopState}
 
 -- within two trillion seconds, so that its sum with a scheduled instant stays far within 64 bits
 pub record IsNear (seconds : ℤ) : Type 0 where

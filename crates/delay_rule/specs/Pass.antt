@@ -4,8 +4,8 @@ use Rattle.std.specs.List.{position_from}
 use Rattle.rt_types.specs.declared.trip_update.StopUpdate.{StopUpdate}
 use Rattle.sched_types.specs.declared.rows.Place.{Place}
 use Rattle.sched_types.specs.Timetable.{Timetable}
-use Rattle.delay_defs.specs.declared.state.StopState.{StopState}
-use Rattle.delay_defs.specs.Delays.{EventDelays, fits, event_delay, relation_of, plain, state_by}
+use Rattle.delay_rule_defs.specs.declared.state.StopState.{StopState}
+use Rattle.delay_rule_defs.specs.Delays.{EventDelays, fits, event_delay, relation_of, plain, state_by}
 
 -- the places have rising stop_sequence
 pub record SequencesRise (places : List Place) : Type 0 where

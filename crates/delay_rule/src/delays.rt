@@ -1,12 +1,12 @@
 // What an update tells of the place that it takes.
 ghost use Rattle.std.specs.Prelude.{◌≡◌, true, pos, ◌+ℤ◌, ◌-ℤ◌, IfSome};
 ghost use Rattle.sched_types.specs.Timetable.{IsSmall};
-ghost use Rattle.delay_defs.specs.Delays as rule;
-ghost use Rattle.delay_defs.specs.Delays.{is_instant, relation_of, state_by};
+ghost use Rattle.delay_rule_defs.specs.Delays as rule;
+ghost use Rattle.delay_rule_defs.specs.Delays.{is_instant, relation_of, state_by};
 ghost use Rattle.delay_rule.specs.Near.{IsNear, IsNearState};
 ghost use Rattle.delay_rule.specs.Pass.{told_by};
 
-use delay_defs::StopState;
+use delay_rule_defs::StopState;
 use rt_types::{Event, StopRelation, StopUpdate};
 use sched_types::Place;
 use texts::LAST_MOMENT;

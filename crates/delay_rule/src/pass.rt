@@ -3,15 +3,15 @@ ghost use Rattle.std.specs.Prelude.{◌≡◌, ◌+◌, ◌≤◌, ◌∷◌, �
 ghost use Rattle.std.specs.List.{All};
 ghost use Rattle.rt_types.specs.declared.trip_update.StopUpdate.{StopUpdate};
 ghost use Rattle.sched_types.specs.Timetable.{IsSmall, is_run};
-ghost use Rattle.delay_defs.specs.Delays as rule;
-ghost use Rattle.delay_defs.specs.Delays.{states};
+ghost use Rattle.delay_rule_defs.specs.Delays as rule;
+ghost use Rattle.delay_rule_defs.specs.Delays.{states};
 ghost use Rattle.delay_rule.specs.Near.{IsNear, IsNearState, AddsNear};
 ghost use Rattle.delay_rule.specs.Pass.{SequencesRise, StartsWith, walked};
 
 use crate::delays::{plain, state_of, widened};
 use crate::places::place_for;
 use crate::steps::Steps;
-use delay_defs::StopState;
+use delay_rule_defs::StopState;
 use rt_types::{StopUpdate, TripUpdate};
 use sched_types::{Place, Plan, Run};
 use std::alloc::AllocError;
@@ -104,7 +104,7 @@ fn fill(
 /// Appends the state of each place of the run, in order, and adds one step. Where memory is wanting, the
 /// states are as they were before, and the step is added all the same.
 ///
-/// The rules are those of GTFS Realtime (TripUpdate) as `delay_defs` says them: updates take places in
+/// The rules are those of GTFS Realtime (TripUpdate) as `delay_rule_defs` says them: updates take places in
 /// order, and a delay holds up to the next place with one. Each delay is within two trillion seconds.
 pub fn walk<L: Ledger>(
     plan: &Plan,

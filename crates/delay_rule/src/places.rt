@@ -1,7 +1,7 @@
 // Which place of a trip an update is about.
 ghost use Rattle.std.specs.Prelude.{◌≡◌, ◌<◌, ◌≤◌, ◌==◌, length, drop, IfSome};
 ghost use Rattle.std.specs.List.{position_from};
-ghost use Rattle.delay_defs.specs.Delays.{fits, is_at};
+ghost use Rattle.delay_rule_defs.specs.Delays.{fits, is_at};
 ghost use Rattle.delay_rule.specs.Pass.{SequencesRise};
 
 use rt_types::{StopUpdate, Text};

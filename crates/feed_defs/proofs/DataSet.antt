@@ -11,10 +11,10 @@ use Rattle.rt_types.specs.declared.message.FeedMessage.{FeedMessage}
 use Rattle.rt_types.specs.declared.message.Header.{Header}
 use Rattle.answer_defs.specs.Steps.{◌>>=◌}
 use Rattle.answer_defs.proofs.Steps.{bind_ok, ok_is}
-use Rattle.wire_defs.specs.Field.Payload.{Span}
-use Rattle.wire_defs.specs.Writing.{field_bytes}
-use Rattle.wire_defs.proofs.Bytes.{AreBytes}
-use Rattle.wire_defs.proofs.Again.{as_field}
+use Rattle.pb_wire_defs.specs.Field.Payload.{Span}
+use Rattle.pb_wire_defs.specs.Writing.{field_bytes}
+use Rattle.pb_wire_defs.proofs.Bytes.{AreBytes}
+use Rattle.pb_wire_defs.proofs.Again.{as_field}
 use Rattle.feed_defs.specs.Enums.{incrementality}
 use Rattle.feed_defs.specs.Rows.{span_in, occurrences_of, last_of, unknown_bytes_of, fields_of_all, value, message_bytes, numbered_values, with_entity_number, text, u64, embedded, optional, required, numbered, write_all, ◌⊕◌}
 use Rattle.feed_defs.specs.Table.{header_shape, header, entity, feed_shape, feed, read, write}

@@ -12,12 +12,12 @@ use Rattle.std.proofs.lemmas.Bool.{eqb-true, eq-eqb, cases_lt}
 use Rattle.std.proofs.lemmas.List.{length-append}
 use Rattle.rt_types.specs.declared.fault.Kind.{Kind}
 use Rattle.rt_types.specs.declared.vehicle.Degrees.{Degrees}
-use Rattle.wire_defs.specs.Field.{Payload, Field}
-use Rattle.wire_defs.specs.Field.Payload.{Varint, Eight, Span, Four, Group}
-use Rattle.wire_defs.specs.Writing.{varint, payload_bytes}
-use Rattle.wire_defs.proofs.Bytes.{AreBytes}
+use Rattle.pb_wire_defs.specs.Field.{Payload, Field}
+use Rattle.pb_wire_defs.specs.Field.Payload.{Varint, Eight, Span, Four, Group}
+use Rattle.pb_wire_defs.specs.Writing.{varint, payload_bytes}
+use Rattle.pb_wire_defs.proofs.Bytes.{AreBytes}
 use Rattle.answer_defs.proofs.Steps.{bind_ok}
-use Rattle.wire_defs.proofs.Again.{IsInRange, WasInRange, CarriesBytes, WasRead}
+use Rattle.pb_wire_defs.proofs.Again.{IsInRange, WasInRange, CarriesBytes, WasRead}
 use Rattle.feed_defs.specs.Rows.{Fault, Message, FieldKind, value_under, occurrences_of, last_of, varint_in, span_in, bool_in, bool_payload, degrees_in, degrees_payload, scalar, u64, u32, i32, i64, degrees, bool, choice, text, as_text, merged_message, embedded, value, message_bytes}
 use Rattle.feed_defs.proofs.Sifted.{said_same}
 

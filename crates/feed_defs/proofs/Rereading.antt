@@ -19,13 +19,13 @@ use Rattle.rt_types.specs.declared.enums.Effect.{Effect}
 use Rattle.rt_types.specs.declared.enums.Effect.TheVariants as effect_value
 use Rattle.rt_types.specs.declared.message.FeedMessage.{FeedMessage}
 use Rattle.answer_defs.specs.Steps.{◌>>=◌}
-use Rattle.wire_defs.specs.Field.{Field, Fault as WireFault}
-use Rattle.wire_defs.specs.Spelling.{IsField}
-use Rattle.wire_defs.specs.Reading.{fields_of}
-use Rattle.wire_defs.specs.Writing.{Written, field_bytes}
-use Rattle.wire_defs.proofs.Bytes.{AreBytes}
+use Rattle.pb_wire_defs.specs.Field.{Field, Fault as WireFault}
+use Rattle.pb_wire_defs.specs.Spelling.{IsField}
+use Rattle.pb_wire_defs.specs.Reading.{fields_of}
+use Rattle.pb_wire_defs.specs.Writing.{Written, field_bytes}
+use Rattle.pb_wire_defs.proofs.Bytes.{AreBytes}
 use Rattle.answer_defs.proofs.Steps.{bind_ok, ok_is}
-use Rattle.wire_defs.proofs.Again.{IsInRange, IsSpellable, WasRead, as_field, found_again, were_read, AllByRecursion-filter}
+use Rattle.pb_wire_defs.proofs.Again.{IsInRange, IsSpellable, WasRead, as_field, found_again, were_read, AllByRecursion-filter}
 use Rattle.feed_defs.specs.Rows.{Fault, fault, wire_what, Message, Shape, Rows, fields_in, unknown_bytes_of, fields_of_all, value, message_bytes, message, text, u32, u64, i32, i64, degrees, bool, embedded, optional, required, repeated, numbered, ◌⊕◌}
 use Rattle.feed_defs.specs.Enums.{incrementality_named, incrementality_number, incrementality, stop_relation_named, stop_relation_number, stop_relation, trip_relation_named, trip_relation_number, trip_relation, stop_status_named, stop_status_number, stop_status, cause_named, cause_number, cause, effect_named, effect_number, effect}
 use Rattle.feed_defs.specs.Table.{trip_descriptor_shape, trip_descriptor, vehicle_descriptor_shape, vehicle_descriptor, stop_time_event_shape, stop_time_event, stop_time_properties_shape, stop_time_properties, stop_time_update_shape, stop_time_update, trip_update_shape, trip_update, position_shape, position, vehicle_position_shape, vehicle_position, time_range_shape, time_range, entity_selector_shape, entity_selector, translation_shape, translation, translated_string_shape, translated_string, alert_shape, alert, header_shape, header, entity_shape, entity, feed_shape, feed, read, write}

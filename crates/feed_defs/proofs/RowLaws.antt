@@ -7,12 +7,12 @@ use Rattle.std.proofs.lemmas.List.{length-append, map-append}
 use Rattle.std.proofs.lemmas.List.Elements.{filter-append}
 use Rattle.rt_types.specs.declared.fault.Kind.{Kind}
 use Rattle.answer_defs.specs.Steps.{◌>>=◌}
-use Rattle.wire_defs.specs.Field.{Field, tag_of}
-use Rattle.wire_defs.specs.Field.Payload.{Span}
-use Rattle.wire_defs.specs.Writing.{Written, varint, payload_bytes, field_bytes}
-use Rattle.wire_defs.proofs.Bytes.{AreBytes}
+use Rattle.pb_wire_defs.specs.Field.{Field, tag_of}
+use Rattle.pb_wire_defs.specs.Field.Payload.{Span}
+use Rattle.pb_wire_defs.specs.Writing.{Written, varint, payload_bytes, field_bytes}
+use Rattle.pb_wire_defs.proofs.Bytes.{AreBytes}
 use Rattle.answer_defs.proofs.Steps.{bind_ok}
-use Rattle.wire_defs.proofs.Again.{IsInRange, WasRead, as_field}
+use Rattle.pb_wire_defs.proofs.Again.{IsInRange, WasRead, as_field}
 use Rattle.feed_defs.specs.Rows.{Fault, Message, FieldKind, Rows, value_under, occurrences_of, span_in, value, message_bytes, values, with_entity_number, numbered_values, optional, required, required_value, repeated, numbered, write_if, write_all, both, ◌⊕◌}
 use Rattle.feed_defs.proofs.Sifted.{each_then, each_append, filter_none, same_within}
 use Rattle.feed_defs.proofs.FieldKinds.{Rereads, IsLawfulKind, at_number, at_own, span_fits, occurring_same, occurring_none, occurring_own, occurring_bytes}

@@ -11,7 +11,7 @@ use Rattle.std.proofs.lemmas.List.{reverse-append}
 use Rattle.std.proofs.lemmas.List.Concat.{flat_map-cons}
 use Rattle.rt_types.specs.declared.message.Entity.{Entity}
 use Rattle.rt_types.specs.declared.message.FeedMessage.{FeedMessage}
-use Rattle.wire_defs.proofs.Again.{AllByRecursion-filter}
+use Rattle.pb_wire_defs.proofs.Again.{AllByRecursion-filter}
 use Rattle.feed_defs.specs.declared.history.Entry.{Entry}
 use Rattle.feed_defs.specs.History.{Change, stamp_of, is_full, since_full, changes_in, changes_of, is_kept, changes_by_id, entities_of, message_of, messages_of}
 use Rattle.feed_defs.proofs.Sifted.{each_append}

@@ -7,11 +7,11 @@ use Rattle.std.specs.Str.{is_utf8}
 use Rattle.rt_types.specs.declared.fault.Kind.{Kind}
 use Rattle.answer_defs.specs.Steps.{◌>>=◌}
 use Rattle.answer_defs.proofs.Steps.{bind_ok, ok_is}
-use Rattle.wire_defs.specs.Field.{Field}
-use Rattle.wire_defs.specs.Field.Payload.{Span}
-use Rattle.wire_defs.specs.Writing.{payload_bytes, field_bytes}
-use Rattle.wire_defs.proofs.Bytes.{AreBytes}
-use Rattle.wire_defs.proofs.Again.{IsInRange, WasRead, as_field}
+use Rattle.pb_wire_defs.specs.Field.{Field}
+use Rattle.pb_wire_defs.specs.Field.Payload.{Span}
+use Rattle.pb_wire_defs.specs.Writing.{payload_bytes, field_bytes}
+use Rattle.pb_wire_defs.proofs.Bytes.{AreBytes}
+use Rattle.pb_wire_defs.proofs.Again.{IsInRange, WasRead, as_field}
 use Rattle.feed_defs.specs.Rows.{Message, Shape, FieldKind, Rows, unknown_bytes_of, fields_of_all, span_in, occurrences_of, value, message_bytes, message, values, text, embedded, optional, required, repeated, write_if, write_all, ◌⊕◌}
 use Rattle.feed_defs.proofs.Sifted.{each_append}
 use Rattle.feed_defs.proofs.FieldKinds.{Rereads, IsLawfulKind, carrying, last_own, text_is, text_again, text_lawful, span_fits, occurring_bytes, occurring_none, occurring_own, merged_is, merged_again, embedded_lawful}

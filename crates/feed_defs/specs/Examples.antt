@@ -12,8 +12,8 @@ use Rattle.rt_types.specs.declared.enums.StopStatus.TheVariants as status
 use Rattle.rt_types.specs.declared.enums.TripRelation.TheVariants as relation
 use Rattle.rt_types.specs.declared.fault.Kind.TheVariants as kind
 use Rattle.rt_types.specs.declared.fault.What.TheVariants as what
-use Rattle.wire_defs.specs.Reading.{groups_at, varint_at, span_at, tag_at, payload_at, field_with, behind_end, group_at, field_at, fields_within, fields_of}
-use Rattle.wire_defs.specs.Writing.{groups, varint, payload_bytes, field_bytes}
+use Rattle.pb_wire_defs.specs.Reading.{groups_at, varint_at, span_at, tag_at, payload_at, field_with, behind_end, group_at, field_at, fields_within, fields_of}
+use Rattle.pb_wire_defs.specs.Writing.{groups, varint, payload_bytes, field_bytes}
 use Rattle.feed_defs.specs.History.{is_full}
 use Rattle.feed_defs.specs.Renamed.{renamed_entity, renamed_vehicle}
 use Rattle.feed_defs.specs.Rows.{Fault, occurrences_of, last_of, unknown_bytes_of, fields_of_all, value, message_bytes, merged_message, values, numbered_values, fault}

@@ -12,7 +12,7 @@ use Rattle.rt_types.specs.declared.message.FeedMessage.{FeedMessage}
 use Rattle.feed_defs.specs.declared.history.Entry.{Entry}
 use Rattle.feed_defs.specs.declared.history.Stored.{Stored}
 use Rattle.text_defs.specs.Moments.{last_moment}
-use Rattle.wire_defs.specs.Spelling.{AreBytes}
+use Rattle.pb_wire_defs.specs.Spelling.{AreBytes}
 use Rattle.feed_defs.specs.Rows.{Fault}
 use Rattle.feed_defs.specs.Table.{read}
 

@@ -11,11 +11,11 @@ use Rattle.rt_types.specs.declared.fault.What.{What}
 use Rattle.rt_types.specs.declared.fault.What.TheVariants as what
 use Rattle.rt_types.specs.declared.vehicle.Degrees.{Degrees}
 use Rattle.answer_defs.specs.Steps.{◌>>=◌}
-use Rattle.wire_defs.specs.Field.{Payload, Field, Fault as WireFault}
-use Rattle.wire_defs.specs.Field.Payload.{Varint, Eight, Span, Four, Group}
-use Rattle.wire_defs.specs.Field.Fault.{Cut, Overlong, BadTag, BadGroup}
-use Rattle.wire_defs.specs.Reading.{fields_of}
-use Rattle.wire_defs.specs.Writing.{Written, field_bytes}
+use Rattle.pb_wire_defs.specs.Field.{Payload, Field, Fault as WireFault}
+use Rattle.pb_wire_defs.specs.Field.Payload.{Varint, Eight, Span, Four, Group}
+use Rattle.pb_wire_defs.specs.Field.Fault.{Cut, Overlong, BadTag, BadGroup}
+use Rattle.pb_wire_defs.specs.Reading.{fields_of}
+use Rattle.pb_wire_defs.specs.Writing.{Written, field_bytes}
 
 -- what is wrong first: in which entity (0: in the header or outside of all), what, in which message
 -- and field

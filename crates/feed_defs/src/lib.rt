@@ -6,7 +6,7 @@
 //! what it holds of a history (`History`), and how an entity stands in a feed of several (`Combined`). They compute,
 //! and `Examples` computes them on whole messages. The `proofs/` have the laws between them.
 //!
-//! The crate stands on `wire_defs`, whose fields it reads, and on `rt_types`, whose structs are the
+//! The crate stands on `pb_wire_defs`, whose fields it reads, and on `rt_types`, whose structs are the
 //! messages that it speaks of. Its own code is two structs, of which a history and its fold are made, and the length that
 //! code compares with.
 #![tactic(auto)]

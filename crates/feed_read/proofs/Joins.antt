@@ -2,7 +2,7 @@
 use Rattle.std.proofs.Common.{◌≡◌, ℕ, ◌+◌, ◌<◌, ◌≤◌, List, [], ◌∷◌, ◌++◌, length, drop, get_or, refl, sym, ◌∙◌, ap, append_assoc, append-nil}
 use Rattle.std.specs.Prelude.{Some, None, Result, Ok, Err}
 use Rattle.answer_defs.specs.Steps.{◌>>=◌}
-use Rattle.wire_defs.specs.Field.{Field}
+use Rattle.pb_wire_defs.specs.Field.{Field}
 use Rattle.feed_defs.specs.Rows.{Fault, value_under, occurrences_of, span_in, fields_in, fields_of_all}
 use Rattle.rt_types.specs.declared.fault.Kind.{Kind}
 use Rattle.pb_wire.specs.declared.part.Part.{Part}

@@ -2,7 +2,7 @@
 use Rattle.std.proofs.Common.{◌≡◌, ℕ, ◌+◌, ◌<◌, ◌≤◌, List, [], ◌∷◌, ◌++◌, length, drop, get_or, refl, sym, ap, append_assoc, append-nil, add-one, drop-cons, Bool, true, false}
 use Rattle.std.specs.Prelude.{Option, Some, None}
 use Rattle.std.proofs.lemmas.List.{drop_all}
-use Rattle.wire_defs.specs.Field.{Payload, Field}
+use Rattle.pb_wire_defs.specs.Field.{Payload, Field}
 use Rattle.feed_defs.specs.Rows.{value_under, occurrences_of, unknown_bytes_of}
 use Rattle.pb_wire.specs.declared.part.Part.{Part}
 use Rattle.pb_wire.specs.Parts.{part_seen, parts_seen}

@@ -4,7 +4,7 @@ use Rattle.std.specs.Prelude.{Option, Some, None, Result, Ok, Err, not, is_some}
 use Rattle.std.specs.List.{last_or}
 use Rattle.std.specs.Option.{option_copied}
 use Rattle.answer_defs.specs.Steps.{◌>>=◌}
-use Rattle.wire_defs.specs.Field.{Field}
+use Rattle.pb_wire_defs.specs.Field.{Field}
 use Rattle.feed_defs.specs.Rows.{Fault, Message, occurrences_of, last_of, span_in, fields_in, fields_of_all, value, merged_message}
 use Rattle.rt_types.specs.declared.fault.Kind.{Kind}
 use Rattle.pb_wire.specs.declared.part.Part.{Part}

@@ -4,8 +4,8 @@ use Rattle.std.specs.Prelude.{Result, Ok, Err, OnOk}
 use Rattle.std.specs.List.{flat_map}
 use Rattle.rt_types.specs.declared.message.Entity.{Entity}
 use Rattle.rt_types.specs.declared.message.Header.{Header}
-use Rattle.wire_defs.specs.Field.Payload.{Span}
-use Rattle.wire_defs.specs.Writing.{varint, field_bytes}
+use Rattle.pb_wire_defs.specs.Field.Payload.{Span}
+use Rattle.pb_wire_defs.specs.Writing.{varint, field_bytes}
 use Rattle.feed_defs.specs.Combined.{entity_under_feed}
 use Rattle.feed_defs.specs.Rows.{message_bytes, write_all}
 use Rattle.feed_defs.specs.Table.{header, entity, write}

@@ -2,8 +2,8 @@
 use Rattle.std.proofs.Common.{◌≡◌, ◌<◌, ℕ, ◌+◌, List, [], ◌∷◌, ◌++◌, take, length, get_or, map, sym, ap, ◌∙◌, append_assoc, append-nil}
 use Rattle.std.specs.List.{flat_map}
 use Rattle.std.proofs.lemmas.List.{map-append, take_more}
-use Rattle.wire_defs.specs.Field.Payload.{Span}
-use Rattle.wire_defs.specs.Writing.{field_bytes}
+use Rattle.pb_wire_defs.specs.Field.Payload.{Span}
+use Rattle.pb_wire_defs.specs.Writing.{field_bytes}
 use Rattle.feed_defs.specs.Rows.{Message, message_bytes, write_all}
 
 -- a message more of a repeated field

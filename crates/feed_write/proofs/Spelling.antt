@@ -6,10 +6,10 @@ use Rattle.std.specs.Option.{option_map}
 use Rattle.std.proofs.lemmas.Grind.{flat_map-append}
 use Rattle.std.proofs.lemmas.List.{take-append-drop, length-append}
 use Rattle.std.proofs.Math.Seq.{take-append_seam, drop-append_seam}
-use Rattle.wire_defs.specs.Field.Payload.{Span}
-use Rattle.wire_defs.specs.Writing.{Written, varint, payload_bytes, field_bytes}
+use Rattle.pb_wire_defs.specs.Field.Payload.{Span}
+use Rattle.pb_wire_defs.specs.Writing.{Written, varint, payload_bytes, field_bytes}
 use Rattle.feed_defs.specs.Rows.{Message, message_bytes, write_if, write_all}
-use Rattle.wire_defs.specs.Spelling.{AreBytes}
+use Rattle.pb_wire_defs.specs.Spelling.{AreBytes}
 use Rattle.rt_types.specs.declared.message.FeedMessage.{FeedMessage}
 use Rattle.feed_defs.specs.Table.{feed, read, write}
 use Rattle.feed_defs.proofs.Rereading.{read_again}

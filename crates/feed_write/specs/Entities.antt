@@ -3,8 +3,8 @@ use Rattle.std.specs.Prelude.{ℕ, List, ◌++◌, map}
 use Rattle.std.specs.List.{flat_map}
 use Rattle.rt_types.specs.declared.message.Entity.{Entity}
 use Rattle.rt_types.specs.declared.message.FeedMessage.{FeedMessage}
-use Rattle.wire_defs.specs.Field.Payload.{Span}
-use Rattle.wire_defs.specs.Writing.{Written, field_bytes}
+use Rattle.pb_wire_defs.specs.Field.Payload.{Span}
+use Rattle.pb_wire_defs.specs.Writing.{Written, field_bytes}
 use Rattle.feed_defs.specs.Renamed.{renamed_entity}
 use Rattle.feed_defs.specs.Rows.{bool, embedded, optional, ◌⊕◌, message_bytes}
 use Rattle.feed_defs.specs.Table.{trip_update, vehicle_position, alert, entity}

@@ -1,6 +1,6 @@
 -- What writing leaves of the bytes before it.
 use Rattle.std.specs.Prelude.{◌≡◌, ℕ, ◌+◌, ◌*◌, List, [], ◌∷◌, ◌++◌, length}
-use Rattle.wire_defs.specs.Writing.{varint}
+use Rattle.pb_wire_defs.specs.Writing.{varint}
 
 -- the new bytes begin with the old ones
 pub record StartsWith (old new : List ℕ) : Type 0 where

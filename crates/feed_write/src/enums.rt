@@ -1,7 +1,7 @@
 //! The numbers of the enums of GTFS Realtime 2.0.
 
 ghost use Rattle.std.specs.Prelude.{◌≡◌};
-ghost use Rattle.wire_defs.specs.Field.Payload.{Varint};
+ghost use Rattle.pb_wire_defs.specs.Field.Payload.{Varint};
 ghost use Rattle.feed_defs.specs.Enums.{incrementality_number, stop_relation_number, trip_relation_number, stop_status_number, cause_number, effect_number};
 
 use crate::scalar::Scalar;

@@ -3,8 +3,8 @@
 ghost use Rattle.std.specs.Prelude.{◌≡◌, ◌≤◌, ◌++◌, map, IfOk, OnOk};
 ghost use Rattle.std.specs.List.{flat_map};
 ghost use Rattle.std.specs.Option.{option_map};
-ghost use Rattle.wire_defs.specs.Field.Payload.{Span};
-ghost use Rattle.wire_defs.specs.Writing.{field_bytes};
+ghost use Rattle.pb_wire_defs.specs.Field.Payload.{Span};
+ghost use Rattle.pb_wire_defs.specs.Writing.{field_bytes};
 ghost use Rattle.feed_defs.specs.Rows.{message_bytes, write_if, write_all, degrees_payload};
 ghost use Rattle.feed_write.specs.Puts.{StartsWith, IsOpened};
 

@@ -3,8 +3,8 @@
 ghost use Rattle.std.specs.Prelude.{◌≡◌, ◌≤◌, ◌++◌, length, IfSome, OnOk};
 ghost use Rattle.std.specs.List.{flat_map};
 ghost use Rattle.std.specs.Option.{option_map};
-ghost use Rattle.wire_defs.specs.Field.Payload.{Span};
-ghost use Rattle.wire_defs.specs.Writing.{field_bytes};
+ghost use Rattle.pb_wire_defs.specs.Field.Payload.{Span};
+ghost use Rattle.pb_wire_defs.specs.Writing.{field_bytes};
 ghost use Rattle.feed_defs.specs.Renamed.{prefixed};
 ghost use Rattle.feed_defs.specs.Rows.{write_if};
 ghost use Rattle.feed_write.specs.Puts.{StartsWith};
@@ -49,7 +49,7 @@ fn put_prefixed(number: u32, prefix: &str, id: &str, out: &mut Vec<u8>) -> Resul
 }
 
 /// Appends a text that is made of three pieces.
-#[tactic(auto, unfolding(wire_defs::specs::Writing::field_bytes, wire_defs::specs::Writing::payload_bytes), using(crate::proofs::Spelling::puts))]
+#[tactic(auto, unfolding(pb_wire_defs::specs::Writing::field_bytes, pb_wire_defs::specs::Writing::payload_bytes), using(crate::proofs::Spelling::puts))]
 pub(crate) fn put_joined(
     number: u32,
     front: &str,

@@ -1,8 +1,8 @@
 //! Numbers that are written as varints.
 
 ghost use Rattle.std.specs.Prelude.{◌≡◌};
-ghost use Rattle.wire_defs.specs.Field.{Payload};
-ghost use Rattle.wire_defs.specs.Field.Payload.{Varint};
+ghost use Rattle.pb_wire_defs.specs.Field.{Payload};
+ghost use Rattle.pb_wire_defs.specs.Field.Payload.{Varint};
 ghost use Rattle.feed_defs.specs.Rows.{bool_payload, signed_payload};
 
 /// A value that is written as a varint.

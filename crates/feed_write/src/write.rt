@@ -1,7 +1,7 @@
 //! The bytes of a message, and of a single entity in a feed that is made of several.
 
 ghost use Rattle.std.specs.Prelude.{◌≡◌, ℕ, List, ◌++◌, OnOk, OnErr};
-ghost use Rattle.wire_defs.specs.Spelling.{AreBytes};
+ghost use Rattle.pb_wire_defs.specs.Spelling.{AreBytes};
 ghost use Rattle.feed_defs.specs.Combined.{entity_under_feed};
 ghost use Rattle.feed_defs.specs.Renamed.{renamed_entity};
 ghost use Rattle.feed_defs.specs.Table.{read, write};

@@ -2,7 +2,7 @@
 use Rattle.std.proofs.Common.{◌≡◌, List}
 use Rattle.std.specs.Prelude.{Result, Ok, Err}
 use Rattle.std.specs.Result.{IsErrAnd}
-use Rattle.wire_defs.specs.Field.{Field}
+use Rattle.pb_wire_defs.specs.Field.{Field}
 use Rattle.feed_defs.specs.Rows.{Fault}
 use Rattle.field_read.specs.declared.fault.ReadFault.{ReadFault}
 use Rattle.field_read.specs.declared.fault.ReadFault.TheVariants.{Malformed, NoMemory}

@@ -1,7 +1,7 @@
 -- What a call answers that adds the fields of some bytes to a list of fields.
 use Rattle.std.specs.Prelude.{◌≡◌, List, ◌++◌, Result, Ok, Err}
 use Rattle.answer_defs.specs.Steps.{◌>>=◌}
-use Rattle.wire_defs.specs.Field.{Field}
+use Rattle.pb_wire_defs.specs.Field.{Field}
 use Rattle.feed_defs.specs.Rows.{Fault}
 use Rattle.field_read.specs.declared.fault.ReadFault.{ReadFault}
 use Rattle.answer_defs.specs.Defined.{IsCause}

@@ -2,7 +2,7 @@
 
 ghost use Rattle.std.specs.Prelude.{◌≡◌, ℕ, ◌%◌, ◌^◌, Option, is_some};
 ghost use Rattle.std.specs.Option.{option_and_then};
-ghost use Rattle.wire_defs.specs.Field.{Payload};
+ghost use Rattle.pb_wire_defs.specs.Field.{Payload};
 ghost use Rattle.feed_defs.specs.Rows.{value_under, last_of, varint_in, four_in, u32_in, i32_in, i64_in, bool_in, degrees_in};
 ghost use Rattle.pb_wire.specs.Parts.{payload_seen, part_seen, parts_seen};
 

@@ -12,7 +12,7 @@ use Rattle.board_core.specs.Looks.{GoesOn}
 use Rattle.board_defs.specs.Fold.{fold_of}
 use Rattle.http_defs.specs.declared.request.Item.{Item}
 use Rattle.http_defs.specs.Requests.{last_place}
-use Rattle.serve_defs.specs.Answers.{answer}
+use Rattle.http_serve_defs.specs.Answers.{answer}
 use Rattle.http_serve.specs.Setting.{Setting, HubGoesOn, Readings, NeverFall}
 use Rattle.http_serve.specs.Replies.{Reply, items_of, moments_of, numbers_of, reply_bytes, replies_bytes, Begun, none_begun}
 use Rattle.http_serve.specs.Turns.{Answers}

@@ -13,7 +13,7 @@ use Rattle.hub_outside.specs.Clock.{ShowsFirst, after_reading}
 use Rattle.hub_outside.specs.Count.{Rose}
 use Rattle.http_defs.specs.declared.request.Item.{Item}
 use Rattle.http_defs.specs.Requests.{last_place}
-use Rattle.serve_defs.specs.Answers.{answer}
+use Rattle.http_serve_defs.specs.Answers.{answer}
 use Rattle.http_serve.specs.Setting.{Setting, setting, HubGoesOn}
 use Rattle.http_serve.specs.Replies.{Reply, reply_bytes, Begun}
 use Rattle.http_serve.specs.Notes.{Noted}

@@ -9,8 +9,8 @@ use Rattle.hub_outside.specs.Memory.{bytes_written}
 use Rattle.board_defs.specs.Fold.{fold_of}
 use Rattle.http_defs.specs.declared.request.Item.{Item}
 use Rattle.http_defs.specs.Requests.{AreRequests, last_place}
-use Rattle.serve_defs.specs.Answers.{answer}
-use Rattle.serve_defs.specs.Connections.{responses}
+use Rattle.http_serve_defs.specs.Answers.{answer}
+use Rattle.http_serve_defs.specs.Connections.{responses}
 use Rattle.http_serve.specs.declared.session.End.{End}
 use Rattle.http_serve.specs.declared.session.End.TheVariants as ends
 use Rattle.http_serve.specs.declared.transcript.Finish.{Finish}

@@ -5,7 +5,7 @@ use Rattle.sched_types.specs.Schedules.{Schedules}
 use Rattle.board_defs.specs.Fold.{fold_of}
 use Rattle.http_defs.specs.declared.request.Item.{Item}
 use Rattle.http_defs.specs.Requests.{last_place}
-use Rattle.serve_defs.specs.Answers.{answer}
+use Rattle.http_serve_defs.specs.Answers.{answer}
 
 -- the item that a response answers, its moment, and its number
 pub record Reply : Type 0 where

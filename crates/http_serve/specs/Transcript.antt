@@ -5,7 +5,7 @@ use Rattle.sched_types.specs.Schedules.{Schedules}
 use Rattle.board_defs.specs.Fold.{fold_of}
 use Rattle.hub_outside.specs.Memory.{bytes_written}
 use Rattle.http_defs.specs.Requests.{Finish as DefinedFinish, ended, closed, bad}
-use Rattle.serve_defs.specs.Connections.{Served, IsServed, connection_bytes}
+use Rattle.http_serve_defs.specs.Connections.{Served, IsServed, connection_bytes}
 use Rattle.http_serve.specs.declared.session.End.{End}
 use Rattle.http_serve.specs.declared.session.End.TheVariants as ends
 use Rattle.http_serve.specs.declared.transcript.Finish.{Finish}

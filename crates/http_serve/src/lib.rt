@@ -1,7 +1,7 @@
 //! The responses of a connection.
 //!
 //! [`serve_connection`] takes the requests of a source, one after another, and writes the response
-//! to each before it reads on. What it answers is `answer` of `serve_defs`, of the history that a
+//! to each before it reads on. What it answers is `answer` of `http_serve_defs`, of the history that a
 //! look at the oracle found; the clock is read behind that look. Its contract is one record, `Serves`
 //! of `specs/Serves`: what was written, for which items, at which moments and numbers, and why it
 //! ended. It waits for nobody but its source and its sink. [`ConnectionServer::serve`] does the same

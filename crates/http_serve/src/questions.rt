@@ -2,8 +2,8 @@
 ghost use Rattle.std.specs.Prelude.{◌≡◌, true};
 ghost use Rattle.std.specs.Option.{option_map};
 ghost use Rattle.view_answers.specs.Questions.{question_seen};
-ghost use Rattle.serve_defs.specs.Questions.{question_of};
-ghost use Rattle.serve_defs.specs.Answers.{kind_of, refusal_code};
+ghost use Rattle.http_serve_defs.specs.Questions.{question_of};
+ghost use Rattle.http_serve_defs.specs.Answers.{kind_of, refusal_code};
 
 use http_defs::{BodyKind, Query};
 use view_answers::Question;

@@ -2,8 +2,8 @@
 ghost use Rattle.std.specs.Prelude.{◌≡◌, ◌≤◌, [], true, IfOk, OnOk};
 ghost use Rattle.text_defs.specs.Moments.{last_moment};
 ghost use Rattle.board_defs.specs.Views.{folds_of};
-ghost use Rattle.serve_defs.specs.Questions.{is_status, is_refusal, IsAskable};
-ghost use Rattle.serve_defs.specs.Answers.{answer, refused, query_answered, item_answered, closes_behind};
+ghost use Rattle.http_serve_defs.specs.Questions.{is_status, is_refusal, IsAskable};
+ghost use Rattle.http_serve_defs.specs.Answers.{answer, refused, query_answered, item_answered, closes_behind};
 ghost use Rattle.http_serve.specs.Headings.{answered_by};
 
 use crate::NoMemory;
@@ -42,7 +42,7 @@ impl Responder {
 
     /// Makes the response to an item, which may be the thousandth of its connection, of the messages
     /// that the view holds, at a moment up to the end of the year 9999; or wants memory.
-    #[tactic(auto, unfolding(serve_defs::specs::Answers::answer))]
+    #[tactic(auto, unfolding(http_serve_defs::specs::Answers::answer))]
     pub(crate) fn respond(
         &mut self,
         view: &HubView,
@@ -137,7 +137,7 @@ fn refuse(status: u16, body: &mut Vec<u8>) -> Result<Heading, NoMemory>
 }
 
 /// Whether the connection closes behind the answer to an item.
-#[tactic(auto, unfolding(serve_defs::specs::Answers::closes_behind))]
+#[tactic(auto, unfolding(http_serve_defs::specs::Answers::closes_behind))]
 pub(crate) fn closes_behind(item: &Item, thousandth: bool) -> bool
     ensures { result ≡ closes_behind item.now thousandth }
 {

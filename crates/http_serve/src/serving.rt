@@ -128,7 +128,7 @@ fn take_item<S: Source>(
 }
 
 /// What an item that was answered at a place comes to.
-#[tactic(auto, unfolding(http_defs::specs::Requests::is_last, serve_defs::specs::Answers::closes_behind))]
+#[tactic(auto, unfolding(http_defs::specs::Requests::is_last, http_serve_defs::specs::Answers::closes_behind))]
 fn turn_after(place: u16, item: &Item) -> Turn
     ensures { result ≡ turn_after place item.now }
 {

@@ -6,13 +6,13 @@ use Rattle.std.proofs.lemmas.List.{append-nil, at_drop_more, drop_all}
 use Rattle.std.proofs.lemmas.Option.{none-some, same_Some}
 use Rattle.answer_defs.specs.Steps.{◌>>=◌}
 use Rattle.text_defs.specs.Cleaned.{line_feed}
-use Rattle.script_defs.specs.Output.{Output}
+use Rattle.hub_replay_defs.specs.Output.{Output}
 use Rattle.hub_outside.specs.Files.{file_at}
 use Rattle.sched_types.specs.Timetable.{Timetable}
-use Rattle.load_defs.specs.declared.fault.LoadFault.{LoadFault}
-use Rattle.conf_defs.specs.declared.conf.HubConf.{HubConf}
-use Rattle.conf_defs.specs.declared.conf.ScheduleConf.{ScheduleConf}
-use Rattle.command_defs.specs.Checks.{check_output, check_lines, conf_in, counts_line, counts_lines, output_of_check, timetable_or_line, timetables}
+use Rattle.sched_load_defs.specs.declared.fault.LoadFault.{LoadFault}
+use Rattle.hub_config_defs.specs.declared.conf.HubConf.{HubConf}
+use Rattle.hub_config_defs.specs.declared.conf.ScheduleConf.{ScheduleConf}
+use Rattle.hub_main_defs.specs.Checks.{check_output, check_lines, conf_in, counts_line, counts_lines, output_of_check, timetable_or_line, timetables}
 use Rattle.hub_load.specs.Told.{IsAsTold, Stored, TellsFault, plan_told, refusal_line, with_front}
 use Rattle.hub_load.specs.declared.fault.HubFault.{HubFault}
 use Rattle.hub_load.specs.declared.fault.HubFault.TheVariants.{Refused, FileFault, NoMemory}

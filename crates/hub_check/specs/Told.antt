@@ -4,10 +4,10 @@ use Rattle.std.specs.declared.alloc.Global.{Global}
 use Rattle.std.specs.Fmt.{decimal}
 use Rattle.answer_defs.specs.Steps.{◌>>=◌}
 use Rattle.text_defs.specs.Cleaned.{line_feed}
-use Rattle.script_defs.specs.Output.{Output}
+use Rattle.hub_replay_defs.specs.Output.{Output}
 use Rattle.sched_types.specs.declared.rows.Counts.{Counts}
-use Rattle.conf_defs.specs.declared.conf.ScheduleConf.{ScheduleConf}
-use Rattle.command_defs.specs.Checks.{counts_line}
+use Rattle.hub_config_defs.specs.declared.conf.ScheduleConf.{ScheduleConf}
+use Rattle.hub_main_defs.specs.Checks.{counts_line}
 use Rattle.hub_load.specs.Told.{Stored, TellsFault, plan_told, with_front}
 use Rattle.hub_load.specs.declared.fault.HubFault.{HubFault}
 use Rattle.hub_load.specs.declared.fault.HubFault.TheVariants.{Refused, FileFault, NoMemory}

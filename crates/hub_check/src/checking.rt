@@ -1,6 +1,6 @@
 //! A configuration and its timetables.
 ghost use Rattle.std.specs.Prelude.{◌≡◌, IfSome};
-ghost use Rattle.command_defs.specs.Checks.{check_output};
+ghost use Rattle.hub_main_defs.specs.Checks.{check_output};
 ghost use Rattle.hub_load.specs.Stops.{LoadingStopped, StopsWith};
 ghost use Rattle.hub_load.specs.Told.{HasCause};
 ghost use Rattle.hub_check.specs.Told.{Checks};

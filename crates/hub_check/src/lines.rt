@@ -2,13 +2,13 @@
 ghost use Rattle.std.specs.Prelude.{◌≡◌, ◌≤◌, IfOk, IfSome, true};
 ghost use Rattle.std.specs.List.{list_all};
 ghost use Rattle.std.specs.String.{string_bytes};
-ghost use Rattle.conf_defs.specs.Right.{has_window};
-ghost use Rattle.command_defs.specs.Checks.{counts_line};
+ghost use Rattle.hub_config_defs.specs.Right.{has_window};
+ghost use Rattle.hub_main_defs.specs.Checks.{counts_line};
 ghost use Rattle.hub_load.specs.Stops.{PlanStopped, PlansStopped, StopsWith};
 ghost use Rattle.hub_load.specs.Told.{HasCause, IsAsTold};
 ghost use Rattle.hub_check.specs.Told.{Adds, line_for, lines_for, network_text, traffic_text};
 
-use conf_defs::ScheduleConf;
+use hub_config_defs::ScheduleConf;
 use hub_load::{HubFault, load_plan};
 use hub_outside::Files;
 use sched_types::{Counts, Plan};

@@ -6,13 +6,13 @@ use Rattle.std.proofs.Common.{ℕ, inl, inr}
 use Rattle.std.specs.Str.{IsUtf8, is_utf8}
 use Rattle.toml.specs.Data.{Members}
 use Rattle.toml.specs.Parse.{parse_document}
-use Rattle.conf_defs.specs.declared.conf.ScheduleConf.{ScheduleConf}
-use Rattle.conf_defs.specs.declared.conf.FeedConf.{FeedConf}
-use Rattle.conf_defs.specs.declared.fault.ConfFault.{ConfFault}
-use Rattle.conf_defs.specs.declared.fault.ConfFault.TheVariants.{Toml, Bad, NoMemory}
-use Rattle.conf_defs.specs.declared.fault.TableName.TheVariants.{Top}
-use Rattle.conf_defs.specs.Conf.{conf_in, conf_of, feeds_in, hub_of, schedules_in, unless}
-use Rattle.conf_defs.specs.Faults.{fault_in}
+use Rattle.hub_config_defs.specs.declared.conf.ScheduleConf.{ScheduleConf}
+use Rattle.hub_config_defs.specs.declared.conf.FeedConf.{FeedConf}
+use Rattle.hub_config_defs.specs.declared.fault.ConfFault.{ConfFault}
+use Rattle.hub_config_defs.specs.declared.fault.ConfFault.TheVariants.{Toml, Bad, NoMemory}
+use Rattle.hub_config_defs.specs.declared.fault.TableName.TheVariants.{Top}
+use Rattle.hub_config_defs.specs.Conf.{conf_in, conf_of, feeds_in, hub_of, schedules_in, unless}
+use Rattle.hub_config_defs.specs.Faults.{fault_in}
 use Rattle.answer_defs.specs.Defined.{IsCause}
 use Rattle.toml.specs.Errors.{IsMemory}
 use Rattle.toml.specs.declared.de.Error.{Error}

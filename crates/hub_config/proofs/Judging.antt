@@ -7,12 +7,12 @@ use Rattle.std.specs.Option.{option_or}
 use Rattle.toml.specs.Data.{Members}
 use Rattle.toml.specs.View.{members_view}
 use Rattle.toml.specs.declared.value.Value.{Value}
-use Rattle.conf_defs.specs.declared.conf.ScheduleConf.{ScheduleConf}
-use Rattle.conf_defs.specs.declared.conf.FeedConf.{FeedConf}
-use Rattle.conf_defs.specs.declared.rule.Key.{Key}
-use Rattle.conf_defs.specs.declared.fault.ConfWhy.{ConfWhy}
-use Rattle.conf_defs.specs.Rules.{rule_of}
-use Rattle.conf_defs.specs.Faults.{is_known, unknown_in, wrong_in, named_fault, key_fault}
+use Rattle.hub_config_defs.specs.declared.conf.ScheduleConf.{ScheduleConf}
+use Rattle.hub_config_defs.specs.declared.conf.FeedConf.{FeedConf}
+use Rattle.hub_config_defs.specs.declared.rule.Key.{Key}
+use Rattle.hub_config_defs.specs.declared.fault.ConfWhy.{ConfWhy}
+use Rattle.hub_config_defs.specs.Rules.{rule_of}
+use Rattle.hub_config_defs.specs.Faults.{is_known, unknown_in, wrong_in, named_fault, key_fault}
 
 either : (b : Bool) (name : String Global) (o : Option (String Global)) (p : Option (List ℕ)) → p ≡ option_map string_bytes o
     → cond b p (Some (string_bytes name)) ≡ option_map string_bytes (cond (not b) (Some name) o)

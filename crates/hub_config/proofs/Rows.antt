@@ -6,9 +6,9 @@ use Rattle.toml.specs.Data.{Members, as_table}
 use Rattle.toml.specs.View.{view, items_view}
 use Rattle.toml.specs.declared.value.Value.{Value}
 use Rattle.toml.proofs.Views.{items_view-drop}
-use Rattle.conf_defs.specs.declared.fault.ConfFault.{ConfFault}
-use Rattle.conf_defs.specs.declared.fault.ConfFault.TheVariants.{Toml, Bad, NoMemory}
-use Rattle.conf_defs.specs.Conf.{added, and_then, rows_from, unless}
+use Rattle.hub_config_defs.specs.declared.fault.ConfFault.{ConfFault}
+use Rattle.hub_config_defs.specs.declared.fault.ConfFault.TheVariants.{Toml, Bad, NoMemory}
+use Rattle.hub_config_defs.specs.Conf.{added, and_then, rows_from, unless}
 use Rattle.answer_defs.specs.Defined.{AsDefined, IsCause}
 use Rattle.hub_config.specs.Answer.{IsFault, cause_of}
 

@@ -3,7 +3,7 @@ use Rattle.std.proofs.Common.{◌≡◌, List, [], ◌∷◌, length, refl, ap, 
 use Rattle.std.specs.List.{list_all}
 use Rattle.toml.specs.View.{view, items_view}
 use Rattle.toml.specs.declared.value.Value.{Value}
-use Rattle.conf_defs.specs.Values.{count, are_tables, is_table}
+use Rattle.hub_config_defs.specs.Values.{count, are_tables, is_table}
 
 -- an array has as many items as its values
 pub count_view : (vs : List Value) → count (items_view vs) ≡ length vs

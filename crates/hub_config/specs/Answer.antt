@@ -2,8 +2,8 @@
 use Rattle.std.specs.Prelude.{◌≡◌, Option, Some, None, Result, Ok, Err, ⊤}
 use Rattle.toml.specs.Errors.{IsMemory}
 use Rattle.toml.specs.declared.de.Error.{Error}
-use Rattle.conf_defs.specs.declared.fault.ConfFault.{ConfFault}
-use Rattle.conf_defs.specs.declared.fault.ConfFault.TheVariants.{Toml, Bad, NoMemory}
+use Rattle.hub_config_defs.specs.declared.fault.ConfFault.{ConfFault}
+use Rattle.hub_config_defs.specs.declared.fault.ConfFault.TheVariants.{Toml, Bad, NoMemory}
 
 -- the fault that an error tells
 abbrev pub cause_of : ConfFault → Option ConfFault

@@ -2,7 +2,7 @@
 use Rattle.hub_config.specs.declared.rule.Absent.{Absent}
 use Rattle.hub_config.specs.declared.rule.Absent.TheVariants as code
 use Rattle.hub_config.specs.declared.rule.Rule.{Rule as CodeRule}
-use Rattle.conf_defs.specs.Rules.{Default, required, number, text, no_tables, Rule}
+use Rattle.hub_config_defs.specs.Rules.{Default, required, number, text, no_tables, Rule}
 
 -- what stands for an absent key
 abbrev pub absent_seen : Absent → Default

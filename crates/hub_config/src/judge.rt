@@ -5,14 +5,14 @@ ghost use Rattle.std.specs.BTreeMap as tree;
 ghost use Rattle.std.specs.List.{find};
 ghost use Rattle.std.specs.Option.{option_copied};
 ghost use Rattle.toml.specs.View.{view, table_view};
-ghost use Rattle.conf_defs.specs.Faults as faults;
-ghost use Rattle.conf_defs.specs.Rules.{rule_of};
+ghost use Rattle.hub_config_defs.specs.Faults as faults;
+ghost use Rattle.hub_config_defs.specs.Rules.{rule_of};
 ghost use Rattle.hub_config.specs.Seen.{absent_seen};
 ghost use Rattle.hub_config.specs.Answer.{PassesUnless};
 
 use crate::rule::{Absent, keys, rule_for};
 use crate::value::{number_of, tables_of, text_of, value_at};
-use conf_defs::{ConfFault, ConfWhy, FeedConf, Holds, Key, ScheduleConf, TableName};
+use hub_config_defs::{ConfFault, ConfWhy, FeedConf, Holds, Key, ScheduleConf, TableName};
 use rt_types::Text;
 use std::alloc::Global;
 use toml::{Table, Value};
@@ -32,7 +32,7 @@ fn has_feed(name: &str, feeds: &[FeedConf]) -> bool
 }
 
 /// What is wrong with a name beside the schedules and the feeds so far.
-#[tactic(auto, unfolding(conf_defs::specs::Faults::name_fault))]
+#[tactic(auto, unfolding(hub_config_defs::specs::Faults::name_fault))]
 fn name_fault(
     holds: Holds,
     name: &str,
@@ -50,7 +50,7 @@ fn name_fault(
     if is_wrong { Some(why) } else { None }
 }
 
-#[tactic(auto, unfolding(conf_defs::specs::Faults::is_held))]
+#[tactic(auto, unfolding(hub_config_defs::specs::Faults::is_held))]
 fn is_held(holds: Holds, value: &Value) -> bool
     ensures { result ≡ faults.is_held holds (view value.now) }
 {
@@ -60,7 +60,7 @@ fn is_held(holds: Holds, value: &Value) -> bool
 }
 
 /// What is wrong with a value: its type or range, or else the name that it says.
-#[tactic(auto, unfolding(conf_defs::specs::Faults::value_fault))]
+#[tactic(auto, unfolding(hub_config_defs::specs::Faults::value_fault))]
 fn value_fault(
     holds: Holds,
     value: &Value,
@@ -90,7 +90,7 @@ impl Absent {
 }
 
 /// What is wrong with a key of a table.
-#[tactic(auto, unfolding(conf_defs::specs::Faults::key_fault))]
+#[tactic(auto, unfolding(hub_config_defs::specs::Faults::key_fault))]
 fn key_fault(
     key: Key,
     table: &Table,
@@ -112,7 +112,7 @@ fn has_name(key: Key, name: &str) -> bool
     rule_for(key).name == name
 }
 
-#[tactic(auto, unfolding(conf_defs::specs::Faults::is_known))]
+#[tactic(auto, unfolding(hub_config_defs::specs::Faults::is_known))]
 fn is_known(keys: &[Key], name: &str) -> bool
     ensures { result ≡ faults.is_known keys.now name.now }
 {
@@ -157,7 +157,7 @@ fn wrong_in(
 
 /// The first fault of a table: a name that no key has, else the first of the keys with which
 /// something is wrong.
-#[tactic(auto, unfolding(conf_defs::specs::Faults::first_wrong))]
+#[tactic(auto, unfolding(hub_config_defs::specs::Faults::first_wrong))]
 fn first_wrong<'a>(
     name: TableName,
     table: &'a Table,

@@ -2,10 +2,10 @@
 
 ghost use Rattle.std.specs.Prelude.{◌≡◌, ◌++◌, codes, IfOk, string_bytes};
 ghost use Rattle.std.specs.Fmt.{decimal};
-ghost use Rattle.conf_defs.specs.Lines as lines;
+ghost use Rattle.hub_config_defs.specs.Lines as lines;
 
 use crate::NoMemory;
-use conf_defs::{ConfFault, ConfWhy, TableName};
+use hub_config_defs::{ConfFault, ConfWhy, TableName};
 use std::alloc::Global;
 use texts::push_cleaned;
 
@@ -45,7 +45,7 @@ fn place(alloc: Global, table: TableName, row: u32) -> Result<String, NoMemory>
 /// `hub: config <table> <row> <key> <why>` with a space for each control character of ASCII in the
 /// key. The line for want of memory is empty: it is no fault of the configuration, and nothing is
 /// printed for it.
-#[tactic(auto, unfolding(conf_defs::specs::Lines::line_of))]
+#[tactic(auto, unfolding(hub_config_defs::specs::Lines::line_of))]
 pub fn fault_line(alloc: Global, fault: &ConfFault) -> Result<Vec<u8>, NoMemory>
     ensures { IfOk result (λ line. line.items ≡ lines.line_of fault.now) }
 {

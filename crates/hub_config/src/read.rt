@@ -5,16 +5,16 @@ ghost use Rattle.std.specs.List.{position};
 ghost use Rattle.std.specs.Str.{bytes_eq};
 ghost use Rattle.toml.specs.Data.{Members};
 ghost use Rattle.toml.specs.View.{items_view, table_view};
-ghost use Rattle.conf_defs.specs.Conf as conf;
+ghost use Rattle.hub_config_defs.specs.Conf as conf;
 ghost use Rattle.answer_defs.specs.Defined.{AsDefined};
 ghost use Rattle.hub_config.specs.Answer.{IsFaultOf, cause_of};
-ghost use Rattle.conf_defs.specs.declared.conf.ScheduleConf.{ScheduleConf as Schedule};
-ghost use Rattle.conf_defs.specs.declared.fault.ConfFault.{ConfFault as Fault};
+ghost use Rattle.hub_config_defs.specs.declared.conf.ScheduleConf.{ScheduleConf as Schedule};
+ghost use Rattle.hub_config_defs.specs.declared.fault.ConfFault.{ConfFault as Fault};
 
 use crate::NoMemory;
 use crate::judge::judge;
 use crate::value::{number_at, port_of, tables_at, text_at};
-use conf_defs::{ConfFault, FeedConf, HubConf, Key, PortKind, ScheduleConf, TableName};
+use hub_config_defs::{ConfFault, FeedConf, HubConf, Key, PortKind, ScheduleConf, TableName};
 use rt_types::{Items, Text};
 use std::alloc::Global;
 use toml::de::Error;
@@ -37,7 +37,7 @@ trait Row: Drop {
             (row_of schedules.now row before.now (table_view table.now)) result };
 }
 
-#[tactic(auto, unfolding(conf_defs::specs::Conf::schedule_of))]
+#[tactic(auto, unfolding(hub_config_defs::specs::Conf::schedule_of))]
 fn schedule_of(alloc: Global, table: &Table) -> Result<ScheduleConf, NoMemory>
     ensures { IfOk result (λ schedule. schedule ≡ conf.schedule_of (table_view table.now)) }
 {
@@ -52,7 +52,7 @@ fn schedule_of(alloc: Global, table: &Table) -> Result<ScheduleConf, NoMemory>
 }
 
 impl Row for ScheduleConf {
-    ghost use Rattle.conf_defs.specs.Conf.{schedule_row};
+    ghost use Rattle.hub_config_defs.specs.Conf.{schedule_row};
 
     ghost row_of = { λ schedules row before ms. schedule_row row before ms };
 
@@ -78,7 +78,7 @@ fn position_of(name: &str, schedules: &[ScheduleConf]) -> Option<usize>
 }
 
 /// The index of the schedule of a name.
-#[tactic(auto, unfolding(conf_defs::specs::Conf::index_of))]
+#[tactic(auto, unfolding(hub_config_defs::specs::Conf::index_of))]
 fn index_of(name: &str, schedules: &[ScheduleConf]) -> u32
     requires { length schedules.now < 2 ^ 32 }
     ensures { result ≡ conf.index_of name.now schedules.now }
@@ -89,7 +89,7 @@ fn index_of(name: &str, schedules: &[ScheduleConf]) -> u32
     }
 }
 
-#[tactic(auto, unfolding(conf_defs::specs::Conf::feed_of))]
+#[tactic(auto, unfolding(hub_config_defs::specs::Conf::feed_of))]
 fn feed_of(alloc: Global, table: &Table, schedules: &[ScheduleConf]) -> Result<FeedConf, NoMemory>
     requires { length schedules.now < 2 ^ 32 }
     ensures { IfOk result (λ feed. feed ≡ conf.feed_of schedules.now (table_view table.now)) }
@@ -103,7 +103,7 @@ fn feed_of(alloc: Global, table: &Table, schedules: &[ScheduleConf]) -> Result<F
 }
 
 impl Row for FeedConf {
-    ghost use Rattle.conf_defs.specs.Conf.{feed_row};
+    ghost use Rattle.hub_config_defs.specs.Conf.{feed_row};
 
     ghost row_of = { feed_row };
 
@@ -143,7 +143,7 @@ fn read_rows<R: Row>(
     Ok(Items::new(rows))
 }
 
-#[tactic(auto, unfolding(conf_defs::specs::Conf::hub_of))]
+#[tactic(auto, unfolding(hub_config_defs::specs::Conf::hub_of))]
 fn hub_of(
     alloc: Global,
     table: &Table,
@@ -162,7 +162,7 @@ fn hub_of(
 }
 
 /// The configuration of a document, or its first fault.
-#[tactic(auto, unfolding(conf_defs::specs::Rules::rule_of))]
+#[tactic(auto, unfolding(hub_config_defs::specs::Rules::rule_of))]
 fn conf_in(alloc: Global, table: &Table) -> Result<HubConf, ConfFault>
     ensures { AsDefined (λ x. x) cause_of (conf.conf_in (table_view table.now)) result }
 {

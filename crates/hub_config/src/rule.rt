@@ -1,10 +1,10 @@
 //! The keys of the tables of a configuration, and what each may hold.
 
 ghost use Rattle.std.specs.Prelude.{◌≡◌};
-ghost use Rattle.conf_defs.specs.Rules as rules;
+ghost use Rattle.hub_config_defs.specs.Rules as rules;
 ghost use Rattle.hub_config.specs.Seen.{absent_seen, rule_seen};
 
-use conf_defs::{Holds, Key, TableName};
+use hub_config_defs::{Holds, Key, TableName};
 
 /// What stands for a key that is absent.
 #[derive(Clone, Copy)]
@@ -44,7 +44,7 @@ impl Rule {
 }
 
 /// The key's rule.
-#[tactic(auto, unfolding(conf_defs::specs::Rules::rule_of))]
+#[tactic(auto, unfolding(hub_config_defs::specs::Rules::rule_of))]
 pub fn rule_for(key: Key) -> Rule
     ensures { rule_seen result ≡ rules.rule_of key }
 {
@@ -91,7 +91,7 @@ static SCHEDULE_KEYS: [Key; 6] = [
 static FEED_KEYS: [Key; 4] = [Key::FeedName, Key::FeedSchedule, Key::Kind, Key::Place];
 
 /// The keys of such a table, in the order in which they are judged.
-#[tactic(auto, unfolding(conf_defs::specs::Rules::keys_of))]
+#[tactic(auto, unfolding(hub_config_defs::specs::Rules::keys_of))]
 pub fn keys(table: TableName) -> &'static [Key]
     ensures { result.now ≡ rules.keys_of table }
 {

@@ -4,12 +4,12 @@ ghost use Rattle.std.specs.Prelude.{◌≡◌, ◌≤◌, ◌&&◌, nat_le, true
 ghost use Rattle.std.specs.List.{list_all};
 ghost use Rattle.toml.specs.Data.{get_member};
 ghost use Rattle.toml.specs.View.{view, table_view, items_view};
-ghost use Rattle.conf_defs.specs.Rules.{rule_of};
+ghost use Rattle.hub_config_defs.specs.Rules.{rule_of};
 ghost use Rattle.hub_config.specs.Seen.{absent_seen};
-ghost use Rattle.conf_defs.specs.Values as values;
+ghost use Rattle.hub_config_defs.specs.Values as values;
 
 use crate::rule::{Absent, rule_for};
-use conf_defs::{Holds, Key, PortKind};
+use hub_config_defs::{Holds, Key, PortKind};
 use texts::{is_name, is_valid_date, read_date};
 use toml::{Table, Value};
 
@@ -31,7 +31,7 @@ fn number_within(number: i64, least: u32, most: u32) -> Option<u32>
 
 /// The number of eight digits YYYYMMDD of a day of the Gregorian calendar from 1 February 1970 to
 /// 31 December 2999 (GTFS Schedule, "Field Types", Date).
-#[tactic(auto, unfolding(conf_defs::specs::Values::date_of))]
+#[tactic(auto, unfolding(hub_config_defs::specs::Values::date_of))]
 fn date_of(text: &str) -> Option<u32>
     ensures { result ≡ values.date_of text.now }
 {
@@ -48,7 +48,7 @@ fn is_window_date(date: u32) -> bool
 }
 
 /// The way that a word names in which messages come to a feed.
-#[tactic(auto, unfolding(conf_defs::specs::Values::port_of))]
+#[tactic(auto, unfolding(hub_config_defs::specs::Values::port_of))]
 pub fn port_of(text: &str) -> Option<PortKind>
     ensures { result ≡ values.port_of text.now }
 {
@@ -64,7 +64,7 @@ pub fn port_of(text: &str) -> Option<PortKind>
 }
 
 /// The number that a value says, where its key may hold that.
-#[tactic(auto, unfolding(conf_defs::specs::Values::number_of))]
+#[tactic(auto, unfolding(hub_config_defs::specs::Values::number_of))]
 pub fn number_of(holds: Holds, value: &Value) -> Option<u32>
     ensures { result ≡ values.number_of holds (view value.now) }
 {
@@ -81,7 +81,7 @@ pub fn number_of(holds: Holds, value: &Value) -> Option<u32>
     }
 }
 
-#[tactic(auto, unfolding(conf_defs::specs::Values::is_text_for))]
+#[tactic(auto, unfolding(hub_config_defs::specs::Values::is_text_for))]
 fn is_text_for(holds: Holds, text: &str) -> bool
     ensures { result ≡ values.is_text_for holds text.now }
 {
@@ -95,7 +95,7 @@ fn is_text_for(holds: Holds, text: &str) -> bool
 }
 
 /// The text that a value says, where its key may hold that.
-#[tactic(auto, unfolding(conf_defs::specs::Values::text_of))]
+#[tactic(auto, unfolding(hub_config_defs::specs::Values::text_of))]
 pub fn text_of(holds: Holds, value: &Value) -> Option<&str>
     ensures { option_map (λ t. t.now) result ≡ values.text_of holds (view value.now) }
 {
@@ -123,7 +123,7 @@ fn is_long(length: usize, least: u32, most: u32) -> bool
     least as usize <= length && length <= most as usize
 }
 
-#[tactic(auto, unfolding(conf_defs::specs::Values::is_array_for), using(crate::proofs::Views::array_views))]
+#[tactic(auto, unfolding(hub_config_defs::specs::Values::is_array_for), using(crate::proofs::Views::array_views))]
 fn is_array_for(holds: Holds, rows: &[Value]) -> bool
     ensures value { result ≡ values.is_array_for holds (items_view rows.now) }
     ensures few { result ≡ true → length rows.now ≤ values.most_tables holds }
@@ -135,7 +135,7 @@ fn is_array_for(holds: Holds, rows: &[Value]) -> bool
 }
 
 /// The tables that a value says, where its key may hold them.
-#[tactic(auto, unfolding(conf_defs::specs::Values::tables_of))]
+#[tactic(auto, unfolding(hub_config_defs::specs::Values::tables_of))]
 pub fn tables_of(holds: Holds, value: &Value) -> Option<&[Value]>
     ensures value { option_map (λ rows. items_view rows.now) result ≡ values.tables_of holds
         (view value.now) }
@@ -168,7 +168,7 @@ impl Absent {
 }
 
 /// The number that a table says at a key, or the one that stands for it there.
-#[tactic(auto, unfolding(conf_defs::specs::Values::number_at))]
+#[tactic(auto, unfolding(hub_config_defs::specs::Values::number_at))]
 pub fn number_at(table: &Table, key: Key) -> u32
     ensures { result ≡ values.number_at key (table_view table.now) }
 {
@@ -181,7 +181,7 @@ pub fn number_at(table: &Table, key: Key) -> u32
 }
 
 /// The text that a table says at a key, or the one that stands for it there.
-#[tactic(auto, unfolding(conf_defs::specs::Values::text_at))]
+#[tactic(auto, unfolding(hub_config_defs::specs::Values::text_at))]
 pub fn text_at(table: &Table, key: Key) -> &str
     ensures { result.now ≡ values.text_at key (table_view table.now) }
 {
@@ -194,7 +194,7 @@ pub fn text_at(table: &Table, key: Key) -> &str
 }
 
 /// The tables that a table says at a key, or none.
-#[tactic(auto, unfolding(conf_defs::specs::Values::tables_at))]
+#[tactic(auto, unfolding(hub_config_defs::specs::Values::tables_at))]
 pub fn tables_at(table: &Table, key: Key) -> &[Value]
     ensures value { items_view result.now ≡ values.tables_at key (table_view table.now) }
     ensures few { length result.now ≤ values.most_tables (rule_of key).holds }

@@ -4,8 +4,8 @@ use Rattle.std.specs.List.{range_with_len}
 use Rattle.std.proofs.lemmas.List.FromFn.{map-range_with_len_more}
 use Rattle.std.specs.declared.alloc.AllocError.{AllocError}
 use Rattle.rt_types.specs.declared.message.Entity.{Entity}
-use Rattle.gen_defs.specs.Draws.{draw, drawn_at, state_after, state_behind}
-use Rattle.gen_defs.specs.Messages.{entities_from, entity_by, entity_of}
+use Rattle.hub_gen_defs.specs.Draws.{draw, drawn_at, state_after, state_behind}
+use Rattle.hub_gen_defs.specs.Messages.{entities_from, entity_by, entity_of}
 
 -- at first nothing is drawn
 pub none_drawn : (seed : ℕ) → seed ≡ state_after seed (2 * 0)

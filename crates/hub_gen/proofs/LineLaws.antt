@@ -7,8 +7,8 @@ use Rattle.board_defs.specs.declared.row.Row.{Row}
 use Rattle.board_defs.specs.Fold.{fold_of}
 use Rattle.board_defs.specs.Views.{HubKept, StandsFor, folds_of, hub_first}
 use Rattle.hub_state.specs.Replay.{Replayed}
-use Rattle.gen_defs.specs.Run.{board_rows, counts_line, history_after, history_with, line_after, sample_schedules}
-use Rattle.gen_defs.specs.Messages.{Offered}
+use Rattle.hub_gen_defs.specs.Run.{board_rows, counts_line, history_after, history_with, line_after, sample_schedules}
+use Rattle.hub_gen_defs.specs.Messages.{Offered}
 use Rattle.sched_types.specs.Schedules.{Schedules}
 use Rattle.sched_types.specs.Timetable.{Timetable}
 

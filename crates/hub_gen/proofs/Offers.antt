@@ -3,7 +3,7 @@ use Rattle.std.proofs.Common.{◌≡◌, ◌∙◌, ℕ, ◌+◌, ◌*◌, ◌<�
 use Rattle.std.specs.List.{range_with_len}
 use Rattle.std.proofs.lemmas.List.FromFn.{map-range_with_len_more}
 use Rattle.std.proofs.lemmas.List.Elements.{All-map}
-use Rattle.gen_defs.specs.Messages.{Offered, offer_of, offers_of}
+use Rattle.hub_gen_defs.specs.Messages.{Offered, offer_of, offers_of}
 use Rattle.hub_gen.specs.Steps.{AreOfTwoFeeds}
 
 -- the first messages were made, of one sample, and all their entities drawn

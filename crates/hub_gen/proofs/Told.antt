@@ -2,15 +2,15 @@
 use Rattle.std.proofs.Common.{◌≡◌, ◌∙◌, ℕ, List, Some, Result, Ok, Err, sym, ap, subst}
 use Rattle.answer_defs.specs.Steps.{◌>>=◌}
 use Rattle.sched_types.specs.Timetable.{Timetable}
-use Rattle.load_defs.specs.Loading.{timetable}
-use Rattle.command_defs.specs.Checks.{timetable_or_line}
-use Rattle.command_defs.specs.Samples.{sample_lines}
+use Rattle.sched_load_defs.specs.Loading.{timetable}
+use Rattle.hub_main_defs.specs.Checks.{timetable_or_line}
+use Rattle.hub_main_defs.specs.Samples.{sample_lines}
 use Rattle.hub_load.specs.Told.{TellsFault, refusal_line}
 use Rattle.hub_load.specs.declared.fault.HubFault.{HubFault}
 use Rattle.hub_load.specs.declared.fault.HubFault.TheVariants.{Refused, FileFault, NoMemory}
-use Rattle.gen_defs.specs.Network.{sample_files, sample_name}
-use Rattle.gen_defs.specs.Messages.{Offered, offers_of}
-use Rattle.gen_defs.specs.Run.{history_after, line_after, sample_conf, sample_line, sample_schedules}
+use Rattle.hub_gen_defs.specs.Network.{sample_files, sample_name}
+use Rattle.hub_gen_defs.specs.Messages.{Offered, offers_of}
+use Rattle.hub_gen_defs.specs.Run.{history_after, line_after, sample_conf, sample_line, sample_schedules}
 
 -- the timetable of files, or the line of its fault
 abbrev pub loaded : List (List ℕ × List ℕ) → Result Timetable (List ℕ)

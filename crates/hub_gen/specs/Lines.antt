@@ -1,7 +1,7 @@
 -- Lines of files, as they are put together of texts.
 use Rattle.std.specs.Prelude.{ℕ, List, [], ◌∷◌, ◌++◌, codes}
 use Rattle.text_defs.specs.Cleaned.{line_feed}
-use Rattle.gen_defs.specs.Network.{csv_line, time_text}
+use Rattle.hub_gen_defs.specs.Network.{csv_line, time_text}
 
 -- an id: a letter, and the digits of a number
 abbrev pub id_of : List ℕ → List ℕ → List ℕ

@@ -3,10 +3,10 @@ use Rattle.std.specs.Prelude.{ℕ, ◌<◌, List, [], ◌++◌, codes}
 use Rattle.std.specs.Fmt.{decimal}
 use Rattle.std.specs.List.{All}
 use Rattle.text_defs.specs.Cleaned.{line_feed}
-use Rattle.conf_defs.specs.declared.conf.ScheduleConf.{ScheduleConf}
-use Rattle.gen_defs.specs.Messages.{Offered}
-use Rattle.gen_defs.specs.Network.{sample_name}
-use Rattle.gen_defs.specs.Run.{sample_conf}
+use Rattle.hub_config_defs.specs.declared.conf.ScheduleConf.{ScheduleConf}
+use Rattle.hub_gen_defs.specs.Messages.{Offered}
+use Rattle.hub_gen_defs.specs.Network.{sample_name}
+use Rattle.hub_gen_defs.specs.Run.{sample_conf}
 
 -- how the timetable is loaded, as the schedule of a configuration
 abbrev pub sample_schedule : ScheduleConf

@@ -2,7 +2,7 @@
 
 ghost use Rattle.std.specs.Prelude.{◌≡◌, ◌<◌, length, IfOk};
 ghost use Rattle.board_defs.specs.Views.{folds_of};
-ghost use Rattle.gen_defs.specs.Run.{board_rows, delays_of, query_at, rows_at, sum_with};
+ghost use Rattle.hub_gen_defs.specs.Run.{board_rows, delays_of, query_at, rows_at, sum_with};
 
 use crate::NoMemory;
 use board_core::{BoardQuery, HubView, Row, RowsFault, rows};

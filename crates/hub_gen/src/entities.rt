@@ -2,8 +2,8 @@
 
 ghost use Rattle.std.specs.Prelude.{◌≡◌, ◌+◌, ◌*◌, ◌<◌, [], ◌++◌, IfOk};
 ghost use Rattle.std.specs.Fmt.{decimal};
-ghost use Rattle.gen_defs.specs.Draws.{drawn_at, state_after, state_behind};
-ghost use Rattle.gen_defs.specs.Messages.{delay_by, deleted, departs_late, entity_by, late, late_update, left_late, trip_on_first_day};
+ghost use Rattle.hub_gen_defs.specs.Draws.{drawn_at, state_after, state_behind};
+ghost use Rattle.hub_gen_defs.specs.Messages.{delay_by, deleted, departs_late, entity_by, late, late_update, left_late, trip_on_first_day};
 
 use crate::NoMemory;
 use rt_types::{Bytes, Entity, Event, Shared, StopUpdate, StopUpdates, Text, TripRef, TripUpdate};
@@ -30,7 +30,7 @@ pub(crate) struct Draws {
 }
 
 impl Draws {
-    ghost use Rattle.gen_defs.specs.Messages.{entity_of};
+    ghost use Rattle.hub_gen_defs.specs.Messages.{entity_of};
 
     /// The draws of a seed, none of which was taken.
     pub(crate) fn new(seed: u64, trips: u32) -> Draws
@@ -66,7 +66,7 @@ impl Draws {
 }
 
 /// The state of the draws behind another one.
-#[tactic(auto, unfolding(gen_defs::specs::Draws::state_behind))]
+#[tactic(auto, unfolding(hub_gen_defs::specs::Draws::state_behind))]
 fn state_behind(state: u64) -> u64
     ensures { result ≡ state_behind state }
 {

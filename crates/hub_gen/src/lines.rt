@@ -2,7 +2,7 @@
 
 ghost use Rattle.std.specs.Prelude.{◌≡◌, ◌<◌, ◌++◌, OnOk};
 ghost use Rattle.std.specs.List.{flat_map};
-ghost use Rattle.gen_defs.specs.Network.{route_line, stop_line, stop_time_line, time_text, trip_line};
+ghost use Rattle.hub_gen_defs.specs.Network.{route_line, stop_line, stop_time_line, time_text, trip_line};
 ghost use Rattle.hub_gen.specs.Lines.{place_front, route_cells, stop_cells, times_end, trip_cells};
 
 use crate::NoMemory;
@@ -118,7 +118,7 @@ fn push_times(seconds: u32, out: &mut Vec<u8>) -> Result<(), NoMemory>
 }
 
 /// A time as HH:MM:SS.
-#[tactic(auto, unfolding(gen_defs::specs::Network::time_text))]
+#[tactic(auto, unfolding(hub_gen_defs::specs::Network::time_text))]
 fn time_text(seconds: u32) -> [u8; 8]
     requires { seconds < 360_000 }
     ensures { result ≡ time_text seconds }

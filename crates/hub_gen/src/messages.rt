@@ -1,7 +1,7 @@
 //! The messages of a sample, as they are offered.
 
 ghost use Rattle.std.specs.Prelude.{◌≡◌, ◌+◌, ◌*◌, ◌<◌, ◌≤◌, IfOk, OnOk};
-ghost use Rattle.gen_defs.specs.Messages.{entities_from, header_of, incrementality_of, message_of, offer_of, offers_of};
+ghost use Rattle.hub_gen_defs.specs.Messages.{entities_from, header_of, incrementality_of, message_of, offer_of, offers_of};
 
 use crate::NoMemory;
 use crate::entities::Draws;

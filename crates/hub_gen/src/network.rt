@@ -1,7 +1,7 @@
 //! The files of a timetable.
 
 ghost use Rattle.std.specs.Prelude.{◌≡◌, ◌≤◌, ◌<◌, [], ◌∷◌, ◌++◌, IfOk, OnOk};
-ghost use Rattle.gen_defs.specs.Network.{agency_txt, calendar_txt, routes_txt, stop_times_txt, stops_txt, trip_places, trips_txt};
+ghost use Rattle.hub_gen_defs.specs.Network.{agency_txt, calendar_txt, routes_txt, stop_times_txt, stops_txt, trip_places, trips_txt};
 
 use crate::NoMemory;
 use crate::lines::{PLACES, ROUTES, STOPS, push_route, push_stop, push_stop_time, push_trip};

@@ -3,19 +3,19 @@
 ghost use Rattle.std.specs.Prelude.{◌≡◌, ◌≤◌, ◌<◌, length, fold, IfOk, OnOk};
 ghost use Rattle.std.specs.Arc.{arc_value};
 ghost use Rattle.std.specs.String.{string_bytes};
-ghost use Rattle.command_defs.specs.Checks.{timetable_or_line};
-ghost use Rattle.command_defs.specs.Samples.{sample_lines};
+ghost use Rattle.hub_main_defs.specs.Checks.{timetable_or_line};
+ghost use Rattle.hub_main_defs.specs.Samples.{sample_lines};
 ghost use Rattle.hub_load.specs.Told.{IsAsTold, NeedsNoFile};
-ghost use Rattle.load_defs.specs.Loading.{timetable};
-ghost use Rattle.gen_defs.specs.Network.{sample_name};
-ghost use Rattle.gen_defs.specs.Run.{counts_line, history_after, history_with, line_after, sample_conf, sample_schedules};
+ghost use Rattle.sched_load_defs.specs.Loading.{timetable};
+ghost use Rattle.hub_gen_defs.specs.Network.{sample_name};
+ghost use Rattle.hub_gen_defs.specs.Run.{counts_line, history_after, history_with, line_after, sample_conf, sample_schedules};
 ghost use Rattle.hub_gen.specs.Steps.{AreOfTwoFeeds, boards_text, offers_text, sample_schedule};
 
 use crate::NoMemory;
 use crate::boards::{board_rows, delays_of};
 use crate::sample::{Offer, generate};
 use board_core::{Oracle, Row};
-use conf_defs::ScheduleConf;
+use hub_config_defs::ScheduleConf;
 use hub_core::Refusal;
 use hub_load::{HubFault, load_plan};
 use hub_outside::{MemoryFile, MemoryFiles};

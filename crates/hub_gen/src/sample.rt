@@ -1,8 +1,8 @@
 //! Samples.
 
 ghost use Rattle.std.specs.Prelude.{◌≡◌, ◌≤◌, [], ◌∷◌, ◌++◌, IfOk, OnOk};
-ghost use Rattle.gen_defs.specs.Network.{sample_files};
-ghost use Rattle.gen_defs.specs.Messages.{offers_of};
+ghost use Rattle.hub_gen_defs.specs.Network.{sample_files};
+ghost use Rattle.hub_gen_defs.specs.Messages.{offers_of};
 
 use crate::NoMemory;
 use crate::messages::offers_of;
@@ -11,7 +11,7 @@ use hub_outside::MemoryFile;
 use std::alloc::Global;
 use std::marker::Model;
 
-/// Bytes that are offered to a feed. A contract sees it as `Offered` of `gen_defs`.
+/// Bytes that are offered to a feed. A contract sees it as `Offered` of `hub_gen_defs`.
 #[derive(Drop)]
 pub struct Offer {
     /// The number of the feed, 0 or 1.
@@ -21,7 +21,7 @@ pub struct Offer {
 }
 
 impl Model for Offer {
-    ghost use Rattle.gen_defs.specs.Messages.{Offered};
+    ghost use Rattle.hub_gen_defs.specs.Messages.{Offered};
 
     ghost Value = { Offered };
 

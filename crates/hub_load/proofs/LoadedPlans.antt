@@ -9,11 +9,11 @@ use Rattle.sched_types.specs.declared.plans.NamedFeed.{NamedFeed}
 use Rattle.sched_types.specs.declared.plans.NamedPlan.{NamedPlan}
 use Rattle.sched_types.specs.Schedules.{Schedules}
 use Rattle.sched_types.specs.Timetable.{Timetable}
-use Rattle.conf_defs.specs.Right.{has_window}
-use Rattle.conf_defs.specs.declared.conf.HubConf.{HubConf}
-use Rattle.conf_defs.specs.declared.conf.ScheduleConf.{ScheduleConf}
-use Rattle.command_defs.specs.Checks.{conf_in, timetables}
-use Rattle.command_defs.specs.Hubs.{configured_at, named_feed, named_plans, schedules_at, schedules_of}
+use Rattle.hub_config_defs.specs.Right.{has_window}
+use Rattle.hub_config_defs.specs.declared.conf.HubConf.{HubConf}
+use Rattle.hub_config_defs.specs.declared.conf.ScheduleConf.{ScheduleConf}
+use Rattle.hub_main_defs.specs.Checks.{conf_in, timetables}
+use Rattle.hub_main_defs.specs.Hubs.{configured_at, named_feed, named_plans, schedules_at, schedules_of}
 use Rattle.hub_load.specs.Told.{Stored, TellsFault, named_plan_told, named_plans_told, plan_told, schedules_told, with_front}
 use Rattle.hub_load.proofs.Telling.{front_nothing, front_twice, told_behind, told_first}
 use Rattle.hub_load.specs.declared.fault.HubFault.{HubFault}

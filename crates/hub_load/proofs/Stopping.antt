@@ -4,11 +4,11 @@ use Rattle.std.specs.Option.{IfSome}
 use Rattle.answer_defs.specs.Steps.{◌>>=◌}
 use Rattle.hub_outside.specs.Files.{file_at}
 use Rattle.sched_types.specs.Timetable.{Timetable}
-use Rattle.load_defs.specs.Stops.{StopsAt}
-use Rattle.load_defs.specs.declared.fault.LoadFault.{LoadFault}
-use Rattle.conf_defs.specs.declared.conf.HubConf.{HubConf}
-use Rattle.conf_defs.specs.declared.conf.ScheduleConf.{ScheduleConf}
-use Rattle.command_defs.specs.Checks.{conf_in, plan_conf, timetable_or_line}
+use Rattle.sched_load_defs.specs.Stops.{StopsAt}
+use Rattle.sched_load_defs.specs.declared.fault.LoadFault.{LoadFault}
+use Rattle.hub_config_defs.specs.declared.conf.HubConf.{HubConf}
+use Rattle.hub_config_defs.specs.declared.conf.ScheduleConf.{ScheduleConf}
+use Rattle.hub_main_defs.specs.Checks.{conf_in, plan_conf, timetable_or_line}
 use Rattle.hub_load.specs.Stops.{AtFileFault, IsThere, LoadingStopped, PlanStopped, PlansStopped, SchedulesStop, StopsWith}
 use Rattle.hub_load.specs.Told.{Stored}
 use Rattle.hub_load.specs.declared.fault.HubFault.{HubFault}

@@ -1,6 +1,6 @@
 -- A configuration and what it describes, as contracts see them.
 use Rattle.sched_types.specs.Schedules.{Schedules}
-use Rattle.conf_defs.specs.declared.conf.HubConf.{HubConf}
+use Rattle.hub_config_defs.specs.declared.conf.HubConf.{HubConf}
 use Rattle.hub_load.specs.declared.loading.Configured.{Configured}
 
 -- the pair of the configuration and of its timetables and feeds

@@ -2,11 +2,11 @@
 use Rattle.std.specs.Prelude.{◌≡◌, ◌⊎◌, ℕ, List, [], ◌∷◌, Option, IfSome, Result, Ok, Err}
 use Rattle.hub_outside.specs.Files.{file_at}
 use Rattle.sched_types.specs.Timetable.{Timetable}
-use Rattle.load_defs.specs.Loading.{timetable}
-use Rattle.load_defs.specs.Stops.{StopsAt}
-use Rattle.conf_defs.specs.declared.conf.HubConf.{HubConf}
-use Rattle.conf_defs.specs.declared.conf.ScheduleConf.{ScheduleConf}
-use Rattle.command_defs.specs.Checks.{conf_in, plan_conf}
+use Rattle.sched_load_defs.specs.Loading.{timetable}
+use Rattle.sched_load_defs.specs.Stops.{StopsAt}
+use Rattle.hub_config_defs.specs.declared.conf.HubConf.{HubConf}
+use Rattle.hub_config_defs.specs.declared.conf.ScheduleConf.{ScheduleConf}
+use Rattle.hub_main_defs.specs.Checks.{conf_in, plan_conf}
 use Rattle.hub_load.specs.Told.{Stored}
 use Rattle.hub_load.specs.declared.fault.HubFault.{HubFault}
 use Rattle.hub_load.specs.declared.fault.HubFault.TheVariants.{Refused, FileFault, NoMemory}

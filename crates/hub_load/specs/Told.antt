@@ -6,17 +6,17 @@ use Rattle.text_defs.specs.Cleaned.{line_feed}
 use Rattle.sched_types.specs.declared.plans.NamedPlan.{NamedPlan}
 use Rattle.sched_types.specs.Schedules.{Schedules}
 use Rattle.sched_types.specs.Timetable.{Timetable}
-use Rattle.load_defs.specs.Loading.{timetable}
-use Rattle.load_defs.specs.declared.fault.LoadFault.{LoadFault}
-use Rattle.load_defs.specs.declared.fault.LoadFault.TheVariants as load
-use Rattle.conf_defs.specs.Lines.{line_of}
-use Rattle.conf_defs.specs.declared.conf.HubConf.{HubConf}
-use Rattle.conf_defs.specs.declared.conf.ScheduleConf.{ScheduleConf}
-use Rattle.conf_defs.specs.declared.fault.ConfFault.{ConfFault}
-use Rattle.conf_defs.specs.declared.fault.ConfFault.TheVariants as conf
-use Rattle.command_defs.specs.Faults.{load_words}
-use Rattle.command_defs.specs.Checks.{timetable_or_line, plan_conf}
-use Rattle.command_defs.specs.Hubs.{named_feed}
+use Rattle.sched_load_defs.specs.Loading.{timetable}
+use Rattle.sched_load_defs.specs.declared.fault.LoadFault.{LoadFault}
+use Rattle.sched_load_defs.specs.declared.fault.LoadFault.TheVariants as load
+use Rattle.hub_config_defs.specs.Lines.{line_of}
+use Rattle.hub_config_defs.specs.declared.conf.HubConf.{HubConf}
+use Rattle.hub_config_defs.specs.declared.conf.ScheduleConf.{ScheduleConf}
+use Rattle.hub_config_defs.specs.declared.fault.ConfFault.{ConfFault}
+use Rattle.hub_config_defs.specs.declared.fault.ConfFault.TheVariants as conf
+use Rattle.hub_main_defs.specs.Faults.{load_words}
+use Rattle.hub_main_defs.specs.Checks.{timetable_or_line, plan_conf}
+use Rattle.hub_main_defs.specs.Hubs.{named_feed}
 use Rattle.hub_load.specs.declared.fault.HubFault.{HubFault}
 use Rattle.hub_load.specs.declared.fault.HubFault.TheVariants.{Refused, FileFault, NoMemory}
 

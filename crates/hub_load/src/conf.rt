@@ -2,17 +2,17 @@
 ghost use Rattle.std.specs.Prelude.{◌≡◌, ◌++◌, IfOk, IfSome, true};
 ghost use Rattle.std.specs.List.{list_all};
 ghost use Rattle.hub_outside.specs.Files.{file_at};
-ghost use Rattle.conf_defs.specs.Conf.{conf_of};
-ghost use Rattle.conf_defs.specs.Lines.{line_of};
+ghost use Rattle.hub_config_defs.specs.Conf.{conf_of};
+ghost use Rattle.hub_config_defs.specs.Lines.{line_of};
 ghost use Rattle.text_defs.specs.Cleaned.{line_feed};
-ghost use Rattle.conf_defs.specs.Right.{IsLegal, has_window};
-ghost use Rattle.command_defs.specs.Checks.{conf_in, conf_or_line};
+ghost use Rattle.hub_config_defs.specs.Right.{IsLegal, has_window};
+ghost use Rattle.hub_main_defs.specs.Checks.{conf_in, conf_or_line};
 ghost use Rattle.hub_load.specs.Stops.{StopsWith};
 ghost use Rattle.hub_load.specs.Told.{HasCause, IsRefusedWith, IsConfRefusal, NeedsNoFile, IsAsTold};
 
 use crate::fault::HubFault;
-use conf_defs::{ConfFault, HubConf};
 use hub_config::{fault_line, read_conf};
+use hub_config_defs::{ConfFault, HubConf};
 use hub_outside::{Buf, FileAnswer, Files};
 use std::alloc::{AllocError, Global};
 

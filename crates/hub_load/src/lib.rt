@@ -2,7 +2,7 @@
 //!
 //! [`load_plans`] reads the configuration at a path, loads each of its timetables in their order, and
 //! gives them with its feeds as `Plans`, or the line of the first fault. What these are is defined in
-//! `command_defs` (`Hubs.schedules_at`). [`load_configured`] gives the configuration beside them.
+//! `hub_main_defs` (`Hubs.schedules_at`). [`load_configured`] gives the configuration beside them.
 //! [`conf_at`] gives the configuration alone and [`load_plan`]
 //! the timetable of one schedule, for a caller that keeps less than all of them.
 //!

@@ -1,8 +1,8 @@
 //! The timetables and the feeds of a configuration.
 ghost use Rattle.std.specs.Prelude.{◌≡◌, IfErr, IfOk, IfSome, map, true};
 ghost use Rattle.std.specs.List.{list_all};
-ghost use Rattle.conf_defs.specs.Right.{IsLegal, has_window};
-ghost use Rattle.command_defs.specs.Hubs.{configured_at, named_feed, schedules_at};
+ghost use Rattle.hub_config_defs.specs.Right.{IsLegal, has_window};
+ghost use Rattle.hub_main_defs.specs.Hubs.{configured_at, named_feed, schedules_at};
 ghost use Rattle.hub_load.specs.Configuring.{configured_seen};
 ghost use Rattle.hub_load.specs.Stops.{LoadingStopped, PlanStopped, PlansStopped, StopsWith};
 ghost use Rattle.hub_load.specs.Told.{HasCause, IsAsTold, named_plan_told, named_plans_told, schedules_told};
@@ -10,7 +10,7 @@ ghost use Rattle.hub_load.specs.Told.{HasCause, IsAsTold, named_plan_told, named
 use crate::conf::conf_at;
 use crate::fault::HubFault;
 use crate::plan::load_plan;
-use conf_defs::{FeedConf, HubConf, ScheduleConf};
+use hub_config_defs::{FeedConf, HubConf, ScheduleConf};
 use hub_outside::Files;
 use rt_types::Copied;
 use sched_types::{NamedFeed, NamedPlan, Plans};

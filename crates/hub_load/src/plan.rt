@@ -1,17 +1,17 @@
 //! The timetable of a schedule.
 ghost use Rattle.std.specs.Prelude.{◌≡◌, IfOk, IfSome, true};
-ghost use Rattle.conf_defs.specs.Right.{has_window};
-ghost use Rattle.command_defs.specs.Checks.{plan_conf};
+ghost use Rattle.hub_config_defs.specs.Right.{has_window};
+ghost use Rattle.hub_main_defs.specs.Checks.{plan_conf};
 ghost use Rattle.hub_load.specs.Stops.{PlanStopped, StopsWith};
 ghost use Rattle.hub_load.specs.Told.{HasCause, IsAsTold, IsLoadRefusal, plan_told};
 
 use crate::fault::HubFault;
 use crate::words::load_line;
-use conf_defs::ScheduleConf;
+use hub_config_defs::ScheduleConf;
 use hub_outside::Files;
-use load_defs::{LoadFault, PlanConf};
 use rt_types::Copied;
 use sched_load::load;
+use sched_load_defs::{LoadFault, PlanConf};
 use sched_types::Plan;
 use std::alloc::{AllocError, Global};
 

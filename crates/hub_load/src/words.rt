@@ -2,12 +2,12 @@
 ghost use Rattle.std.specs.Prelude.{◌≡◌, ◌++◌, IfOk, codes};
 ghost use Rattle.std.specs.String.{string_bytes};
 ghost use Rattle.std.specs.Fmt.{decimal};
-ghost use Rattle.load_defs.specs.Files.{file_name};
-ghost use Rattle.command_defs.specs.Faults as told;
+ghost use Rattle.sched_load_defs.specs.Files.{file_name};
+ghost use Rattle.hub_main_defs.specs.Faults as told;
 ghost use Rattle.hub_load.specs.Told.{load_line};
 
 use gtfs_rows::{Column, RowFault};
-use load_defs::{File, LoadFault};
+use sched_load_defs::{File, LoadFault};
 use std::alloc::{AllocError, Global};
 
 /// The line of a timetable's fault: its schedule's name and what is wrong, with LF.

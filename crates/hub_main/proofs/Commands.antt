@@ -14,15 +14,15 @@ use Rattle.hub_load.specs.Told.{HasCause, IsAsTold, NeedsNoFile, TellsFault, ref
 use Rattle.hub_load.specs.declared.fault.HubFault.{HubFault}
 use Rattle.hub_load.specs.declared.fault.HubFault.TheVariants.{Refused, FileFault, NoMemory}
 use Rattle.hub_replay.specs.Outcome.{IsReplayStatus, OutcomeOn}
-use Rattle.serve_defs.specs.Connections.{IsServed, Served}
-use Rattle.script_defs.specs.Output.{Output, replayed}
-use Rattle.script_defs.specs.Record.{Hub, configured, serving, start}
-use Rattle.command_defs.specs.Words.{Command}
-use Rattle.command_defs.specs.Words.Command.{Replay, ReplayWith, Check, Board, Gen}
-use Rattle.command_defs.specs.Checks.{check_output, output_of_check}
-use Rattle.command_defs.specs.Commands.{board_output, file_fault_line, found_or_not, output_where_told, replay_output, usage, usage_line, with_schedules}
-use Rattle.command_defs.specs.Hubs.{schedules_at}
-use Rattle.command_defs.specs.Samples.{gen_output, sample_lines}
+use Rattle.http_serve_defs.specs.Connections.{IsServed, Served}
+use Rattle.hub_replay_defs.specs.Output.{Output, replayed}
+use Rattle.hub_replay_defs.specs.Record.{Hub, configured, serving, start}
+use Rattle.hub_main_defs.specs.Words.{Command}
+use Rattle.hub_main_defs.specs.Words.Command.{Replay, ReplayWith, Check, Board, Gen}
+use Rattle.hub_main_defs.specs.Checks.{check_output, output_of_check}
+use Rattle.hub_main_defs.specs.Commands.{board_output, file_fault_line, found_or_not, output_where_told, replay_output, usage, usage_line, with_schedules}
+use Rattle.hub_main_defs.specs.Hubs.{schedules_at}
+use Rattle.hub_main_defs.specs.Samples.{gen_output, sample_lines}
 use Rattle.hub_main.specs.Offline.{WritesLine, FileFailed, IsDone, IsRefusedWith, LoadFailed, OutcomeOf, PrintsFault, PrintsOutput, UsageOutcome, WritesTold, WritesWhole}
 
 -- the line for words that are no command

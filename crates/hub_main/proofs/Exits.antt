@@ -3,14 +3,14 @@ use Rattle.std.proofs.Common.{◌≡◌, ℕ, ◌≤◌, List, [], length, Optio
 use Rattle.std.specs.Prelude.{◌⊎◌}
 use Rattle.hub_outside.specs.Outside.{Outside, Stream}
 use Rattle.hub_replay.specs.Outcome.{IsReplayStatus, ReplayOutcome}
-use Rattle.script_defs.specs.Output.{Output}
-use Rattle.script_defs.specs.Record.{Hub, configured, start}
+use Rattle.hub_replay_defs.specs.Output.{Output}
+use Rattle.hub_replay_defs.specs.Record.{Hub, configured, start}
 use Rattle.board_defs.specs.Fold.{fold_of}
 use Rattle.board_text_defs.specs.Answers.{board_answer}
-use Rattle.command_defs.specs.Words.{Command}
-use Rattle.command_defs.specs.Words.Command.{Replay, ReplayWith, Check, Board, Gen}
-use Rattle.command_defs.specs.Commands.{board_output}
-use Rattle.command_defs.specs.Samples.{gen_output, sample_lines}
+use Rattle.hub_main_defs.specs.Words.{Command}
+use Rattle.hub_main_defs.specs.Words.Command.{Replay, ReplayWith, Check, Board, Gen}
+use Rattle.hub_main_defs.specs.Commands.{board_output}
+use Rattle.hub_main_defs.specs.Samples.{gen_output, sample_lines}
 use Rattle.hub_main.specs.Offline.{IsExitStatus, OutcomeOf, ReplayWithOutcome}
 use Rattle.hub_main.proofs.Commands.{IsAnswer, check_answers, check_status, found_answers, replay_status}
 

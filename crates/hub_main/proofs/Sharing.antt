@@ -3,9 +3,9 @@ use Rattle.std.proofs.Common.{◌≡◌, ◌∙◌, ℕ, ◌≤◌, List, map, S
 use Rattle.std.specs.Option.{IfSome}
 use Rattle.hub_outside.specs.Outside.{FileStore, Stream}
 use Rattle.sched_types.specs.Schedules.{Schedules}
-use Rattle.conf_defs.specs.Right.{IsLegal}
-use Rattle.conf_defs.specs.declared.conf.HubConf.{HubConf}
-use Rattle.command_defs.specs.Hubs.{configured_at, named_feed}
+use Rattle.hub_config_defs.specs.Right.{IsLegal}
+use Rattle.hub_config_defs.specs.declared.conf.HubConf.{HubConf}
+use Rattle.hub_main_defs.specs.Hubs.{configured_at, named_feed}
 use Rattle.hub_load.specs.Configuring.{configured_seen}
 use Rattle.hub_load.specs.Stops.{LoadingStopped, StopsWith}
 use Rattle.hub_load.specs.Told.{HasCause, IsAsTold}

@@ -12,15 +12,15 @@ use Rattle.hub_load.specs.declared.fault.HubFault.{HubFault}
 use Rattle.hub_load.specs.declared.fault.HubFault.TheVariants.{Refused, FileFault, NoMemory}
 use Rattle.hub_replay.specs.Outcome.{ReplayOutcome}
 use Rattle.sched_types.specs.Schedules.{Schedules}
-use Rattle.serve_defs.specs.Connections.{Served, IsServed}
-use Rattle.script_defs.specs.Output.{Output}
-use Rattle.script_defs.specs.Record.{configured, start}
-use Rattle.command_defs.specs.Words.{Command}
-use Rattle.command_defs.specs.Words.Command.{Replay, ReplayWith, Check, Board, Gen}
-use Rattle.command_defs.specs.Checks.{check_output}
-use Rattle.command_defs.specs.Commands.{board_output, file_fault_line, usage_line}
-use Rattle.command_defs.specs.Hubs.{schedules_at}
-use Rattle.command_defs.specs.Samples.{gen_output}
+use Rattle.http_serve_defs.specs.Connections.{Served, IsServed}
+use Rattle.hub_replay_defs.specs.Output.{Output}
+use Rattle.hub_replay_defs.specs.Record.{configured, start}
+use Rattle.hub_main_defs.specs.Words.{Command}
+use Rattle.hub_main_defs.specs.Words.Command.{Replay, ReplayWith, Check, Board, Gen}
+use Rattle.hub_main_defs.specs.Checks.{check_output}
+use Rattle.hub_main_defs.specs.Commands.{board_output, file_fault_line, usage_line}
+use Rattle.hub_main_defs.specs.Hubs.{schedules_at}
+use Rattle.hub_main_defs.specs.Samples.{gen_output}
 
 -- done, no command, refused configuration or timetable, input or file fault, output fault, no
 -- memory, refused script, no such schedule or stop

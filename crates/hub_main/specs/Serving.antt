@@ -2,8 +2,8 @@
 use Rattle.std.specs.Prelude.{◌≡◌, ℕ, ◌≤◌, List, map, Option, Some, None, IfSome, Ok}
 use Rattle.std.specs.Arc.{arc_value}
 use Rattle.hub_outside.specs.Outside.{FileStore, Stream}
-use Rattle.conf_defs.specs.Right.{IsLegal}
-use Rattle.command_defs.specs.Hubs.{configured_at, named_feed}
+use Rattle.hub_config_defs.specs.Right.{IsLegal}
+use Rattle.hub_main_defs.specs.Hubs.{configured_at, named_feed}
 use Rattle.hub_load.specs.declared.loading.Configured.{Configured}
 use Rattle.hub_main.specs.declared.preparing.Prepared.{Prepared}
 use Rattle.hub_main.specs.declared.preparing.Prepared.TheVariants.{Ready, Status}

@@ -4,7 +4,7 @@ ghost use Rattle.std.specs.Arc.{arc_value};
 ghost use Rattle.std.specs.Option.{option_map};
 ghost use Rattle.board_defs.specs.Fold.{fold_of};
 ghost use Rattle.board_text_defs.specs.Answers.{board_answer};
-ghost use Rattle.command_defs.specs.Hubs.{schedules_at};
+ghost use Rattle.hub_main_defs.specs.Hubs.{schedules_at};
 ghost use Rattle.hub_load.specs.Stops.{LoadingStopped, StopsWith};
 ghost use Rattle.hub_load.specs.Told.{HasCause, IsAsTold};
 ghost use Rattle.hub_main.specs.Offline.{IsShare};

@@ -5,7 +5,7 @@
 //! `check` reads a configuration and its timetables and writes what is in them; `board` writes a board
 //! of them; `gen` makes a sample, runs the hub on it and writes what came of it. Its contract says which
 //! bytes were written, by one word for each command (`Offline.OutcomeOf`) over what files, input and
-//! output tell before and after, and by the definitions of the commands' outputs in `command_defs`. [`run_on_system`] runs it on
+//! output tell before and after, and by the definitions of the commands' outputs in `hub_main_defs`. [`run_on_system`] runs it on
 //! the system's own outside.
 //!
 //! [`prepare_serve`] reads what `serve` needs before a hub is opened, and writes what is wrong as the

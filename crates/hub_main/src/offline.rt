@@ -4,9 +4,9 @@ ghost use Rattle.std.specs.Arc.{arc_value};
 ghost use Rattle.hub_outside.specs.Outside.{file_store, outside, stream};
 ghost use Rattle.hub_words.specs.Answer.{asked_seen};
 ghost use Rattle.view_answers.specs.Questions.{MayAsk};
-ghost use Rattle.command_defs.specs.Words.{command_of};
-ghost use Rattle.command_defs.specs.Commands.{board_output, output_where_told};
-ghost use Rattle.command_defs.specs.Samples.{gen_output};
+ghost use Rattle.hub_main_defs.specs.Words.{command_of};
+ghost use Rattle.hub_main_defs.specs.Commands.{board_output, output_where_told};
+ghost use Rattle.hub_main_defs.specs.Samples.{gen_output};
 ghost use Rattle.hub_main.specs.Offline.{BoardOutcome, CheckOutcome, IsExitStatus, MayMake, OutcomeOf, PrintsFault, PrintsOutput, ReadsFiles, ReadsInput, ReplayWithOutcome, UsageOutcome, WritesLine, WritesWhole};
 
 use crate::boards::{board_of, load_shared};

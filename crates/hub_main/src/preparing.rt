@@ -1,12 +1,12 @@
 //! What `serve` needs before a hub is opened.
 ghost use Rattle.std.specs.Prelude.{◌≡◌, Some};
 ghost use Rattle.hub_outside.specs.Outside.{file_store, stream};
-ghost use Rattle.command_defs.specs.Words.{serve_of};
+ghost use Rattle.hub_main_defs.specs.Words.{serve_of};
 ghost use Rattle.hub_main.specs.Serving.{IsSharing, PrepareOutcome};
 
 use crate::boards::shared;
 use crate::offline::{run_usage, write_fault};
-use conf_defs::HubConf;
+use hub_config_defs::HubConf;
 use hub_load::{Configured, load_configured};
 use hub_outside::{Files, Sink};
 use hub_replay::statuses::NO_MEMORY;

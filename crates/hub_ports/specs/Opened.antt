@@ -1,7 +1,7 @@
 -- What is opened for a hub.
 use Rattle.std.specs.Prelude.{◌≡◌, ℕ, min, max, []}
-use Rattle.conf_defs.specs.declared.conf.FeedConf.{FeedConf}
-use Rattle.conf_defs.specs.declared.conf.PortKind.TheVariants as kind
+use Rattle.hub_config_defs.specs.declared.conf.FeedConf.{FeedConf}
+use Rattle.hub_config_defs.specs.declared.conf.PortKind.TheVariants as kind
 use Rattle.feed_port.specs.declared.stream.Stage.TheVariants.{Open}
 use Rattle.feed_port.specs.Memory.{messages_ahead}
 use Rattle.feed_port.specs.Spooling.{spool_folder, spool_number}

@@ -10,7 +10,7 @@
 //! What the contracts say: each port is of its feed's kind (`specs/Opened`), there are as many ports as feeds, and as
 //! many doors and clocks as are asked for. What the system itself does, no contract knows.
 //!
-//! It stands on `conf_defs` for the configuration, on `feed_port` for ports, and on `hub_outside` for files, doors,
+//! It stands on `hub_config_defs` for the configuration, on `feed_port` for ports, and on `hub_outside` for files, doors,
 //! clocks and lines.
 #![tactic(auto)]
 

@@ -2,14 +2,14 @@
 use Rattle.std.proofs.Common.{◌≡◌, ℕ, ◌≤◌, length, Bool, true, false, List, [], ◌++◌, drop, Option, Some, None, refl, sym, ◌∙◌, append-nil}
 use Rattle.std.proofs.lemmas.List.Elements.{All-nil}
 use Rattle.board_text_defs.specs.Answers.{answer_to, feed_number, Question}
-use Rattle.script_defs.specs.Optional.{◌>>=◌}
-use Rattle.script_defs.specs.Lines.{Head, line_within, longest_line, head_of}
-use Rattle.serve_defs.specs.Connections.{Served, IsServed}
-use Rattle.script_defs.specs.Record.{Hub, turn, act, payload_at, payload_waits, offered_turn, waits, serving, with_feed, may_declare, answer_reply, question_word, folds_in}
-use Rattle.script_defs.specs.Lines.Head.{Feed, Message, Ask, End}
-use Rattle.script_defs.proofs.Options.{bind_at, bind_none}
-use Rattle.script_defs.proofs.Turns.{turn_line, no_line_here, no_line_turn}
-use Rattle.script_defs.proofs.Opens.{waits_by_line, short_waits}
+use Rattle.hub_replay_defs.specs.Optional.{◌>>=◌}
+use Rattle.hub_replay_defs.specs.Lines.{Head, line_within, longest_line, head_of}
+use Rattle.http_serve_defs.specs.Connections.{Served, IsServed}
+use Rattle.hub_replay_defs.specs.Record.{Hub, turn, act, payload_at, payload_waits, offered_turn, waits, serving, with_feed, may_declare, answer_reply, question_word, folds_in}
+use Rattle.hub_replay_defs.specs.Lines.Head.{Feed, Message, Ask, End}
+use Rattle.hub_replay_defs.proofs.Options.{bind_at, bind_none}
+use Rattle.hub_replay_defs.proofs.Turns.{turn_line, no_line_here, no_line_turn}
+use Rattle.hub_replay_defs.proofs.Opens.{waits_by_line, short_waits}
 use Rattle.hub_replay.specs.declared.records.Step.{Step}
 use Rattle.hub_replay.specs.declared.records.Step.TheVariants.{Whole, Ends, Short, Long, Refused, NoMemory}
 use Rattle.hub_replay.specs.Records.{Turned, Does, Turns, Acts, LacksLine, numbered_turn}

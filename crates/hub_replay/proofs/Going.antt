@@ -9,13 +9,13 @@ use Rattle.std.proofs.lemmas.Option.{slice_get_past}
 use Rattle.std.proofs.lemmas.List.{drop-append-le}
 use Rattle.std.proofs.Math.Seq.{drop-append-add, take-append_seam}
 use Rattle.feed_defs.specs.History.Refusal.{TooLong}
-use Rattle.serve_defs.specs.Connections.{Served, IsServed}
-use Rattle.script_defs.specs.Record.{Hub, turn, waits, reply_line, serving}
+use Rattle.http_serve_defs.specs.Connections.{Served, IsServed}
+use Rattle.hub_replay_defs.specs.Record.{Hub, turn, waits, reply_line, serving}
 use Rattle.answer_defs.specs.Choices.{only_if}
-use Rattle.script_defs.specs.Output.{Run, run, is_open, behind}
-use Rattle.script_defs.proofs.Turns.{turn_rest}
-use Rattle.script_defs.proofs.Opens.{open_none, open_step}
-use Rattle.script_defs.proofs.Runs.{run_none, run_step, run_end, behind_behind}
+use Rattle.hub_replay_defs.specs.Output.{Run, run, is_open, behind}
+use Rattle.hub_replay_defs.proofs.Turns.{turn_rest}
+use Rattle.hub_replay_defs.proofs.Opens.{open_none, open_step}
+use Rattle.hub_replay_defs.proofs.Runs.{run_none, run_step, run_end, behind_behind}
 use Rattle.hub_replay.specs.declared.steps.Ending.{Ending as HowEnded}
 use Rattle.hub_replay.specs.declared.steps.Ending.TheVariants.{Ended, Refused, InputFault, OutputFault, NoMemory}
 use Rattle.hub_replay.specs.Records.{Did, Ended as IsEnded, long_turn, is_fed}

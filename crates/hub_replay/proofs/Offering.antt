@@ -9,13 +9,13 @@ use Rattle.feed_defs.specs.declared.history.Entry.{Entry}
 use Rattle.feed_defs.specs.History.{Refusal, OfferOutcome, offer_outcome, outcome_of_judgement, judgement_of, last_stamp, longest_message}
 use Rattle.feed_defs.specs.History.Refusal.{TooLong}
 use Rattle.feed_defs.proofs.WellFormed.{too_long}
-use Rattle.serve_defs.specs.Connections.{IsServed}
-use Rattle.script_defs.specs.Record.{Hub, payload_at, payload_waits, reply_line, serving}
+use Rattle.http_serve_defs.specs.Connections.{IsServed}
+use Rattle.hub_replay_defs.specs.Record.{Hub, payload_at, payload_waits, reply_line, serving}
 use Rattle.answer_defs.specs.Choices.{only_if}
-use Rattle.script_defs.proofs.Payloads.{payload_is, get_more, no_payload, fed_within, is_fed as is_line_end}
+use Rattle.hub_replay_defs.proofs.Payloads.{payload_is, get_more, no_payload, fed_within, is_fed as is_line_end}
 use Rattle.board_text_defs.specs.Answers.{feed_number}
-use Rattle.script_defs.proofs.Opens.{payload_short}
-use Rattle.script_defs.specs.Lines.Head.{Message}
+use Rattle.hub_replay_defs.proofs.Opens.{payload_short}
+use Rattle.hub_replay_defs.specs.Lines.Head.{Message}
 use Rattle.rt_types.specs.declared.message.FeedMessage.{FeedMessage}
 use Rattle.hub_core.specs.Answers.{cause_of}
 use Rattle.hub_core.specs.declared.refusal.Refusal.{Refusal as Answer}

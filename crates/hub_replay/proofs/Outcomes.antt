@@ -7,9 +7,9 @@ use Rattle.std.proofs.lemmas.List.{take-append-le, take_min}
 use Rattle.std.proofs.Math.Seq.{take-append-add, take-append_seam}
 use Rattle.hub_outside.specs.Count.{Rose}
 use Rattle.hub_outside.proofs.Rising.{rose_later, rose_before}
-use Rattle.serve_defs.specs.Connections.{Served}
-use Rattle.script_defs.specs.Record.{Hub}
-use Rattle.script_defs.specs.Output.{Run, Output, run, output_of, replayed, longest_script, refused_line, fault_line}
+use Rattle.http_serve_defs.specs.Connections.{Served}
+use Rattle.hub_replay_defs.specs.Record.{Hub}
+use Rattle.hub_replay_defs.specs.Output.{Run, Output, run, output_of, replayed, longest_script, refused_line, fault_line}
 use Rattle.hub_replay.specs.declared.steps.Ending.{Ending}
 use Rattle.hub_replay.specs.declared.steps.Ending.TheVariants.{Ended, Refused, InputFault, OutputFault, NoMemory}
 use Rattle.hub_replay.specs.Window.{remaining}

@@ -4,8 +4,8 @@ use Rattle.std.specs.Prelude.{position, min}
 use Rattle.std.specs.List.{position_from}
 use Rattle.std.proofs.lemmas.List.{take_min}
 use Rattle.std.proofs.lemmas.Iterator.Adapters.{position_from-zero}
-use Rattle.script_defs.specs.Lines.{line_within}
-use Rattle.script_defs.proofs.Lines.{line_at, no_line, is_line_feed}
+use Rattle.hub_replay_defs.specs.Lines.{line_within}
+use Rattle.hub_replay_defs.proofs.Lines.{line_at, no_line, is_line_feed}
 
 abbrev pub IsLineEnd : (most : ℕ) → List ℕ → Option ℕ → Type 0
 IsLineEnd most bytes found =

@@ -10,7 +10,7 @@ use Rattle.text_defs.specs.Names.{is_name}
 use Rattle.sched_types.specs.declared.plans.NamedFeed.{NamedFeed}
 use Rattle.sched_types.specs.declared.plans.NamedPlan.{NamedPlan}
 use Rattle.sched_types.specs.Schedules.{AreSchedules}
-use Rattle.script_defs.specs.Record.{plain_schedules}
+use Rattle.hub_replay_defs.specs.Record.{plain_schedules}
 
 -- one of none, and one of one
 none_at : {X : Type 0} (i : ℕ) (x : X) → slice_get {X = X} [] i ≡ Some x → ⊥

@@ -6,12 +6,12 @@ use Rattle.std.specs.Str.{bytes_eq}
 use Rattle.std.proofs.lemmas.List.Elements.{All-cons, All-nil}
 use Rattle.std.proofs.lemmas.Option.{slice_get_within}
 use Rattle.std.proofs.lemmas.Slice.Eq.{bytes_eq-Decides}
-use Rattle.serve_defs.specs.Connections.{Served, IsServed, connection_bytes}
-use Rattle.script_defs.specs.Lines.Head.{Connection}
-use Rattle.script_defs.specs.Record.{Hub, connection_of, connection_reply, folds_in, serving}
-use Rattle.script_defs.proofs.Connections.{first_is_served}
-use Rattle.script_defs.proofs.Opens.{input_short}
-use Rattle.script_defs.proofs.Payloads.{no_payload}
+use Rattle.http_serve_defs.specs.Connections.{Served, IsServed, connection_bytes}
+use Rattle.hub_replay_defs.specs.Lines.Head.{Connection}
+use Rattle.hub_replay_defs.specs.Record.{Hub, connection_of, connection_reply, folds_in, serving}
+use Rattle.hub_replay_defs.proofs.Connections.{first_is_served}
+use Rattle.hub_replay_defs.proofs.Opens.{input_short}
+use Rattle.hub_replay_defs.proofs.Payloads.{no_payload}
 use Rattle.hub_replay.specs.declared.records.Step.TheVariants.{Whole, Short, Refused}
 use Rattle.hub_replay.specs.Records.{Acts, Said, Says}
 use Rattle.hub_replay.proofs.Offering.{there}

@@ -8,10 +8,10 @@ use Rattle.std.specs.Str.{is_utf8, IsUtf8}
 use Rattle.std.proofs.lemmas.Bool.{cases_Bool}
 use Rattle.std.proofs.lemmas.Str.{IsUtf8-from_is_utf8, is_utf8-from_IsUtf8}
 use Rattle.percent_encoding.specs.Percent.{percent_decode}
-use Rattle.script_defs.specs.Lines.{text_of_word, texts_of}
-use Rattle.script_defs.specs.Lines.{Head, head_of, head_of_words, words_of}
-use Rattle.script_defs.specs.Optional.{◌>>=◌}
-use Rattle.script_defs.proofs.Options.{bind_at, bind_none}
+use Rattle.hub_replay_defs.specs.Lines.{text_of_word, texts_of}
+use Rattle.hub_replay_defs.specs.Lines.{Head, head_of, head_of_words, words_of}
+use Rattle.hub_replay_defs.specs.Optional.{◌>>=◌}
+use Rattle.hub_replay_defs.proofs.Options.{bind_at, bind_none}
 use Rattle.hub_replay.specs.declared.lines.Line.{Line}
 use Rattle.hub_replay.specs.declared.lines.LineFault.{LineFault}
 use Rattle.hub_replay.specs.declared.lines.LineFault.TheVariants.{NotALine, NoMemory}

@@ -9,7 +9,7 @@ use Rattle.http_serve.specs.declared.transcript.Transcript.{Transcript}
 use Rattle.sched_types.specs.declared.plans.NamedFeed.{NamedFeed}
 use Rattle.sched_types.specs.Schedules.{Schedules}
 use Rattle.board_text_defs.specs.Answers.{Question, answer_to}
-use Rattle.script_defs.specs.Record.{Hub, start, configured, plain_schedules, with_feed, may_declare, folds_in}
+use Rattle.hub_replay_defs.specs.Record.{Hub, start, configured, plain_schedules, with_feed, may_declare, folds_in}
 use Rattle.hub_replay.specs.declared.feeds.ScriptState.{ScriptState}
 use Rattle.hub_replay.specs.declared.feeds.ScriptState.TheVariants.{Declaring, Running}
 

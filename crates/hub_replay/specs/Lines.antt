@@ -1,8 +1,8 @@
 -- What the parts of a record's line are.
 use Rattle.std.specs.Prelude.{◌≡◌, ℕ, ◌≤◌, false, List, Option, Some, None, Result, Ok, Err, ⊤}
 use Rattle.std.specs.Global.{Vec}
-use Rattle.script_defs.specs.Lines.{Head as ScriptHead}
-use Rattle.script_defs.specs.Lines.Head.{Feed as FeedLine, Message as MessageLine, Ask as AskLine, Connection as ConnectionLine, End as EndLine}
+use Rattle.hub_replay_defs.specs.Lines.{Head as ScriptHead}
+use Rattle.hub_replay_defs.specs.Lines.Head.{Feed as FeedLine, Message as MessageLine, Ask as AskLine, Connection as ConnectionLine, End as EndLine}
 use Rattle.board_text_defs.specs.Answers.Question.{FeedOf, BoardOf, AlertsOf, UnmatchedOf, StatusOf}
 use Rattle.text_defs.specs.Moments.{last_moment}
 use Rattle.view_answers.specs.Questions.{IsAsked}

@@ -3,9 +3,9 @@ use Rattle.std.specs.Prelude.{◌≡◌, ℕ, ◌≤◌, List, [], ◌++◌, All
 use Rattle.std.specs.Io.KnownBytes.{Appends, Consumes}
 use Rattle.hub_outside.specs.Count.{Rose}
 use Rattle.hub_outside.specs.Outside.{Stream}
-use Rattle.serve_defs.specs.Connections.{Served, IsServed}
-use Rattle.script_defs.specs.Record.{Hub, serving}
-use Rattle.script_defs.specs.Output.{Output, run, is_open, output_of, replayed, longest_script, refused_line, fault_line}
+use Rattle.http_serve_defs.specs.Connections.{Served, IsServed}
+use Rattle.hub_replay_defs.specs.Record.{Hub, serving}
+use Rattle.hub_replay_defs.specs.Output.{Output, run, is_open, output_of, replayed, longest_script, refused_line, fault_line}
 use Rattle.hub_replay.specs.declared.steps.Ending.{Ending}
 use Rattle.hub_replay.specs.declared.steps.Ending.TheVariants.{Ended, Refused, InputFault, OutputFault, NoMemory}
 

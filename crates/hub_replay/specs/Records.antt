@@ -5,9 +5,9 @@ use Rattle.feed_defs.specs.History.Refusal.{TooLong as LongCause}
 use Rattle.hub_core.specs.Answers.{cause_of}
 use Rattle.hub_core.specs.declared.refusal.Refusal.{Refusal}
 use Rattle.board_text_defs.specs.Answers.{Question, answer_to}
-use Rattle.serve_defs.specs.Connections.{Served, IsServed, connection_bytes}
-use Rattle.script_defs.specs.Lines.{Head, longest_line}
-use Rattle.script_defs.specs.Record.{Hub, Turn, turn, act, reply_line, payload_waits, offered_turn, waits, answer_reply, question_word, folds_in, serving, connection_reply}
+use Rattle.http_serve_defs.specs.Connections.{Served, IsServed, connection_bytes}
+use Rattle.hub_replay_defs.specs.Lines.{Head, longest_line}
+use Rattle.hub_replay_defs.specs.Record.{Hub, Turn, turn, act, reply_line, payload_waits, offered_turn, waits, answer_reply, question_word, folds_in, serving, connection_reply}
 use Rattle.answer_defs.specs.Choices.{only_if}
 use Rattle.hub_replay.specs.declared.records.Step.{Step}
 use Rattle.hub_replay.specs.declared.records.Step.TheVariants.{Whole, Ends, Short, Long, Refused, NoMemory}

@@ -3,10 +3,10 @@ use Rattle.std.specs.Prelude.{◌≡◌, ℕ, ◌+◌, ◌-◌, ◌*◌, ◌≤�
 use Rattle.feed_defs.specs.History.Refusal.{TooLong}
 use Rattle.std.specs.Io.KnownBytes.{Appends, Consumes}
 use Rattle.hub_outside.specs.Count.{Rose}
-use Rattle.serve_defs.specs.Connections.{Served, IsServed}
-use Rattle.script_defs.specs.Record.{Hub, reply_line, serving}
+use Rattle.http_serve_defs.specs.Connections.{Served, IsServed}
+use Rattle.hub_replay_defs.specs.Record.{Hub, reply_line, serving}
 use Rattle.hub_replay.specs.Records.{is_fed}
-use Rattle.script_defs.specs.Output.{run, is_open, behind, longest_script}
+use Rattle.hub_replay_defs.specs.Output.{run, is_open, behind, longest_script}
 use Rattle.hub_replay.specs.declared.steps.Replay.{Replay}
 use Rattle.hub_replay.specs.declared.steps.Ending.{Ending as HowEnded}
 use Rattle.hub_replay.specs.declared.steps.Ending.TheVariants.{Ended, Refused, InputFault, OutputFault, NoMemory}

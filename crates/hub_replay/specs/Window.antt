@@ -2,7 +2,7 @@
 use Rattle.std.specs.Prelude.{◌≡◌, ℕ, ◌+◌, ◌≤◌, ◌<◌, List, [], ◌++◌, length, take, Option, unwrap_or}
 use Rattle.std.specs.Io.KnownBytes.{Consumes}
 use Rattle.hub_outside.specs.Count.{Rose}
-use Rattle.script_defs.specs.Output.{longest_script}
+use Rattle.hub_replay_defs.specs.Output.{longest_script}
 use Rattle.hub_replay.specs.declared.window.Refill.{Refill}
 use Rattle.hub_replay.specs.declared.window.Refill.TheVariants.{More, End, Failed, NoMemory}
 

@@ -4,8 +4,8 @@ ghost use Rattle.std.specs.Fmt.{decimal};
 ghost use Rattle.std.specs.String.{string_bytes};
 ghost use Rattle.text_defs.specs.Cleaned.{line_feed};
 ghost use Rattle.text_defs.specs.Moments.{last_moment};
-ghost use Rattle.script_defs.specs.Lines.Head.{Connection};
-ghost use Rattle.script_defs.specs.Record.{finish_word};
+ghost use Rattle.hub_replay_defs.specs.Lines.Head.{Connection};
+ghost use Rattle.hub_replay_defs.specs.Record.{finish_word};
 ghost use Rattle.http_serve.specs.Transcript.{finish_seen};
 ghost use Rattle.hub_replay.specs.Records.{Acts, Says, SaysServed};
 

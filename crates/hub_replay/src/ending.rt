@@ -3,7 +3,7 @@ ghost use Rattle.std.specs.Prelude.{◌≡◌, ◌++◌, IfOk};
 ghost use Rattle.std.specs.Arc.{arc_value};
 ghost use Rattle.std.specs.Option.{option_map};
 ghost use Rattle.std.specs.String.{string_bytes};
-ghost use Rattle.script_defs.specs.Output.{refused_line};
+ghost use Rattle.hub_replay_defs.specs.Output.{refused_line};
 ghost use Rattle.hub_replay.specs.Feeds.{hub_given};
 ghost use Rattle.hub_replay.specs.Outcome.{ReplayOutcome, Last, Finishes};
 ghost use Rattle.hub_outside.specs.Outside.{stream};

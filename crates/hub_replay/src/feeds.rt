@@ -11,7 +11,7 @@ ghost use Rattle.board_defs.specs.Fold.{fold_of};
 ghost use Rattle.board_defs.specs.Views.{hub_first};
 ghost use Rattle.board_text_defs.specs.Answers.{feed_number};
 ghost use Rattle.view_answers.specs.Questions.{question_seen, IsAsked};
-ghost use Rattle.script_defs.specs.Record.{start, configured, most_feeds, plain_schedules};
+ghost use Rattle.hub_replay_defs.specs.Record.{start, configured, most_feeds, plain_schedules};
 ghost use Rattle.hub_replay.specs.Feeds.{declaring, running, hub_given, shown_hub, Answers, Declares, Serves, Tells};
 
 use crate::NoMemory;
@@ -50,7 +50,7 @@ pub(crate) struct ScriptHub {
 
 impl Model for ScriptHub {
     ghost use Rattle.sched_types.specs.Schedules.{AreSchedules};
-    ghost use Rattle.script_defs.specs.Record.{Hub};
+    ghost use Rattle.hub_replay_defs.specs.Record.{Hub};
     ghost use Rattle.hub_replay.specs.Feeds.{hub_of};
 
     ghost Value = { Hub };

@@ -1,7 +1,7 @@
 //! A record's line, and what it says.
 ghost use Rattle.std.specs.Prelude.{◌≡◌, ◌==◌, position, ◌+◌, ◌<◌, ◌≤◌, map, length, take, drop, MatchOption, IfOk, IfSome, Some, None};
 ghost use Rattle.text_defs.specs.Numbers.{number};
-ghost use Rattle.script_defs.specs.Lines.{longest_line, line_within, words_of, text_of_word, texts_of, script_digits, length_in, input_length_in, is_json_in, feed_head, message_head, combined_head, board_head, alerts_head, unmatched_head, status_head, connection_head, end_head, head_by_letter, head_of_words, head_of};
+ghost use Rattle.hub_replay_defs.specs.Lines.{longest_line, line_within, words_of, text_of_word, texts_of, script_digits, length_in, input_length_in, is_json_in, feed_head, message_head, combined_head, board_head, alerts_head, unmatched_head, status_head, connection_head, end_head, head_by_letter, head_of_words, head_of};
 ghost use Rattle.hub_replay.specs.Lines.{TextIs, TextsAre, SaysHead};
 
 use crate::NoMemory;

@@ -1,8 +1,8 @@
 //! One whole record: what it prints, and what it does to the hub.
 ghost use Rattle.std.specs.Prelude.{◌≡◌, ◌<◌, ◌≤◌, ◌+◌, ◌++◌, length, Some, None, slice_get};
 ghost use Rattle.view_answers.specs.Questions.{question_seen, IsAsked};
-ghost use Rattle.script_defs.specs.Lines.Head.{Feed, Message, Ask};
-ghost use Rattle.script_defs.specs.Record.{answer_reply, question_word};
+ghost use Rattle.hub_replay_defs.specs.Lines.Head.{Feed, Message, Ask};
+ghost use Rattle.hub_replay_defs.specs.Record.{answer_reply, question_word};
 ghost use Rattle.hub_replay.specs.Lines.{head_seen, MayAsk};
 ghost use Rattle.hub_replay.specs.Records.{Turns, Acts, LacksLine, Says, OffersTo, Asks};
 

@@ -3,9 +3,9 @@ ghost use Rattle.std.specs.Prelude.{◌≡◌, ◌++◌, Err, codes, IfOk, OnOk}
 ghost use Rattle.std.specs.Fmt.{decimal};
 ghost use Rattle.std.specs.String.{string_bytes};
 ghost use Rattle.feed_defs.specs.History.Refusal.{TooLong as LongCause, Malformed as FaultCause, Version as VersionCause, Stale as StaleCause};
-ghost use Rattle.script_defs.specs.Record.{reply_line};
+ghost use Rattle.hub_replay_defs.specs.Record.{reply_line};
 ghost use Rattle.text_defs.specs.Cleaned.{line_feed, cleaned_text};
-ghost use Rattle.script_defs.specs.Texts.{what_word, kind_name};
+ghost use Rattle.hub_replay_defs.specs.Texts.{what_word, kind_name};
 ghost use Rattle.hub_replay.specs.Records.{IsReplyLine};
 
 use crate::NoMemory;

@@ -1,6 +1,6 @@
 //! A replay, from its first record to its end.
 ghost use Rattle.std.specs.Prelude.{◌≤◌, Some};
-ghost use Rattle.script_defs.specs.Output.{longest_script};
+ghost use Rattle.hub_replay_defs.specs.Output.{longest_script};
 ghost use Rattle.hub_replay.specs.Steps.{at, place_sum, Leaves, HasCause};
 
 use crate::steps::{Ending, Replay, advance};

@@ -1,9 +1,9 @@
 //! One step of a replay: a record, or more of the input.
 ghost use Rattle.std.specs.Prelude.{◌≡◌, ◌≤◌, ◌<◌, ◌+◌, length, ℕ, List, [], ◌++◌, OnOk, OnErr, None, Err, true};
 ghost use Rattle.feed_defs.specs.History.Refusal.{TooLong};
-ghost use Rattle.serve_defs.specs.Connections.{Served};
-ghost use Rattle.script_defs.specs.Record.{turn, waits, reply_line, serving};
-ghost use Rattle.script_defs.specs.Output.{longest_script};
+ghost use Rattle.http_serve_defs.specs.Connections.{Served};
+ghost use Rattle.hub_replay_defs.specs.Record.{turn, waits, reply_line, serving};
+ghost use Rattle.hub_replay_defs.specs.Output.{longest_script};
 ghost use Rattle.hub_outside.specs.Writing.{WritesAll, HasWritingCause};
 ghost use Rattle.hub_replay.specs.Window.{HasRefillCause};
 ghost use Rattle.hub_replay.specs.Records.{long_turn, Says};

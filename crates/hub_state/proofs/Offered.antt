@@ -8,7 +8,7 @@ use Rattle.std.proofs.lemmas.List.{length-append}
 use Rattle.rt_types.specs.declared.message.FeedMessage.{FeedMessage}
 use Rattle.answer_defs.specs.Defined.{IsCause}
 use Rattle.answer_defs.proofs.Steps.{bind_ok}
-use Rattle.wire_defs.specs.Spelling.{AreBytes}
+use Rattle.pb_wire_defs.specs.Spelling.{AreBytes}
 use Rattle.text_defs.specs.Moments.{is_stamp}
 use Rattle.feed_defs.specs.declared.history.Entry.{Entry}
 use Rattle.feed_defs.specs.History.{Refusal, IsRead, WereRead, outcome_of_judgement, offer_outcome, judgement_of, well_formed, if_read, sound, newer, longest_message, last_stamp, stamp_of, has_version, has_moment}

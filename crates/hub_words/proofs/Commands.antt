@@ -15,7 +15,7 @@ use Rattle.clap.specs.Faults.{built_fault, check_fault, defaults_fault, entered_
 use Rattle.clap.specs.declared.error.kind.ErrorKind.TheVariants as kind
 use Rattle.clap.proofs.FaultLemmas.{stopped_fault}
 use Rattle.clap.proofs.WalkLemmas.{walk_stopped}
-use Rattle.command_defs.specs.Words.{Command, board_command, check_command, command_by_name, command_of, command_with, gen_command, is_option, replay_command}
+use Rattle.hub_main_defs.specs.Words.{Command, board_command, check_command, command_by_name, command_of, command_with, gen_command, is_option, replay_command}
 use Rattle.hub_words.specs.Forms.{Form, app_for, board_form, check_form, command_in, gen_form, read_rows, replay_form, fits, form_of, forms, given, number_under, takes_words, word_under}
 use Rattle.hub_words.proofs.Leaves.{Distinct, Looks, and_false, at, leaf, leaf_fitted, or_false, passes, placed, turn_is}
 

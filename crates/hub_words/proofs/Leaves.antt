@@ -19,7 +19,7 @@ use Rattle.clap.specs.declared.builder.value_parser.ValueParser.TheVariants as v
 use Rattle.clap.specs.declared.error.kind.ErrorKind.TheVariants as kind
 use Rattle.clap.specs.declared.parser.matches.ValueSource.TheVariants.{CommandLine}
 use Rattle.clap.specs.Values.{reading_of}
-use Rattle.command_defs.specs.Words.{is_option}
+use Rattle.hub_main_defs.specs.Words.{is_option}
 use Rattle.hub_words.specs.Forms.{Positional, Form, fits, given, given_row}
 
 -- ---- truth values

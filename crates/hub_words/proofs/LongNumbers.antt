@@ -6,7 +6,7 @@ use Rattle.std.specs.Prelude.{IfSome}
 use Rattle.std.specs.Char.{is_ascii_digit}
 use Rattle.std.specs.Option.{option_and_then, option_map}
 use Rattle.text_defs.specs.Numbers.{digits_after, number, within}
-use Rattle.command_defs.specs.Words.{last_seed}
+use Rattle.hub_main_defs.specs.Words.{last_seed}
 
 -- fewer than 20 digits are at most 19
 pub few_digits : (low high : ℕ) (bytes : List ℕ) → length bytes < 20 → number 19 low high bytes ≡ number 20 low high bytes

@@ -4,7 +4,7 @@ use Rattle.std.specs.List.{list_any}
 use Rattle.clap.specs.Words.{App, fault_of, is_simple_and_free, kind_of, subcommand_rows_of, HasKind, HasMatchesOf}
 use Rattle.clap.specs.declared.error.Error.{Error}
 use Rattle.clap.specs.declared.parser.matches.ArgMatches.{ArgMatches}
-use Rattle.command_defs.specs.Words.{command_of, command_with, is_option}
+use Rattle.hub_main_defs.specs.Words.{command_of, command_with, is_option}
 use Rattle.hub_words.specs.Answer.{IsFaultOf, Parses}
 use Rattle.hub_words.specs.Forms.{app_for, command_in, forms}
 use Rattle.hub_words.specs.declared.read.WordsFault.{WordsFault}

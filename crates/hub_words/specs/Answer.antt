@@ -5,8 +5,8 @@ use Rattle.clap.specs.declared.parser.matches.ArgMatches.{ArgMatches}
 use Rattle.clap.specs.declared.error.kind.ErrorKind.{ErrorKind}
 use Rattle.clap.specs.declared.error.kind.ErrorKind.TheVariants.{OutOfMemory}
 use Rattle.board_text_defs.specs.Answers.{BoardAsked}
-use Rattle.command_defs.specs.Words.{Command, command_of}
-use Rattle.command_defs.specs.Words.Command.{Replay, ReplayWith, Check, Board, Gen}
+use Rattle.hub_main_defs.specs.Words.{Command, command_of}
+use Rattle.hub_main_defs.specs.Words.Command.{Replay, ReplayWith, Check, Board, Gen}
 use Rattle.hub_words.specs.Forms.{command_in}
 use Rattle.hub_words.specs.declared.board.BoardAsked.{BoardAsked as AskedRead}
 use Rattle.hub_words.specs.declared.read.Command.{Command as Read}

@@ -14,10 +14,10 @@ use Rattle.clap.specs.declared.builder.command.Command.TheViews.{out-Command}
 use Rattle.clap.specs.declared.builder.value_parser.ValueParser.TheVariants as vp
 use Rattle.clap.specs.declared.parser.matches.ValueSource.TheVariants.{CommandLine}
 use Rattle.board_text_defs.specs.Answers.{BoardAsked}
-use Rattle.command_defs.specs.Words.{Command, last_seed, most_messages, most_trips, word_digits}
-use Rattle.command_defs.specs.Words.Command.{Replay, ReplayWith, Check, Board, Gen}
-use Rattle.script_defs.specs.Lines.{is_json_in}
-use Rattle.script_defs.specs.Optional.{◌>>=◌}
+use Rattle.hub_main_defs.specs.Words.{Command, last_seed, most_messages, most_trips, word_digits}
+use Rattle.hub_main_defs.specs.Words.Command.{Replay, ReplayWith, Check, Board, Gen}
+use Rattle.hub_replay_defs.specs.Lines.{is_json_in}
+use Rattle.hub_replay_defs.specs.Optional.{◌>>=◌}
 use Rattle.text_defs.specs.Moments.{last_moment}
 use Rattle.text_defs.specs.Numbers.{number}
 

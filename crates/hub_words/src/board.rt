@@ -3,7 +3,7 @@ ghost use Rattle.std.specs.Prelude.{◌≡◌, option_map};
 ghost use Rattle.clap.specs.Words.{found_of, rows_of};
 ghost use Rattle.hub_words.specs.Answer.{asked_seen};
 ghost use Rattle.hub_words.specs.Forms.{asked_in};
-ghost use Rattle.script_defs.specs.Lines.{is_json_in};
+ghost use Rattle.hub_replay_defs.specs.Lines.{is_json_in};
 
 use crate::given::{number_under, word_under};
 use clap::ArgMatches;

@@ -1,7 +1,7 @@
 //! What stands under the ids of a command's words.
 ghost use Rattle.std.specs.Prelude.{◌≡◌, ◌≤◌, ◌<◌, ◌∷◌, length, IfSome, option_map};
 ghost use Rattle.clap.specs.Words.{found_of, rows_of};
-ghost use Rattle.command_defs.specs.Words.{last_seed, word_digits};
+ghost use Rattle.hub_main_defs.specs.Words.{last_seed, word_digits};
 ghost use Rattle.hub_words.specs.Forms.{number_under, word_under};
 ghost use Rattle.text_defs.specs.Numbers.{number};
 

@@ -1,7 +1,7 @@
 //! Reads the words of the command line, by the crate `clap`.
 //!
 //! [`read_words`] gives the command of a list of words, or says that they are none. Which lists are
-//! commands, and which, is defined in `command_defs` (`Words.command_of`) with no thought of a
+//! commands, and which, is defined in `hub_main_defs` (`Words.command_of`) with no thought of a
 //! parser; `clap` is told of the same commands, each a subcommand with its positional words and no
 //! flag, and that it takes exactly the words of the definition is proved once for any list of
 //! positionals (`proofs/Leaves`, `proofs/Commands`).

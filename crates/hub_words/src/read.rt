@@ -3,8 +3,8 @@ ghost use Rattle.std.specs.Prelude.{◌≡◌, false, codes};
 ghost use Rattle.std.specs.Option.{option_map};
 ghost use Rattle.std.specs.List.{list_any};
 ghost use Rattle.clap.specs.Words.{found_of, kind_of, rows_of, subcommand_rows_of};
-ghost use Rattle.command_defs.specs.Words.{command_of, is_option};
-ghost use Rattle.command_defs.specs.Words.Command.{Check};
+ghost use Rattle.hub_main_defs.specs.Words.{command_of, is_option};
+ghost use Rattle.hub_main_defs.specs.Words.Command.{Check};
 ghost use Rattle.hub_words.specs.Forms.{board_in, command_in, gen_in, named, replay_in, word_under};
 ghost use Rattle.hub_words.specs.Answer.{IsCommandOf, IsFaultOf, Parses, seen};
 

@@ -1,14 +1,14 @@
 //! The words of the server.
 ghost use Rattle.std.specs.Prelude.{◌≡◌, [], ◌∷◌};
 ghost use Rattle.std.specs.Option.{option_map};
-ghost use Rattle.command_defs.specs.Words.{serve_of, serve_with};
+ghost use Rattle.hub_main_defs.specs.Words.{serve_of, serve_with};
 
 use crate::read::has_option;
 use rt_types::Text;
 
 /// The path of the configuration where the words, which are those behind the program's name, are
 /// `serve CONFIG`. Where they are any others there is none.
-#[tactic(auto, unfolding(command_defs::specs::Words::serve_of))]
+#[tactic(auto, unfolding(hub_main_defs::specs::Words::serve_of))]
 pub fn serve_path<'a>(words: &'a [Text]) -> Option<&'a str>
     ensures { option_map (λ path. path.now) result ≡ serve_of words.entry.now }
 {

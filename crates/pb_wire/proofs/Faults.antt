@@ -2,7 +2,7 @@
 use Rattle.std.proofs.Common.{◌≡◌, Result, Ok, Err, subst}
 use Rattle.std.specs.Result.{IsErrAnd}
 use Rattle.answer_defs.specs.Defined.{IsCause}
-use Rattle.wire_defs.specs.Field.{Fault}
+use Rattle.pb_wire_defs.specs.Field.{Fault}
 use Rattle.pb_wire.specs.declared.fault.WireFault.{WireFault}
 use Rattle.pb_wire.specs.declared.fault.WireFault.TheVariants as named
 use Rattle.pb_wire.specs.Parts.{cause_of, IsFault, Finds}

@@ -6,8 +6,8 @@ use Rattle.std.proofs.Math.Seq.{take-append_seam, drop-append_seam}
 use Rattle.std.proofs.lemmas.List.{take_more_set, set_split, take-set-le, drop-set-lt, length-drop, length-take-le, length-append, take-take}
 use Rattle.std.proofs.lemmas.List.Edits.{length-insert}
 use Rattle.std.specs.List.{insert}
-use Rattle.wire_defs.specs.Writing.{groups, varint}
-use Rattle.wire_defs.proofs.Again.{last_group, more_groups, quotient_below}
+use Rattle.pb_wire_defs.specs.Writing.{groups, varint}
+use Rattle.pb_wire_defs.proofs.Again.{last_group, more_groups, quotient_below}
 
 -- before the byte at `last` stand the front and the first groups of the run's length, behind it stands the run
 pub record Widens (place : ℕ) (front run now : List ℕ) (last rest : ℕ) : Type 0 where

@@ -1,10 +1,10 @@
 -- A reader's loop over the fields of bytes.
 use Rattle.std.proofs.Common.{◌≡◌, ℕ, zero, suc, ◌<◌, false, eqb, List, [], ◌∷◌, ◌++◌, length, Result, Ok, Err, refl, sym, ap, ◌∙◌, append_assoc, arith}
 use Rattle.std.proofs.lemmas.List.{append-nil, nil_from_length}
-use Rattle.wire_defs.specs.Field.{Field, Fault}
+use Rattle.pb_wire_defs.specs.Field.{Field, Fault}
 use Rattle.answer_defs.specs.Steps.{◌>>=◌}
-use Rattle.wire_defs.specs.Reading.{field_at, fields_of}
-use Rattle.wire_defs.proofs.Found.{fields_of-nil, fields_of-field, fields_of-fault}
+use Rattle.pb_wire_defs.specs.Reading.{field_at, fields_of}
+use Rattle.pb_wire_defs.proofs.Found.{fields_of-nil, fields_of-field, fields_of-fault}
 use Rattle.pb_wire.specs.Parts.{with_front}
 
 -- fields were put behind the old ones, and with those of the rest they are the fields of the bytes

@@ -3,12 +3,12 @@ use Rattle.std.proofs.Common.{◌≡◌, ℕ, zero, suc, ◌+◌, ◌-◌, ◌/�
 use Rattle.std.proofs.lemmas.Bool.{ne_eqb}
 use Rattle.std.proofs.lemmas.List.{get_or-set_same, get_or-set_other}
 use Rattle.std.proofs.Math.ListN.{length-set}
-use Rattle.wire_defs.specs.Field.{Payload, Fault, deepest_group}
-use Rattle.wire_defs.specs.Field.Fault.{BadGroup}
+use Rattle.pb_wire_defs.specs.Field.{Payload, Fault, deepest_group}
+use Rattle.pb_wire_defs.specs.Field.Fault.{BadGroup}
 use Rattle.answer_defs.specs.Steps.{◌>>=◌}
-use Rattle.wire_defs.specs.Reading.{tag_at, payload_at, group_at}
+use Rattle.pb_wire_defs.specs.Reading.{tag_at, payload_at, group_at}
 use Rattle.answer_defs.proofs.Steps.{bind_given, bind_bind, bind_same}
-use Rattle.wire_defs.proofs.Groups.{payload_at-plain, group_at-no_tag, group_at-end, group_at-other_end, group_at-payload_ok, group_at-fault, group_at-group, group_at-too_deep}
+use Rattle.pb_wire_defs.proofs.Groups.{payload_at-plain, group_at-no_tag, group_at-end, group_at-other_end, group_at-payload_ok, group_at-fault, group_at-group, group_at-too_deep}
 
 -- where no group may be open, wire types but those of the other payloads begin none
 pub plain_none : (wire_type : ℕ) (bytes : List ℕ) → (wire_type ≡ 0 → ⊥) → (wire_type ≡ 1 → ⊥) → (wire_type ≡ 2 → ⊥) → (wire_type ≡ 5 → ⊥) → payload_at (group_at 0) 0 wire_type bytes ≡ Err BadGroup

@@ -9,13 +9,13 @@ use Rattle.std.proofs.lemmas.List.Concat.{flat_map-cons}
 use Rattle.std.proofs.lemmas.List.Elements.{All-from_recursion}
 use Rattle.std.proofs.Math.Seq.{take-append_seam, drop-append_seam}
 use Rattle.answer_defs.specs.Defined.{AsDefined, IsCause}
-use Rattle.wire_defs.specs.Field.{Field, Fault, Payload, deepest_group}
-use Rattle.wire_defs.specs.Field.Payload.{Varint, Eight, Span, Four, Group}
-use Rattle.wire_defs.specs.Spelling.{IsPayload, IsGroup, IsField, HasFields}
-use Rattle.wire_defs.specs.Reading.{field_at, fields_of}
+use Rattle.pb_wire_defs.specs.Field.{Field, Fault, Payload, deepest_group}
+use Rattle.pb_wire_defs.specs.Field.Payload.{Varint, Eight, Span, Four, Group}
+use Rattle.pb_wire_defs.specs.Spelling.{IsPayload, IsGroup, IsField, HasFields}
+use Rattle.pb_wire_defs.specs.Reading.{field_at, fields_of}
 use Rattle.answer_defs.proofs.Steps.{bind_ok, ok_is}
-use Rattle.wire_defs.proofs.Bytes.{AreBytes, AreBytes-behind}
-use Rattle.wire_defs.proofs.Found.{field_found, field_long, fields_found, fields_only}
+use Rattle.pb_wire_defs.proofs.Bytes.{AreBytes, AreBytes-behind}
+use Rattle.pb_wire_defs.proofs.Found.{field_found, field_long, fields_found, fields_only}
 use Rattle.pb_wire.specs.Parts.{cause_of, IsFault}
 use Rattle.pb_wire.specs.Places.{place, payload_place, places, placed_fields, FitsIn, payload_in, field_in, fields_in, LiesBetween, LiesWithin, AreInRow}
 use Rattle.pb_wire.specs.declared.field.Field as placed

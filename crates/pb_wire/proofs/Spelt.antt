@@ -4,8 +4,8 @@ use Rattle.std.proofs.Math.Nat.{pow-suc}
 use Rattle.std.proofs.Math.ListN.{length-set}
 use Rattle.std.proofs.lemmas.List.{take_more_set}
 use Rattle.std.specs.Prelude.{Result, Ok, Err, is_ok, OnOk}
-use Rattle.wire_defs.specs.Writing.{groups, varint}
-use Rattle.wire_defs.proofs.Again.{last_group, more_groups, quotient_below}
+use Rattle.pb_wire_defs.specs.Writing.{groups, varint}
+use Rattle.pb_wire_defs.proofs.Again.{last_group, more_groups, quotient_below}
 
 -- groups fill the front of the buffer, and those of the rest make it the whole varint
 pub record Continues (value : ℕ) (buffer : List ℕ) (filled rest : ℕ) : Type 0 where

@@ -4,10 +4,10 @@ use Rattle.std.proofs.Math.Nat.{add-mul-mod_self_left}
 use Rattle.std.proofs.Math.Seq.{take-length}
 use Rattle.std.proofs.lemmas.Bool.{lt-ltb, le-ltb}
 use Rattle.std.proofs.lemmas.List.{nil_from_length}
-use Rattle.wire_defs.specs.Field.{Fault}
-use Rattle.wire_defs.specs.Field.Fault.{Cut, Overlong}
+use Rattle.pb_wire_defs.specs.Field.{Fault}
+use Rattle.pb_wire_defs.specs.Field.Fault.{Cut, Overlong}
 use Rattle.answer_defs.specs.Steps.{◌>>=◌}
-use Rattle.wire_defs.specs.Reading.{groups_at, varint_at}
+use Rattle.pb_wire_defs.specs.Reading.{groups_at, varint_at}
 use Rattle.answer_defs.proofs.Steps.{bind_same, bind_bind}
 
 -- the value so far, and the groups ahead at this scale

@@ -1,8 +1,8 @@
 -- Fields that are read as borrows, seen as the fields of the wire, and what reading them gives.
 use Rattle.std.specs.Prelude.{◌≡◌, List, ◌++◌, map, Option, Some, None, Result, Ok, Err}
-use Rattle.wire_defs.specs.Field as wire
-use Rattle.wire_defs.specs.Field.Payload.{Varint, Eight, Span, Four, Group}
-use Rattle.wire_defs.specs.Field.Fault.{Cut, Overlong, BadTag, BadGroup}
+use Rattle.pb_wire_defs.specs.Field as wire
+use Rattle.pb_wire_defs.specs.Field.Payload.{Varint, Eight, Span, Four, Group}
+use Rattle.pb_wire_defs.specs.Field.Fault.{Cut, Overlong, BadTag, BadGroup}
 use Rattle.answer_defs.specs.Steps.{◌>>=◌}
 use Rattle.pb_wire.specs.declared.fault.WireFault.{WireFault}
 use Rattle.pb_wire.specs.declared.fault.WireFault.TheVariants as named

@@ -1,7 +1,7 @@
 -- Fields that are read as places, seen over their bytes as the fields of the wire.
 use Rattle.std.specs.Prelude.{◌≡◌, ℕ, ◌+◌, ◌-◌, ◌<◌, ◌≤◌, List, [], ◌∷◌, length, map, slice_range, Result, Ok, Err}
-use Rattle.wire_defs.specs.Field as wire
-use Rattle.wire_defs.specs.Field.Payload.{Varint, Eight, Span, Four, Group}
+use Rattle.pb_wire_defs.specs.Field as wire
+use Rattle.pb_wire_defs.specs.Field.Payload.{Varint, Eight, Span, Four, Group}
 use Rattle.answer_defs.specs.Steps.{◌>>=◌}
 use Rattle.pb_wire.specs.declared.field.Payload.{Payload}
 use Rattle.pb_wire.specs.declared.field.Payload.TheVariants as placed

@@ -2,9 +2,9 @@
 
 ghost use Rattle.std.specs.Prelude.{◌≡◌, ◌+◌, ◌<◌, ◌^◌, List, All, length, IfOk};
 ghost use Rattle.answer_defs.specs.Defined.{AsDefined};
-ghost use Rattle.wire_defs.specs.Field as wire;
-ghost use Rattle.wire_defs.specs.Spelling.{HasFields};
-ghost use Rattle.wire_defs.specs.Reading.{fields_of};
+ghost use Rattle.pb_wire_defs.specs.Field as wire;
+ghost use Rattle.pb_wire_defs.specs.Spelling.{HasFields};
+ghost use Rattle.pb_wire_defs.specs.Reading.{fields_of};
 ghost use Rattle.pb_wire.specs.Parts.{part_seen, payload_seen, cause_of};
 ghost use Rattle.pb_wire.specs.Places.{fields_in, LiesWithin, AreInRow, FitsIn, place, placed_fields};
 

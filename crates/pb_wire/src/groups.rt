@@ -1,8 +1,8 @@
 //! Groups: fields between a start tag and an end tag of the same number.
 
 ghost use Rattle.std.specs.Prelude.{◌≡◌, List};
-ghost use Rattle.wire_defs.specs.Field.{deepest_group};
-ghost use Rattle.wire_defs.specs.Reading.{group_at};
+ghost use Rattle.pb_wire_defs.specs.Field.{deepest_group};
+ghost use Rattle.pb_wire_defs.specs.Reading.{group_at};
 ghost use Rattle.pb_wire.specs.Parts.{Finds};
 
 use crate::fault::WireFault;

@@ -1,13 +1,13 @@
 //! Bytes on the wire: reads the fields of a Protocol Buffers message, and writes fields.
 //!
-//! `read_fields` tells where each field of the bytes lies, exactly as `wire_defs` says which bytes spell
+//! `read_fields` tells where each field of the bytes lies, exactly as `pb_wire_defs` says which bytes spell
 //! a list of fields, or names the first fault. `read_parts` gives the same fields as borrows, behind those of
 //! earlier bytes: a reader of messages joins the fields of several payloads so. Both make one pass over the
 //! bytes and copy no payload. Groups are read, up to 64 deep, in a loop over their tags, with no memory but a
 //! fixed array. `write_varint`, `write_scalar`, `write_four` and `write_field` append the one spelling that a
 //! writer chooses; where memory runs out, what was written before stays as it was.
 //!
-//! It stands on `wire_defs` for the meaning of all of this.
+//! It stands on `pb_wire_defs` for the meaning of all of this.
 #![tactic(auto)]
 
 mod fault;

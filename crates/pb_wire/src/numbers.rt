@@ -2,8 +2,8 @@
 
 ghost use Rattle.std.specs.Prelude.{◌≡◌, ℕ, List, ◌<◌};
 ghost use Rattle.std.specs.Int.{w32, w64};
-ghost use Rattle.wire_defs.specs.Field.Payload.{Eight, Four};
-ghost use Rattle.wire_defs.specs.Reading.{varint_at, fixed_at, span_at, tag_at};
+ghost use Rattle.pb_wire_defs.specs.Field.Payload.{Eight, Four};
+ghost use Rattle.pb_wire_defs.specs.Reading.{varint_at, fixed_at, span_at, tag_at};
 ghost use Rattle.pb_wire.specs.Parts.{Finds};
 
 use crate::fault::WireFault;
@@ -43,7 +43,7 @@ fn long_varint_at(bytes: &[u8]) -> Result<(u64, &[u8]), WireFault>
 }
 
 /// The tag in front, and the bytes behind it: it has a number of at least 1 and a wire type of at most 5.
-#[tactic(auto, unfolding(wire_defs::specs::Reading::tag_at))]
+#[tactic(auto, unfolding(pb_wire_defs::specs::Reading::tag_at))]
 #[inline(always)]
 pub fn tag_at(bytes: &[u8]) -> Result<(u32, &[u8]), WireFault>
     ensures { Finds (λ x. (x.0, x.1.now)) result (tag_at bytes.now) }
@@ -82,7 +82,7 @@ pub fn eight_at(bytes: &[u8]) -> Result<(u64, &[u8]), WireFault>
 }
 
 /// As many bytes as the varint in front says, and the bytes behind them.
-#[tactic(auto, unfolding(wire_defs::specs::Reading::span_at))]
+#[tactic(auto, unfolding(pb_wire_defs::specs::Reading::span_at))]
 #[inline(always)]
 pub fn span_at(bytes: &[u8]) -> Result<(&[u8], &[u8]), WireFault>
     ensures { Finds (λ x. (x.0.now, x.1.now)) result (span_at bytes.now) }

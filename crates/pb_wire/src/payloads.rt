@@ -1,8 +1,8 @@
 //! Payloads in front of a byte list.
 
 ghost use Rattle.std.specs.Prelude.{◌≡◌, ℕ, List};
-ghost use Rattle.wire_defs.specs.Field.{deepest_group};
-ghost use Rattle.wire_defs.specs.Reading.{payload_at, group_at};
+ghost use Rattle.pb_wire_defs.specs.Field.{deepest_group};
+ghost use Rattle.pb_wire_defs.specs.Reading.{payload_at, group_at};
 ghost use Rattle.pb_wire.specs.Parts.{payload_seen, Finds};
 
 use crate::fault::WireFault;
@@ -29,7 +29,7 @@ pub fn payload_at(
 
 /// The payload that the wire type asks for, where none may be a group, and the bytes behind it.
 /// Each field passes here: as a call of its own it takes twice the time.
-#[tactic(auto, unfolding(wire_defs::specs::Reading::payload_at))]
+#[tactic(auto, unfolding(pb_wire_defs::specs::Reading::payload_at))]
 #[inline(always)]
 pub fn plain_payload_at(wire_type: u32, bytes: &[u8]) -> Result<(PartPayload<'_>, &[u8]), WireFault>
     ensures { Finds (λ x. (payload_seen x.0, x.1.now)) result

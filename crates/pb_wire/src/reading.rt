@@ -2,7 +2,7 @@
 
 ghost use Rattle.std.specs.Prelude.{◌≡◌, length, take, IfErr, OnOk, OnErr};
 ghost use Rattle.answer_defs.specs.Defined.{IsCause};
-ghost use Rattle.wire_defs.specs.Reading.{field_at, fields_of};
+ghost use Rattle.pb_wire_defs.specs.Reading.{field_at, fields_of};
 ghost use Rattle.pb_wire.specs.Parts.{part_seen, parts_seen, with_front, cause_of, Finds};
 
 use crate::fault::WireFault;
@@ -49,7 +49,7 @@ fn push_parts<'a>(bytes: &'a [u8], parts: &mut Vec<Part<'a>>) -> Result<(), Wire
 }
 
 /// The field in front of the bytes, and the bytes behind it.
-#[tactic(auto, unfolding(wire_defs::specs::Reading::field_at, wire_defs::specs::Reading::field_with))]
+#[tactic(auto, unfolding(pb_wire_defs::specs::Reading::field_at, pb_wire_defs::specs::Reading::field_with))]
 #[inline(always)]
 pub fn field_at(bytes: &[u8]) -> Result<(Part<'_>, &[u8]), WireFault>
     ensures { Finds (λ x. (part_seen x.0, x.1.now)) result (field_at bytes.now) }

@@ -1,8 +1,8 @@
 //! The one spelling that a writer chooses: the shortest varints.
 
 ghost use Rattle.std.specs.Prelude.{◌≡◌, ℕ, List, ◌+◌, ◌++◌, ◌<◌, ◌≤◌, length, take, drop, OnOk, OnErr};
-ghost use Rattle.wire_defs.specs.Field.Payload.{Varint, Span, Four};
-ghost use Rattle.wire_defs.specs.Writing.{varint, field_bytes};
+ghost use Rattle.pb_wire_defs.specs.Field.Payload.{Varint, Span, Four};
+ghost use Rattle.pb_wire_defs.specs.Writing.{varint, field_bytes};
 
 use crate::NoMemory;
 
@@ -103,7 +103,7 @@ pub fn write_four(number: u32, value: u32, out: &mut Vec<u8>) -> Result<(), NoMe
     answer
 }
 
-#[tactic(auto, unfolding(wire_defs::specs::Writing::field_bytes, wire_defs::specs::Writing::payload_bytes))]
+#[tactic(auto, unfolding(pb_wire_defs::specs::Writing::field_bytes, pb_wire_defs::specs::Writing::payload_bytes))]
 fn append_scalar(number: u32, value: u64, out: &mut Vec<u8>) -> Result<(), NoMemory>
     requires { number ≤ 536870911 }
     ensures written { OnOk result
@@ -115,7 +115,7 @@ fn append_scalar(number: u32, value: u64, out: &mut Vec<u8>) -> Result<(), NoMem
     write_varint(value, out)
 }
 
-#[tactic(auto, unfolding(wire_defs::specs::Writing::field_bytes, wire_defs::specs::Writing::payload_bytes))]
+#[tactic(auto, unfolding(pb_wire_defs::specs::Writing::field_bytes, pb_wire_defs::specs::Writing::payload_bytes))]
 fn append_field(number: u32, bytes: &[u8], out: &mut Vec<u8>) -> Result<(), NoMemory>
     requires { number ≤ 536870911 }
     ensures written { OnOk result
@@ -128,7 +128,7 @@ fn append_field(number: u32, bytes: &[u8], out: &mut Vec<u8>) -> Result<(), NoMe
     out.extend_from_slice(bytes)
 }
 
-#[tactic(auto, unfolding(wire_defs::specs::Writing::field_bytes, wire_defs::specs::Writing::payload_bytes))]
+#[tactic(auto, unfolding(pb_wire_defs::specs::Writing::field_bytes, pb_wire_defs::specs::Writing::payload_bytes))]
 fn append_four(number: u32, value: u32, out: &mut Vec<u8>) -> Result<(), NoMemory>
     requires { number ≤ 536870911 }
     ensures written { OnOk result

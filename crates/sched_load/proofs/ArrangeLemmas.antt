@@ -10,8 +10,8 @@ use Rattle.std.proofs.lemmas.Bool.Decides.{nat_tests}
 use Rattle.std.proofs.lemmas.Cmp.{nat_cmp_total}
 use Rattle.std.proofs.lemmas.List.Sorted.{IsPermutation-trans}
 use Rattle.std.proofs.lemmas.Option.{slice_get_within}
-use Rattle.load_defs.specs.Numbers.{rows_by_key}
-use Rattle.load_defs.proofs.Listing.{Rises, listed-found}
+use Rattle.sched_load_defs.specs.Numbers.{rows_by_key}
+use Rattle.sched_load_defs.proofs.Listing.{Rises, listed-found}
 use Rattle.sched_load.specs.declared.visits.Visit.{Visit}
 use Rattle.sched_load.specs.Visits.{AreApart, AreArranged, IsSortedStably, IsSortedUnless, Pairs, RisesByTrip, is_twin_visit}
 use Rattle.sched_load.proofs.PairLemmas.{filter_swap, filter_twice, find_first, first_in, kept_pairs, none_passes, one_kept, pairs_rise, pairs_weaker, true_false, two_kept}

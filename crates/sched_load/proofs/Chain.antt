@@ -4,11 +4,11 @@ use Rattle.std.specs.Prelude.{Option, Some, None, IfSome, Result, Ok, Err, IsErr
 use Rattle.answer_defs.specs.Steps.{◌>>=◌}
 use Rattle.gtfs_rows.specs.declared.fault.RowFault.TheVariants as rows
 use Rattle.hub_outside.specs.Count.{Rose}
-use Rattle.load_defs.specs.declared.fault.LoadFault.{LoadFault}
-use Rattle.load_defs.specs.declared.fault.LoadFault.TheVariants as fault
-use Rattle.load_defs.specs.declared.conf.PlanConf.{PlanConf}
-use Rattle.load_defs.specs.Loading.{dataset_in, timetable, timetable_where, with_times, zone_of}
-use Rattle.load_defs.specs.Numbers.{Dataset, timetable_of}
+use Rattle.sched_load_defs.specs.declared.fault.LoadFault.{LoadFault}
+use Rattle.sched_load_defs.specs.declared.fault.LoadFault.TheVariants as fault
+use Rattle.sched_load_defs.specs.declared.conf.PlanConf.{PlanConf}
+use Rattle.sched_load_defs.specs.Loading.{dataset_in, timetable, timetable_where, with_times, zone_of}
+use Rattle.sched_load_defs.specs.Numbers.{Dataset, timetable_of}
 use Rattle.service_day.specs.Zone.{TzText}
 use Rattle.sched_types.specs.Timetable.{Timetable}
 use Rattle.sched_load.specs.Built.{IsBuilt}

@@ -11,7 +11,7 @@ use Rattle.gtfs_rows.specs.Values.{id_text, any_text, number, or_empty, date}
 use Rattle.gtfs_rows.specs.declared.column.Column.{Column}
 use Rattle.gtfs_rows.specs.declared.column.Column.TheVariants as column
 use Rattle.gtfs_rows.specs.declared.fault.RowFault.TheVariants as fault
-use Rattle.load_defs.specs.Services.{flags_of}
+use Rattle.sched_load_defs.specs.Services.{flags_of}
 use Rattle.sched_load.proofs.Laws.{AreWithin, and_then_ok}
 
 both_within : {A B : Type 0} (a : Columns A) (b : Columns B) (P : A → Type 0) (Q : B → Type 0) → AreWithin a P → AreWithin b Q → AreWithin (a ⊕ b) (λ v. P v.0 × Q v.1)

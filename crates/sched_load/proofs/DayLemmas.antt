@@ -3,7 +3,7 @@ use Rattle.std.proofs.Common.{◌≡◌, ℕ, zero, suc, ◌+◌, ◌<◌, ◌�
 use Rattle.std.specs.Prelude.{ℤ, slice_get, zip, Option, Some, filter, if◌then◌else◌}
 use Rattle.std.specs.List.{range_with_len}
 use Rattle.std.specs.List.{find as find_in}
-use Rattle.load_defs.specs.Services.{flags_of}
+use Rattle.sched_load_defs.specs.Services.{flags_of}
 use Rattle.sched_load.specs.Days.{Flagged}
 use Rattle.std.specs.FinMap.Entries.{find}
 use Rattle.std.proofs.lemmas.List.{append-nil}

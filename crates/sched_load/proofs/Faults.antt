@@ -6,10 +6,10 @@ use Rattle.std.proofs.lemmas.Option.{none-some as none_some, same_Some}
 use Rattle.answer_defs.specs.Steps.{unless}
 use Rattle.answer_defs.specs.Choices.{or_else}
 use Rattle.gtfs_rows.specs.declared.column.Column.{Column}
-use Rattle.load_defs.specs.declared.fault.File.{File}
-use Rattle.load_defs.specs.declared.fault.LoadFault.{LoadFault}
-use Rattle.load_defs.specs.declared.fault.LoadFault.TheVariants as fault
-use Rattle.load_defs.specs.References.{first_fault, row_fault, row_at, consistent}
+use Rattle.sched_load_defs.specs.declared.fault.File.{File}
+use Rattle.sched_load_defs.specs.declared.fault.LoadFault.{LoadFault}
+use Rattle.sched_load_defs.specs.declared.fault.LoadFault.TheVariants as fault
+use Rattle.sched_load_defs.specs.References.{first_fault, row_fault, row_at, consistent}
 
 -- a list from a place on begins with what stands there
 pub drop_at : {X : Type 0} (xs : List X) (n : ℕ) (x : X) → slice_get xs n ≡ Some x → drop n xs ≡ x ∷ drop (n + 1) xs

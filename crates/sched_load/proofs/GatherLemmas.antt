@@ -14,7 +14,7 @@ use Rattle.gtfs_rows.specs.declared.fault.RowFault.{RowFault}
 use Rattle.gtfs_rows.specs.declared.rows.StopRow.{StopRow}
 use Rattle.gtfs_rows.specs.declared.rows.TripRow.{TripRow}
 use Rattle.gtfs_rows.specs.declared.rows.StopTimeRow.{StopTimeRow}
-use Rattle.load_defs.specs.References.{unknown_in_stop_time}
+use Rattle.sched_load_defs.specs.References.{unknown_in_stop_time}
 use Rattle.sched_load.specs.declared.visits.Visit.{Visit}
 use Rattle.sched_load.specs.Listed.{visit_of}
 use Rattle.sched_load.specs.Visits.{Gathers, Skips}

@@ -21,10 +21,10 @@ use Rattle.std.proofs.lemmas.Map.Text.{is_eq-slice_cmp}
 use Rattle.std.proofs.lemmas.Option.{none-some as none_some, same_Some, slice_get-map}
 use Rattle.sched_types.specs.Timetable.{RisesById, number_of}
 use Rattle.sched_types.proofs.TimetableLaws.{number_leads, one_row}
-use Rattle.load_defs.specs.Numbers.{rows_with_keys}
+use Rattle.sched_load_defs.specs.Numbers.{rows_with_keys}
 use Rattle.std.specs.Cmp.{tied_itself}
 use Rattle.std.specs.Prelude.{option_map}
-use Rattle.load_defs.proofs.Listing.{find_keyed, equal_is}
+use Rattle.sched_load_defs.proofs.Listing.{find_keyed, equal_is}
 use Rattle.sched_load.proofs.Numbered.{text_same}
 use Rattle.std.proofs.lemmas.List.{append-nil}
 use Rattle.sched_load.specs.Listed.{group_of}

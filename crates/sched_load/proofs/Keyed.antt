@@ -8,10 +8,10 @@ use Rattle.std.specs.declared.cmp.Ordering.{Ordering}
 use Rattle.std.specs.declared.cmp.Ordering.TheVariants.{Less, Equal, Greater}
 use Rattle.std.specs.FinMap.Entries as entries
 use Rattle.std.specs.FinMap.Entries.{put, by_order, below_all, is_sorted, is_sorted-put, find-put, same_entries}
-use Rattle.load_defs.specs.Numbers.{rows_with_keys, rows_by_key}
+use Rattle.sched_load_defs.specs.Numbers.{rows_with_keys, rows_by_key}
 use Rattle.std.proofs.lemmas.List.{length-map}
 use Rattle.std.proofs.lemmas.Option.{none-some as none_some, same_Some}
-use Rattle.load_defs.proofs.Listing.{find_keyed, keyed_sorted, find_paired, paired, equal_is, Rises}
+use Rattle.sched_load_defs.proofs.Listing.{find_keyed, keyed_sorted, find_paired, paired, equal_is, Rises}
 
 first_of : (a b : Bool) → T (a && b) → T a
 first_of true b p = tt

@@ -11,9 +11,9 @@ use Rattle.gtfs_rows.specs.Tables.{Columns}
 use Rattle.gtfs_rows.specs.declared.column.Column.{Column}
 use Rattle.gtfs_rows.specs.declared.fault.RowFault.{RowFault}
 use Rattle.gtfs_rows.specs.declared.fault.RowFault.TheVariants as fault
-use Rattle.load_defs.specs.declared.fault.File.{File}
-use Rattle.load_defs.specs.declared.fault.LoadFault.TheVariants as load
-use Rattle.load_defs.specs.Files.{of_file, longest_file}
+use Rattle.sched_load_defs.specs.declared.fault.File.{File}
+use Rattle.sched_load_defs.specs.declared.fault.LoadFault.TheVariants as load
+use Rattle.sched_load_defs.specs.Files.{of_file, longest_file}
 use Rattle.sched_load.specs.Listed.{file_rows, most_rows}
 
 -- what a chain gave, its parts gave

@@ -16,8 +16,8 @@ use Rattle.std.proofs.lemmas.Map.Text.{is_eq-slice_cmp}
 use Rattle.std.proofs.lemmas.Option.{slice_get-map, slice_get_within, slice_get_past, none-some as none_some, same_Some, slice_get-get_or}
 use Rattle.sched_types.specs.Timetable.{RisesById, number_of}
 use Rattle.sched_types.proofs.Found.{position_present, position_absent}
-use Rattle.load_defs.specs.Numbers.{by_id}
-use Rattle.load_defs.specs.References.{has_id}
+use Rattle.sched_load_defs.specs.Numbers.{by_id}
+use Rattle.sched_load_defs.specs.References.{has_id}
 use Rattle.sched_load.specs.Listed.{IsOrder}
 use Rattle.sched_load.proofs.Keyed.{listed_rises, find_listed, any_found}
 

@@ -4,9 +4,9 @@ use Rattle.std.specs.Prelude.{slice_get, Some, None, bytes_eq, Err, Ok, if◌the
 use Rattle.answer_defs.specs.Steps.{unless}
 use Rattle.gtfs_rows.specs.declared.column.Column.TheVariants as column
 use Rattle.gtfs_rows.specs.declared.rows.StopRow.{StopRow}
-use Rattle.load_defs.specs.declared.fault.File.TheVariants as file
-use Rattle.load_defs.specs.declared.fault.LoadFault.TheVariants as fault
-use Rattle.load_defs.specs.References.{parent_fault, with_parents, has_id, row_at}
+use Rattle.sched_load_defs.specs.declared.fault.File.TheVariants as file
+use Rattle.sched_load_defs.specs.declared.fault.LoadFault.TheVariants as fault
+use Rattle.sched_load_defs.specs.References.{parent_fault, with_parents, has_id, row_at}
 use Rattle.sched_load.proofs.Faults.{faults_from, fault_at, fault_behind, no_fault}
 
 module _ (rows : List StopRow) (n : ℕ) where

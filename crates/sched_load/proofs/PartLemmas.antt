@@ -27,11 +27,11 @@ use Rattle.service_day.specs.Service.{exception_on, is_active, is_regular}
 use Rattle.service_day.specs.declared.services.Exception.{Exception}
 use Rattle.sched_types.specs.Timetable.{number_of}
 use Rattle.sched_types.proofs.TimetableLaws.{number_leads, own_number}
-use Rattle.load_defs.specs.declared.fault.File.TheVariants as file
-use Rattle.load_defs.specs.Numbers.{Dataset, agency_ids, agency_of, by_id, given_times, timetable_of, place_of, places_with, route_of, route_rows, service_ids, stop_of, stop_rows, stop_times_of, trip_of, trip_rows}
-use Rattle.load_defs.specs.Services.{active_days, calendar_of, exceptions_of, flags_of, is_active_by}
-use Rattle.load_defs.specs.Times.{Times, all_times}
-use Rattle.load_defs.proofs.Listing.{find_keyed}
+use Rattle.sched_load_defs.specs.declared.fault.File.TheVariants as file
+use Rattle.sched_load_defs.specs.Numbers.{Dataset, agency_ids, agency_of, by_id, given_times, timetable_of, place_of, places_with, route_of, route_rows, service_ids, stop_of, stop_rows, stop_times_of, trip_of, trip_rows}
+use Rattle.sched_load_defs.specs.Services.{active_days, calendar_of, exceptions_of, flags_of, is_active_by}
+use Rattle.sched_load_defs.specs.Times.{Times, all_times}
+use Rattle.sched_load_defs.proofs.Listing.{find_keyed}
 use Rattle.sched_load.specs.declared.visits.Visit.{Visit}
 use Rattle.sched_load.specs.Built.{AreSmall, ListsFit, agency_in, places_of_trip, route_in}
 use Rattle.sched_load.specs.Course.{FitsPlace, place_in, places_in}
@@ -51,7 +51,7 @@ use Rattle.sched_load.proofs.Numbered.{ids_rise}
 use Rattle.sched_load.proofs.Sound.{Each, Fits}
 use Rattle.std.specs.Prelude.{All}
 use Rattle.std.proofs.lemmas.List.Sorted.{All-permutation, length_permutation}
-use Rattle.load_defs.specs.References.{unknown_in_stop_time}
+use Rattle.sched_load_defs.specs.References.{unknown_in_stop_time}
 use Rattle.sched_load.specs.Visits.{AreArranged}
 use Rattle.sched_load.proofs.TripLemmas.{given_rows}
 use Rattle.sched_load.proofs.VisitLemmas.{trip_visits}

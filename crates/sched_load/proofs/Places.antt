@@ -18,8 +18,8 @@ use Rattle.std.proofs.lemmas.List.{length-map}
 use Rattle.std.proofs.lemmas.List.FromFn.{fill_by_all}
 use Rattle.std.proofs.lemmas.Option.{none-some as none_some, same_Some, slice_get_within}
 use Rattle.order.proofs.Lists.{any_same, range_more}
-use Rattle.load_defs.specs.Numbers.{rows_with_keys, rows_by_key}
-use Rattle.load_defs.proofs.Listing.{find_keyed}
+use Rattle.sched_load_defs.specs.Numbers.{rows_with_keys, rows_by_key}
+use Rattle.sched_load_defs.proofs.Listing.{find_keyed}
 use Rattle.sched_load.specs.Listed.{IsOrder, same_id, texts_seen}
 use Rattle.sched_load.proofs.Keyed.{any_found, keyed_push, listed_map}
 use Rattle.sched_load.proofs.Numbered.{text_same, turned}

@@ -6,9 +6,9 @@ use Rattle.gtfs_rows.specs.Files.{cause_of, rows_of}
 use Rattle.gtfs_rows.specs.Tables.{Columns}
 use Rattle.gtfs_rows.specs.declared.fault.RowFault.{RowFault}
 use Rattle.gtfs_rows.specs.declared.fault.RowFault.TheVariants as rows
-use Rattle.load_defs.specs.declared.fault.File.{File}
-use Rattle.load_defs.specs.declared.fault.LoadFault.TheVariants as fault
-use Rattle.load_defs.specs.Files.{of_file, longest_file}
+use Rattle.sched_load_defs.specs.declared.fault.File.{File}
+use Rattle.sched_load_defs.specs.declared.fault.LoadFault.TheVariants as fault
+use Rattle.sched_load_defs.specs.Files.{of_file, longest_file}
 use Rattle.sched_load.specs.Answer.{AnswersFromFiles, fault_of}
 use Rattle.sched_load.specs.Listed.{file_rows}
 use Rattle.std.proofs.lemmas.Bool.Decides.{nat_tests}

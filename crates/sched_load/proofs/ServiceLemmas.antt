@@ -15,11 +15,11 @@ use Rattle.std.proofs.lemmas.Option.{none-some as none_some, same_Some, slice_ge
 use Rattle.gtfs_rows.specs.declared.rows.ExceptionRow.{ExceptionRow}
 use Rattle.service_day.specs.declared.services.Exception.{Exception}
 use Rattle.sched_types.specs.Timetable.{RisesById, number_of}
-use Rattle.load_defs.specs.declared.fault.File.TheVariants as file
-use Rattle.load_defs.specs.declared.fault.LoadFault.TheVariants as fault
-use Rattle.load_defs.specs.Numbers.{by_id, rows_with_keys}
-use Rattle.load_defs.specs.References.{refers_to_none, consistent_exceptions, row_at}
-use Rattle.load_defs.proofs.Listing.{paired}
+use Rattle.sched_load_defs.specs.declared.fault.File.TheVariants as file
+use Rattle.sched_load_defs.specs.declared.fault.LoadFault.TheVariants as fault
+use Rattle.sched_load_defs.specs.Numbers.{by_id, rows_with_keys}
+use Rattle.sched_load_defs.specs.References.{refers_to_none, consistent_exceptions, row_at}
+use Rattle.sched_load_defs.proofs.Listing.{paired}
 use Rattle.sched_load.specs.Groups.{exceptions_of, exception_of}
 use Rattle.sched_load.specs.Listed.{PutsNew, texts_seen}
 use Rattle.sched_load.specs.Services.{ids_gathered}

@@ -26,15 +26,15 @@ use Rattle.service_day.specs.Zone.{TzText, base_of}
 use Rattle.sched_types.specs.Timetable.{IsTimetable, IsSmall, RisesById, number_of}
 use Rattle.sched_types.specs.declared.rows.Place.{Place}
 use Rattle.sched_types.proofs.TimetableLaws.{number_leads}
-use Rattle.load_defs.specs.declared.fault.File.{File}
-use Rattle.load_defs.specs.declared.fault.File.TheVariants as file
-use Rattle.load_defs.specs.declared.fault.LoadFault.{LoadFault}
-use Rattle.load_defs.specs.Loading.{times_fault, with_times}
-use Rattle.load_defs.specs.References.{consistent, first_fault, has_id, row_fault, unless_known, unknown_in_trip, unknown_in_stop_time}
-use Rattle.load_defs.specs.Numbers.{Dataset, agency_ids, agency_of, by_id, given_times, rows_with_keys, known_number, rows_by_key, timetable_of, place_of, places_with, route_of, route_rows, service_ids, stop_of, stop_rows, stop_times_of, trip_of, trip_rows}
-use Rattle.load_defs.specs.Services.{active_days}
-use Rattle.load_defs.specs.Times.{Times, all_times, are_times, times_of}
-use Rattle.load_defs.proofs.Moves.{InOrder, all_in_order}
+use Rattle.sched_load_defs.specs.declared.fault.File.{File}
+use Rattle.sched_load_defs.specs.declared.fault.File.TheVariants as file
+use Rattle.sched_load_defs.specs.declared.fault.LoadFault.{LoadFault}
+use Rattle.sched_load_defs.specs.Loading.{times_fault, with_times}
+use Rattle.sched_load_defs.specs.References.{consistent, first_fault, has_id, row_fault, unless_known, unknown_in_trip, unknown_in_stop_time}
+use Rattle.sched_load_defs.specs.Numbers.{Dataset, agency_ids, agency_of, by_id, given_times, rows_with_keys, known_number, rows_by_key, timetable_of, place_of, places_with, route_of, route_rows, service_ids, stop_of, stop_rows, stop_times_of, trip_of, trip_rows}
+use Rattle.sched_load_defs.specs.Services.{active_days}
+use Rattle.sched_load_defs.specs.Times.{Times, all_times, are_times, times_of}
+use Rattle.sched_load_defs.proofs.Moves.{InOrder, all_in_order}
 use Rattle.sched_load.specs.Tables.{IsConsistent}
 use Rattle.sched_load.specs.Listed.{most_rows}
 use Rattle.sched_load.proofs.BuildLemmas.{mapped_at}

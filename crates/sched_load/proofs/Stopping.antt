@@ -9,14 +9,14 @@ use Rattle.gtfs_rows.specs.declared.rows.StopRow.{StopRow}
 use Rattle.gtfs_rows.specs.declared.rows.RouteRow.{RouteRow}
 use Rattle.gtfs_rows.specs.declared.rows.StopTimeRow.{StopTimeRow}
 use Rattle.gtfs_rows.specs.declared.rows.CalendarRow.{CalendarRow}
-use Rattle.load_defs.specs.declared.conf.PlanConf.{PlanConf}
-use Rattle.load_defs.specs.declared.fault.File.{File}
-use Rattle.load_defs.specs.declared.fault.File.TheVariants as file
-use Rattle.load_defs.specs.declared.fault.LoadFault.{LoadFault}
-use Rattle.load_defs.specs.declared.fault.LoadFault.TheVariants as fault
-use Rattle.load_defs.specs.Files.{file_place, stored_in, unreadable}
-use Rattle.load_defs.specs.Loading.{dataset_where, timetable_where, with_times, zone_of}
-use Rattle.load_defs.specs.Numbers.{Dataset, timetable_of}
+use Rattle.sched_load_defs.specs.declared.conf.PlanConf.{PlanConf}
+use Rattle.sched_load_defs.specs.declared.fault.File.{File}
+use Rattle.sched_load_defs.specs.declared.fault.File.TheVariants as file
+use Rattle.sched_load_defs.specs.declared.fault.LoadFault.{LoadFault}
+use Rattle.sched_load_defs.specs.declared.fault.LoadFault.TheVariants as fault
+use Rattle.sched_load_defs.specs.Files.{file_place, stored_in, unreadable}
+use Rattle.sched_load_defs.specs.Loading.{dataset_where, timetable_where, with_times, zone_of}
+use Rattle.sched_load_defs.specs.Numbers.{Dataset, timetable_of}
 use Rattle.service_day.specs.Zone.{TzText}
 use Rattle.sched_types.specs.Timetable.{Timetable}
 use Rattle.sched_load.specs.Answer.{RefusesAlone, fault_of}

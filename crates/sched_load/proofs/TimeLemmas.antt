@@ -3,7 +3,7 @@ use Rattle.std.proofs.Common.{◌≡◌, ℕ, ◌+◌, ◌-◌, ◌<◌, ◌≤�
 use Rattle.std.specs.Prelude.{Option, Some, None, option_map, slice_get, zip, IfSome}
 use Rattle.std.specs.List.{list_all}
 use Rattle.std.proofs.lemmas.Bool.Decides.{nat_tests}
-use Rattle.load_defs.specs.Times.{Times, known_times, is_stay, are_moves, next_timed, share_between, times_at, times_behind}
+use Rattle.sched_load_defs.specs.Times.{Times, known_times, is_stay, are_moves, next_timed, share_between, times_at, times_behind}
 use Rattle.sched_load.specs.declared.visits.Visit.{Visit}
 use Rattle.sched_load.specs.declared.visits.Stay.{Stay}
 use Rattle.sched_load.specs.Course.{AllFit, FitsPlace, IsNearer, Knows, Remembers, Steps, ahead_seen, given_of, place_in, places_in, stay_times}

@@ -6,14 +6,14 @@ use Rattle.gtfs_rows.specs.declared.rows.StopRow.{StopRow}
 use Rattle.gtfs_rows.specs.declared.rows.TripRow.{TripRow}
 use Rattle.gtfs_rows.specs.declared.rows.StopTimeRow.{StopTimeRow}
 use Rattle.sched_types.specs.Timetable.{number_of}
-use Rattle.load_defs.specs.declared.fault.LoadFault.TheVariants as fault
-use Rattle.load_defs.specs.Loading.{times_fault, with_times}
-use Rattle.load_defs.specs.Numbers.{Dataset, by_id, given_times, stop_times_of}
-use Rattle.load_defs.specs.References.{row_at}
-use Rattle.load_defs.specs.Times.{are_times, times_of}
+use Rattle.sched_load_defs.specs.declared.fault.LoadFault.TheVariants as fault
+use Rattle.sched_load_defs.specs.Loading.{times_fault, with_times}
+use Rattle.sched_load_defs.specs.Numbers.{Dataset, by_id, given_times, stop_times_of}
+use Rattle.sched_load_defs.specs.References.{row_at}
+use Rattle.sched_load_defs.specs.Times.{are_times, times_of}
 use Rattle.sched_load.specs.Course.{given_of}
-use Rattle.load_defs.specs.declared.fault.File.TheVariants as file
-use Rattle.load_defs.specs.References.{unknown_in_stop_time}
+use Rattle.sched_load_defs.specs.declared.fault.File.TheVariants as file
+use Rattle.sched_load_defs.specs.References.{unknown_in_stop_time}
 use Rattle.sched_load.specs.declared.tables.Tables.{Tables}
 use Rattle.sched_load.specs.Listed.{stay_of, times_seen, visit_of}
 use Rattle.sched_load.specs.Tables.{AreRead}

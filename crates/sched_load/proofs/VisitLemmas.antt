@@ -14,10 +14,10 @@ use Rattle.gtfs_rows.specs.declared.rows.TripRow.{TripRow}
 use Rattle.gtfs_rows.specs.declared.rows.StopTimeRow.{StopTimeRow}
 use Rattle.sched_types.specs.Timetable.{number_of}
 use Rattle.sched_types.proofs.TimetableLaws.{number_leads}
-use Rattle.load_defs.specs.declared.fault.File.TheVariants as file
-use Rattle.load_defs.specs.declared.fault.LoadFault.TheVariants as fault
-use Rattle.load_defs.specs.Numbers.{by_id, known_number, rows_by_key, stop_times_of}
-use Rattle.load_defs.specs.References.{unknown_in_stop_time, unless_known, has_id, consistent_stop_times, row_at}
+use Rattle.sched_load_defs.specs.declared.fault.File.TheVariants as file
+use Rattle.sched_load_defs.specs.declared.fault.LoadFault.TheVariants as fault
+use Rattle.sched_load_defs.specs.Numbers.{by_id, known_number, rows_by_key, stop_times_of}
+use Rattle.sched_load_defs.specs.References.{unknown_in_stop_time, unless_known, has_id, consistent_stop_times, row_at}
 use Rattle.sched_load.specs.declared.visits.Visit.{Visit}
 use Rattle.sched_load.specs.Listed.{stay_of, visit_of}
 use Rattle.sched_load.specs.Visits.{EndsAt}

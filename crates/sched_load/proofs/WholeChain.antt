@@ -10,13 +10,13 @@ use Rattle.gtfs_rows.specs.declared.rows.TripRow.{TripRow}
 use Rattle.gtfs_rows.specs.declared.rows.StopTimeRow.{StopTimeRow}
 use Rattle.gtfs_rows.specs.declared.rows.CalendarRow.{CalendarRow}
 use Rattle.gtfs_rows.specs.declared.rows.ExceptionRow.{ExceptionRow}
-use Rattle.load_defs.specs.declared.fault.File.{File}
-use Rattle.load_defs.specs.declared.fault.File.TheVariants as file
-use Rattle.load_defs.specs.declared.fault.LoadFault.{LoadFault}
-use Rattle.load_defs.specs.Files.{optional_rows, required_rows, stored_in}
-use Rattle.load_defs.specs.Numbers.{Dataset}
-use Rattle.load_defs.specs.Loading.{dataset_in, dataset_where}
-use Rattle.load_defs.specs.References.{consistent_agencies, consistent_stops, consistent_routes, consistent_trips, consistent_stop_times, consistent_calendar, consistent_exceptions}
+use Rattle.sched_load_defs.specs.declared.fault.File.{File}
+use Rattle.sched_load_defs.specs.declared.fault.File.TheVariants as file
+use Rattle.sched_load_defs.specs.declared.fault.LoadFault.{LoadFault}
+use Rattle.sched_load_defs.specs.Files.{optional_rows, required_rows, stored_in}
+use Rattle.sched_load_defs.specs.Numbers.{Dataset}
+use Rattle.sched_load_defs.specs.Loading.{dataset_in, dataset_where}
+use Rattle.sched_load_defs.specs.References.{consistent_agencies, consistent_stops, consistent_routes, consistent_trips, consistent_stop_times, consistent_calendar, consistent_exceptions}
 use Rattle.sched_load.specs.declared.tables.NetworkTables.{NetworkTables}
 use Rattle.sched_load.specs.Stages.{DayRows, days_where, network_where}
 

@@ -5,9 +5,9 @@ use Rattle.answer_defs.specs.Steps.{◌>>=◌}
 use Rattle.gtfs_rows.specs.declared.fault.RowFault.{RowFault}
 use Rattle.gtfs_rows.specs.declared.fault.RowFault.TheVariants as rows
 use Rattle.hub_outside.specs.Count.{Rose}
-use Rattle.load_defs.specs.declared.fault.File.{File}
-use Rattle.load_defs.specs.declared.fault.LoadFault.{LoadFault}
-use Rattle.load_defs.specs.declared.fault.LoadFault.TheVariants as fault
+use Rattle.sched_load_defs.specs.declared.fault.File.{File}
+use Rattle.sched_load_defs.specs.declared.fault.LoadFault.{LoadFault}
+use Rattle.sched_load_defs.specs.declared.fault.LoadFault.TheVariants as fault
 
 -- a fault is the one that is told; want of memory may come in place of anything, and a file that could not be
 -- read says nothing

@@ -5,9 +5,9 @@ use Rattle.gtfs_rows.specs.Tables.{stop_times}
 use Rattle.gtfs_rows.specs.declared.rows.StopRow.{StopRow}
 use Rattle.gtfs_rows.specs.declared.rows.TripRow.{TripRow}
 use Rattle.gtfs_rows.specs.declared.rows.StopTimeRow.{StopTimeRow}
-use Rattle.load_defs.specs.declared.fault.File.TheVariants as file
-use Rattle.load_defs.specs.declared.fault.LoadFault.{LoadFault}
-use Rattle.load_defs.specs.References.{consistent_stop_times}
+use Rattle.sched_load_defs.specs.declared.fault.File.TheVariants as file
+use Rattle.sched_load_defs.specs.declared.fault.LoadFault.{LoadFault}
+use Rattle.sched_load_defs.specs.References.{consistent_stop_times}
 use Rattle.sched_load.specs.declared.visits.Visit.{Visit}
 use Rattle.sched_load.specs.Answer.{AnswersFromFiles}
 use Rattle.sched_load.specs.Listed.{file_rows, visit_of}

@@ -12,10 +12,10 @@ use Rattle.sched_load.specs.declared.visits.Visit.{Visit}
 use Rattle.sched_load.specs.Course.{AllFit, places_in}
 use Rattle.sched_load.specs.Listed.{most_rows}
 use Rattle.sched_types.specs.Timetable.{Timetable, number_of}
-use Rattle.load_defs.specs.declared.fault.LoadFault.{LoadFault}
-use Rattle.load_defs.specs.declared.fault.LoadFault.TheVariants as fault
-use Rattle.load_defs.specs.Loading.{with_times}
-use Rattle.load_defs.specs.Numbers.{Dataset, by_id, known_number}
+use Rattle.sched_load_defs.specs.declared.fault.LoadFault.{LoadFault}
+use Rattle.sched_load_defs.specs.declared.fault.LoadFault.TheVariants as fault
+use Rattle.sched_load_defs.specs.Loading.{with_times}
+use Rattle.sched_load_defs.specs.Numbers.{Dataset, by_id, known_number}
 use Rattle.sched_load.specs.Answer.{RefusesAlone}
 
 -- the times of all trips are in order

@@ -7,7 +7,7 @@ use Rattle.text_defs.specs.Dates.{date_plus}
 use Rattle.sched_types.specs.Timetable.{IsSmall}
 use Rattle.gtfs_rows.specs.declared.rows.CalendarRow.{CalendarRow}
 use Rattle.service_day.specs.declared.services.Exception.{Exception}
-use Rattle.load_defs.specs.Services.{flags_of, is_active_by}
+use Rattle.sched_load_defs.specs.Services.{flags_of, is_active_by}
 
 -- the flags of a row are seven bits
 abbrev pub Flagged : Option CalendarRow → Type 0

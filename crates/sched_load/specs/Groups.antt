@@ -4,7 +4,7 @@ use Rattle.std.specs.declared.alloc.Global.{Global}
 use Rattle.std.specs.declared.collections.BTreeMap.{BTreeMap}
 use Rattle.gtfs_rows.specs.declared.rows.ExceptionRow.{ExceptionRow}
 use Rattle.service_day.specs.declared.services.Exception.{Exception}
-use Rattle.load_defs.specs.declared.fault.LoadFault.{LoadFault}
+use Rattle.sched_load_defs.specs.declared.fault.LoadFault.{LoadFault}
 use Rattle.sched_load.specs.Answer.{RefusesAlone}
 use Rattle.sched_load.specs.Listed.{entries_of, group_of}
 

@@ -9,11 +9,11 @@ use Rattle.gtfs_rows.specs.Tables.{Columns}
 use Rattle.gtfs_rows.specs.declared.rows.StopTimeRow.{StopTimeRow}
 use Rattle.gtfs_rows.specs.declared.rows.StopRow.{StopRow}
 use Rattle.gtfs_rows.specs.declared.rows.TripRow.{TripRow}
-use Rattle.load_defs.specs.declared.fault.File.{File}
-use Rattle.load_defs.specs.declared.fault.LoadFault.{LoadFault}
-use Rattle.load_defs.specs.Files.{required_rows, optional_rows}
-use Rattle.load_defs.specs.Numbers.{by_id, rows_with_keys, known_number}
-use Rattle.load_defs.specs.Times.{Times}
+use Rattle.sched_load_defs.specs.declared.fault.File.{File}
+use Rattle.sched_load_defs.specs.declared.fault.LoadFault.{LoadFault}
+use Rattle.sched_load_defs.specs.Files.{required_rows, optional_rows}
+use Rattle.sched_load_defs.specs.Numbers.{by_id, rows_with_keys, known_number}
+use Rattle.sched_load_defs.specs.Times.{Times}
 use Rattle.sched_load.specs.declared.visits.Stay.{Stay}
 use Rattle.sched_load.specs.declared.visits.Visit.{Visit}
 use Rattle.sched_load.specs.Answer.{RefusesAlone}

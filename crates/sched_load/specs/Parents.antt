@@ -1,6 +1,6 @@
 -- A check of rows that changes none.
 use Rattle.std.specs.Prelude.{◌≡◌, List, Result, Ok, Err}
-use Rattle.load_defs.specs.declared.fault.LoadFault.{LoadFault}
+use Rattle.sched_load_defs.specs.declared.fault.LoadFault.{LoadFault}
 use Rattle.sched_load.specs.Answer.{RefusesAlone}
 
 -- the rows pass, or have this fault

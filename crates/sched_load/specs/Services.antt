@@ -5,7 +5,7 @@ use Rattle.std.specs.Ordering.{nat_cmp}
 use Rattle.gtfs_rows.specs.declared.rows.TripRow.{TripRow}
 use Rattle.gtfs_rows.specs.declared.rows.CalendarRow.{CalendarRow}
 use Rattle.gtfs_rows.specs.declared.rows.ExceptionRow.{ExceptionRow}
-use Rattle.load_defs.specs.Numbers.{by_id, rows_with_keys}
+use Rattle.sched_load_defs.specs.Numbers.{by_id, rows_with_keys}
 
 -- ids by rising bytes, each once
 abbrev pub ids_gathered : List (List ℕ) → List (List ℕ × Unit {0})

@@ -5,11 +5,11 @@ use Rattle.gtfs_rows.specs.Tables.{agency, stops, routes, trips, calendar, excep
 use Rattle.gtfs_rows.specs.declared.rows.CalendarRow.{CalendarRow}
 use Rattle.gtfs_rows.specs.declared.rows.ExceptionRow.{ExceptionRow}
 use Rattle.gtfs_rows.specs.declared.rows.TripRow.{TripRow}
-use Rattle.load_defs.specs.declared.fault.File.{File}
-use Rattle.load_defs.specs.declared.fault.File.TheVariants as file
-use Rattle.load_defs.specs.declared.fault.LoadFault.{LoadFault}
-use Rattle.load_defs.specs.Files.{required_rows, optional_rows}
-use Rattle.load_defs.specs.References.{consistent_agencies, consistent_stops, consistent_routes, consistent_trips, consistent_calendar, consistent_exceptions}
+use Rattle.sched_load_defs.specs.declared.fault.File.{File}
+use Rattle.sched_load_defs.specs.declared.fault.File.TheVariants as file
+use Rattle.sched_load_defs.specs.declared.fault.LoadFault.{LoadFault}
+use Rattle.sched_load_defs.specs.Files.{required_rows, optional_rows}
+use Rattle.sched_load_defs.specs.References.{consistent_agencies, consistent_stops, consistent_routes, consistent_trips, consistent_calendar, consistent_exceptions}
 use Rattle.sched_load.specs.declared.tables.NetworkTables.{NetworkTables}
 use Rattle.sched_load.specs.declared.tables.DayTables.{DayTables}
 use Rattle.sched_load.specs.Groups.{exceptions_of}

@@ -1,11 +1,11 @@
 -- What an answer says of what was read before a file that could not be read.
 use Rattle.std.specs.Prelude.{◌≡◌, ◌≤◌, ℕ, List, Option, IfSome, Result, Ok, Err, ⊤}
-use Rattle.load_defs.specs.Files.{file_place, path_of, unreadable}
-use Rattle.load_defs.specs.Stops.{DatasetStops, StopsAt}
-use Rattle.load_defs.specs.declared.conf.PlanConf.{PlanConf}
-use Rattle.load_defs.specs.declared.fault.File.{File}
-use Rattle.load_defs.specs.declared.fault.LoadFault.{LoadFault}
-use Rattle.load_defs.specs.declared.fault.LoadFault.TheVariants as fault
+use Rattle.sched_load_defs.specs.Files.{file_place, path_of, unreadable}
+use Rattle.sched_load_defs.specs.Stops.{DatasetStops, StopsAt}
+use Rattle.sched_load_defs.specs.declared.conf.PlanConf.{PlanConf}
+use Rattle.sched_load_defs.specs.declared.fault.File.{File}
+use Rattle.sched_load_defs.specs.declared.fault.LoadFault.{LoadFault}
+use Rattle.sched_load_defs.specs.declared.fault.LoadFault.TheVariants as fault
 
 -- something holds where the fault is a file that could not be read
 abbrev pub AtFileFault : LoadFault → Type 0 → Type 0

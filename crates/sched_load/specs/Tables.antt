@@ -2,11 +2,11 @@
 use Rattle.std.specs.Prelude.{◌≡◌, ℕ, Bool, true, false, List, map, Option, Result, Ok, Err}
 use Rattle.gtfs_rows.specs.Tables.{Columns, agency, stops, routes, trips, stop_times, calendar, exceptions}
 use Rattle.gtfs_rows.specs.declared.rows.StopTimeRow.{StopTimeRow}
-use Rattle.load_defs.specs.declared.fault.File.{File}
-use Rattle.load_defs.specs.declared.fault.File.TheVariants as file
-use Rattle.load_defs.specs.declared.fault.LoadFault.{LoadFault}
-use Rattle.load_defs.specs.Numbers.{Dataset, service_ids}
-use Rattle.load_defs.specs.References.{consistent_agencies, consistent_stops, consistent_routes, consistent_trips, consistent_stop_times, consistent_calendar, consistent_exceptions}
+use Rattle.sched_load_defs.specs.declared.fault.File.{File}
+use Rattle.sched_load_defs.specs.declared.fault.File.TheVariants as file
+use Rattle.sched_load_defs.specs.declared.fault.LoadFault.{LoadFault}
+use Rattle.sched_load_defs.specs.Numbers.{Dataset, service_ids}
+use Rattle.sched_load_defs.specs.References.{consistent_agencies, consistent_stops, consistent_routes, consistent_trips, consistent_stop_times, consistent_calendar, consistent_exceptions}
 use Rattle.sched_load.specs.declared.tables.Tables.{Tables}
 use Rattle.sched_load.specs.Answer.{AnswersFromFiles}
 use Rattle.sched_load.specs.Listed.{entries_of, file_rows, visit_of}

@@ -12,10 +12,10 @@ use Rattle.gtfs_rows.specs.declared.fault.RowFault.{RowFault}
 use Rattle.gtfs_rows.specs.declared.rows.StopRow.{StopRow}
 use Rattle.gtfs_rows.specs.declared.rows.TripRow.{TripRow}
 use Rattle.gtfs_rows.specs.declared.rows.StopTimeRow.{StopTimeRow}
-use Rattle.load_defs.specs.declared.fault.File.TheVariants as file
-use Rattle.load_defs.specs.declared.fault.LoadFault.{LoadFault}
-use Rattle.load_defs.specs.Numbers.{rows_by_key}
-use Rattle.load_defs.specs.References.{consistent_stop_times, unknown_in_stop_time}
+use Rattle.sched_load_defs.specs.declared.fault.File.TheVariants as file
+use Rattle.sched_load_defs.specs.declared.fault.LoadFault.{LoadFault}
+use Rattle.sched_load_defs.specs.Numbers.{rows_by_key}
+use Rattle.sched_load_defs.specs.References.{consistent_stop_times, unknown_in_stop_time}
 use Rattle.sched_load.specs.declared.visits.Visit.{Visit}
 use Rattle.sched_load.specs.declared.visits.Gathered.{Gathered}
 use Rattle.sched_load.specs.Answer.{AnswersFromFiles, RefusesAlone}

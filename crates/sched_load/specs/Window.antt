@@ -1,7 +1,7 @@
 -- The window of days for which a timetable is loaded.
 use Rattle.std.specs.Prelude.{◌≤◌, IsTrue}
 use Rattle.text_defs.specs.Dates.{is_day}
-use Rattle.load_defs.specs.declared.conf.PlanConf.{PlanConf}
+use Rattle.sched_load_defs.specs.declared.conf.PlanConf.{PlanConf}
 
 -- it begins on a day from 1 February 1970 to 31 December 2999 and has 1 to 400 days
 pub record HasWindow (conf : PlanConf) : Type 0 where

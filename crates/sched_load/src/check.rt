@@ -2,7 +2,7 @@
 
 ghost use Rattle.std.specs.Prelude.{List};
 ghost use Rattle.gtfs_rows.specs.declared.rows.StopTimeRow.{StopTimeRow};
-ghost use Rattle.load_defs.specs.Loading.{times_fault};
+ghost use Rattle.sched_load_defs.specs.Loading.{times_fault};
 ghost use Rattle.sched_load.specs.Built.{TimesAre};
 ghost use Rattle.sched_load.specs.Tables.{AreRead, WereRead, dataset_of};
 
@@ -10,7 +10,7 @@ use crate::order::row_number;
 use crate::tables::Tables;
 use crate::times::are_times;
 use crate::visits::visits_of;
-use load_defs::LoadFault;
+use sched_load_defs::LoadFault;
 
 /// Whether the times of all trips are in order, or the first row of trips.txt whose trip's are not.
 pub(crate) fn check_times(tables: &Tables) -> Result<(), LoadFault>

@@ -3,7 +3,7 @@
 ghost use Rattle.std.specs.Prelude.{◌≡◌, ◌≤◌, ℕ, IsTrue, IfOk, IfSome, Some, OnOk, length, map, slice_get, zip, filter, option_copied, [], ◌∷◌, ◌++◌, ◌+◌, ◌<◌, if◌then◌else◌};
 ghost use Rattle.std.specs.List.{range_with_len};
 ghost use Rattle.text_defs.specs.Dates.{date_plus, day_number, is_day};
-ghost use Rattle.load_defs.specs.Services.{flags_of, is_active_by};
+ghost use Rattle.sched_load_defs.specs.Services.{flags_of, is_active_by};
 ghost use Rattle.gtfs_rows.specs.declared.rows.CalendarRow.{CalendarRow};
 ghost use Rattle.service_day.specs.Zone.{base_of};
 ghost use Rattle.sched_types.specs.Timetable.{IsSmall};

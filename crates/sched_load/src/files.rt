@@ -2,11 +2,11 @@
 
 ghost use Rattle.std.specs.Prelude.{◌≡◌, ◌≤◌, ◌<◌, ℕ, List, Option, IfOk, length, true};
 ghost use Rattle.gtfs_rows.specs.Tables.{stop_times};
-ghost use Rattle.load_defs.specs.Numbers.{by_id};
-ghost use Rattle.load_defs.specs.declared.fault.File.TheVariants as file;
+ghost use Rattle.sched_load_defs.specs.Numbers.{by_id};
+ghost use Rattle.sched_load_defs.specs.declared.fault.File.TheVariants as file;
 ghost use Rattle.sched_load.specs.Gathering.{BelowAll};
 ghost use Rattle.sched_load.specs.Visits.{ReadsVisits};
-ghost use Rattle.load_defs.specs.Files.{path_of};
+ghost use Rattle.sched_load_defs.specs.Files.{path_of};
 ghost use Rattle.hub_outside.specs.Files.{file_at};
 ghost use Rattle.sched_load.specs.Answer.{AnswersFromFiles, fault_of, items_in};
 ghost use Rattle.std.specs.String.{string_bytes};
@@ -19,7 +19,7 @@ use crate::table::Table;
 use crate::visits::Gathered;
 use gtfs_rows::{RowFault, StopRow, TripRow};
 use hub_outside::{Buf, FileAnswer, Files};
-use load_defs::{File, LoadFault};
+use sched_load_defs::{File, LoadFault};
 use std::alloc::{AllocError, Global};
 
 /// The most bytes that a file may have.

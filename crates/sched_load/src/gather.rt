@@ -5,7 +5,7 @@ ghost use Rattle.sched_types.specs.Timetable.{number_of};
 ghost use Rattle.gtfs_rows.specs.Files.{rows_of};
 ghost use Rattle.gtfs_rows.specs.StopTimes.{IsOpen, row_to_come, rows_to_come};
 ghost use Rattle.gtfs_rows.specs.Tables.{stop_times};
-ghost use Rattle.load_defs.specs.Numbers.{by_id};
+ghost use Rattle.sched_load_defs.specs.Numbers.{by_id};
 ghost use Rattle.sched_load.specs.Gathering.{BelowAll};
 ghost use Rattle.sched_load.specs.Listed.{most_rows, stay_of};
 ghost use Rattle.sched_load.specs.Visits.{Gathers, IsVisit, Skips};

@@ -1,7 +1,7 @@
 //! Which column of a row refers to no row.
 
 ghost use Rattle.std.specs.Prelude.{◌≡◌, Option};
-ghost use Rattle.load_defs.specs.References.{refers_to_none, unknown_in_route, unknown_in_trip};
+ghost use Rattle.sched_load_defs.specs.References.{refers_to_none, unknown_in_route, unknown_in_trip};
 
 use crate::table::Table;
 use gtfs_rows::{AgencyRow, Column, RouteRow, TripRow};

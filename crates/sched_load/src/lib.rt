@@ -1,7 +1,7 @@
 //! Loads a timetable from a folder of files.
 //!
 //! `load` reads the seven files of a GTFS dataset, one after another, and gives the `Plan` of their rows,
-//! or the first fault. The bytes of a file are let go once its rows are read. What it means is said in `load_defs`
+//! or the first fault. The bytes of a file are let go once its rows are read. What it means is said in `sched_load_defs`
 //! (`specs/Loading.antt`): each answer is what `timetable` tells of the files, the folder and the
 //! configuration, but for want of memory, and for a file that could not be read, which the count of
 //! faults of the files bears out. Where the files tell which one it was, what comes before it in the order
@@ -14,7 +14,7 @@
 //! `check` judges the times of trips by row of trips.txt, `times`, `days` and `build` make the lists of
 //! the plan. `specs/Answer.antt` has the word by which each step says what it told (`Reads`).
 //!
-//! The crate stands on `load_defs`, `gtfs_rows`, `service_day`, `sched_types` and `hub_outside`.
+//! The crate stands on `sched_load_defs`, `gtfs_rows`, `service_day`, `sched_types` and `hub_outside`.
 #![tactic(auto)]
 
 mod build;
@@ -33,5 +33,5 @@ mod tables;
 mod times;
 mod visits;
 
-pub use load_defs::{File, LoadFault, PlanConf};
 pub use loading::load;
+pub use sched_load_defs::{File, LoadFault, PlanConf};

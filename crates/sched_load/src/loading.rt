@@ -1,8 +1,8 @@
 //! A timetable of a folder of files.
 
 ghost use Rattle.std.specs.Prelude.{◌≡◌, ◌≤◌, IfSome, IfOk};
-ghost use Rattle.load_defs.specs.Loading.{timetable, with_times, zone_of};
-ghost use Rattle.load_defs.specs.Numbers.{timetable_of};
+ghost use Rattle.sched_load_defs.specs.Loading.{timetable, with_times, zone_of};
+ghost use Rattle.sched_load_defs.specs.Numbers.{timetable_of};
 ghost use Rattle.sched_load.specs.Answer.{HasLoadCause, IsPlainAnswer, AnswersAlone, Loads};
 ghost use Rattle.sched_load.specs.Built.{IsBuilt, IsInOrder};
 ghost use Rattle.sched_load.specs.Stops.{StopsLoading, StopsWith};
@@ -13,7 +13,7 @@ use crate::build::build_plan;
 use crate::check::check_times;
 use crate::tables::read_tables;
 use hub_outside::Files;
-use load_defs::{LoadFault, PlanConf};
+use sched_load_defs::{LoadFault, PlanConf};
 use sched_types::Plan;
 use service_day::{Zone, ZoneFault, read_zone};
 use std::alloc::Global;

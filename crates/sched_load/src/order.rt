@@ -1,12 +1,12 @@
 //! The order of the rows of one file, and its first fault.
 
 ghost use Rattle.std.specs.Prelude.{◌≡◌, ◌≤◌, ◌<◌, ◌+◌, ◌^◌, length, map, IfOk};
-ghost use Rattle.load_defs.specs.References.{consistent, row_at};
+ghost use Rattle.sched_load_defs.specs.References.{consistent, row_at};
 ghost use Rattle.sched_load.specs.Listed.{Orders, most_rows, same_id, texts_seen};
 
 use crate::judges::Judge;
 use crate::rows::IdRow;
-use load_defs::LoadFault;
+use sched_load_defs::LoadFault;
 use std::alloc::{AllocError, Global};
 use std::collections::BTreeMap;
 

@@ -8,13 +8,13 @@ use gtfs_rows::{
     AgencyRow, CalendarRow, ExceptionRow, RouteRow, RowFault, StopRow, TripRow, read_agencies,
     read_calendar, read_exceptions, read_routes, read_stops, read_trips,
 };
-use load_defs::File;
+use sched_load_defs::File;
 use std::alloc::Global;
 
 /// A row of a file.
 pub(crate) trait FileRow: Drop {
     ghost use Rattle.gtfs_rows.specs.Tables.{Columns};
-    ghost use Rattle.load_defs.specs.declared.fault.File.{File};
+    ghost use Rattle.sched_load_defs.specs.declared.fault.File.{File};
 
     /// The file's columns.
     ghost columns: { Columns Self };
@@ -47,7 +47,7 @@ pub(crate) trait IdRow: FileRow {
 
 impl FileRow for AgencyRow {
     ghost use Rattle.gtfs_rows.specs.Tables.{agency};
-    ghost use Rattle.load_defs.specs.declared.fault.File.TheVariants as file;
+    ghost use Rattle.sched_load_defs.specs.declared.fault.File.TheVariants as file;
     ghost use Rattle.std.specs.Prelude.{true};
 
     ghost columns = { agency };
@@ -79,7 +79,7 @@ impl IdRow for AgencyRow {
 
 impl FileRow for StopRow {
     ghost use Rattle.gtfs_rows.specs.Tables.{stops};
-    ghost use Rattle.load_defs.specs.declared.fault.File.TheVariants as file;
+    ghost use Rattle.sched_load_defs.specs.declared.fault.File.TheVariants as file;
     ghost use Rattle.std.specs.Prelude.{true};
 
     ghost columns = { stops };
@@ -111,7 +111,7 @@ impl IdRow for StopRow {
 
 impl FileRow for RouteRow {
     ghost use Rattle.gtfs_rows.specs.Tables.{routes};
-    ghost use Rattle.load_defs.specs.declared.fault.File.TheVariants as file;
+    ghost use Rattle.sched_load_defs.specs.declared.fault.File.TheVariants as file;
     ghost use Rattle.std.specs.Prelude.{true};
 
     ghost columns = { routes };
@@ -143,7 +143,7 @@ impl IdRow for RouteRow {
 
 impl FileRow for TripRow {
     ghost use Rattle.gtfs_rows.specs.Tables.{trips};
-    ghost use Rattle.load_defs.specs.declared.fault.File.TheVariants as file;
+    ghost use Rattle.sched_load_defs.specs.declared.fault.File.TheVariants as file;
     ghost use Rattle.std.specs.Prelude.{true};
 
     ghost columns = { trips };
@@ -175,7 +175,7 @@ impl IdRow for TripRow {
 
 impl FileRow for CalendarRow {
     ghost use Rattle.gtfs_rows.specs.Tables.{calendar};
-    ghost use Rattle.load_defs.specs.declared.fault.File.TheVariants as file;
+    ghost use Rattle.sched_load_defs.specs.declared.fault.File.TheVariants as file;
     ghost use Rattle.std.specs.Prelude.{false};
 
     ghost columns = { calendar };
@@ -207,7 +207,7 @@ impl IdRow for CalendarRow {
 
 impl FileRow for ExceptionRow {
     ghost use Rattle.gtfs_rows.specs.Tables.{exceptions};
-    ghost use Rattle.load_defs.specs.declared.fault.File.TheVariants as file;
+    ghost use Rattle.sched_load_defs.specs.declared.fault.File.TheVariants as file;
     ghost use Rattle.std.specs.Prelude.{false};
 
     ghost columns = { exceptions };

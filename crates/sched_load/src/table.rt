@@ -3,8 +3,8 @@
 ghost use Rattle.std.specs.Prelude.{◌≡◌, ◌<◌, ◌≤◌, ◌^◌, ℕ, List, Some, None, length, find, bytes_eq, slice_get, IfSome, IfOk, option_copied, map};
 ghost use Rattle.std.specs.List.{list_any};
 ghost use Rattle.sched_types.specs.Timetable.{number_of};
-ghost use Rattle.load_defs.specs.Numbers.{by_id};
-ghost use Rattle.load_defs.specs.References.{has_id};
+ghost use Rattle.sched_load_defs.specs.Numbers.{by_id};
+ghost use Rattle.sched_load_defs.specs.References.{has_id};
 ghost use Rattle.sched_load.specs.Listed.{IsOrder, most_rows};
 
 use crate::rows::IdRow;

@@ -2,9 +2,9 @@
 
 ghost use Rattle.std.specs.Prelude.{◌≡◌, ◌≤◌, ℕ, List, Option, IfOk, Ok, length, true, [], ◌||◌, bytes_eq};
 ghost use Rattle.hub_outside.specs.Files.{file_at};
-ghost use Rattle.load_defs.specs.Files.{path_of, stored_in};
-ghost use Rattle.load_defs.specs.Loading.{dataset_in};
-ghost use Rattle.load_defs.specs.References.{consistent, consistent_stop_times, consistent_stops, has_id, with_parents};
+ghost use Rattle.sched_load_defs.specs.Files.{path_of, stored_in};
+ghost use Rattle.sched_load_defs.specs.Loading.{dataset_in};
+ghost use Rattle.sched_load_defs.specs.References.{consistent, consistent_stop_times, consistent_stops, has_id, with_parents};
 ghost use Rattle.sched_load.specs.Answer.{AnswersFromFiles, and_next};
 ghost use Rattle.sched_load.specs.Stages.{AreDays, IsNetwork, day_rows_in, days_where, network_where};
 ghost use Rattle.sched_load.specs.Listed.{file_rows, most_rows, same_id};
@@ -13,7 +13,7 @@ ghost use Rattle.sched_load.specs.Stops.{StopsFile, StopsPart, StopsTables, Stop
 ghost use Rattle.sched_load.specs.Tables.{ReadsTables};
 ghost use Rattle.sched_load.specs.Arranged.{ReadsArranged};
 ghost use Rattle.gtfs_rows.specs.Tables.{stop_times, stops};
-ghost use Rattle.load_defs.specs.declared.fault.File.TheVariants as file;
+ghost use Rattle.sched_load_defs.specs.declared.fault.File.TheVariants as file;
 
 use crate::files::{read_rows, read_visits};
 use crate::judges::{Judge, KnownAgencies, KnownRoutes, NoReference};
@@ -24,7 +24,7 @@ use crate::table::Table;
 use crate::visits::{Visit, arrange};
 use gtfs_rows::{AgencyRow, CalendarRow, Column, ExceptionRow, RouteRow, StopRow, TripRow};
 use hub_outside::Files;
-use load_defs::{File, LoadFault};
+use sched_load_defs::{File, LoadFault};
 use sched_types::PlanName;
 use service_day::Exception;
 use std::alloc::Global;

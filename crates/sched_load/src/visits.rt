@@ -13,7 +13,7 @@ ghost use Rattle.gtfs_rows.specs.declared.rows.StopTimeRow.{StopTimeRow};
 
 use crate::order::row_number;
 use gtfs_rows::Column;
-use load_defs::{File, LoadFault};
+use sched_load_defs::{File, LoadFault};
 use std::alloc::{AllocError, Global};
 use std::collections::BTreeMap;
 

@@ -1,7 +1,7 @@
 //! Ports, listeners and doors over the loopback, with ample memory.
 
-use conf_defs::{FeedConf, PortKind};
 use feed_port::{FeedPort, LONGEST_MESSAGE, PortAnswer};
+use hub_config_defs::{FeedConf, PortKind};
 use hub_outside::{Buf, Door, DoorAnswer, MemorySink, NoMemory};
 use hub_ports::{SystemPort, doors_of, listen, open_port, reader_count};
 use rt_types::Text;

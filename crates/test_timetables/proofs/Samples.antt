@@ -3,8 +3,8 @@ use Rattle.std.proofs.Common.{◌≡◌, true, refl}
 use Rattle.text_defs.specs.Dates.{is_day}
 use Rattle.sched_types.proofs.Checks.{all_pairs}
 use Rattle.sched_types.proofs.Checked.{passes}
-use Rattle.delay_defs.specs.Line.{line}
-use Rattle.match_defs.specs.Autumn.{autumn}
+use Rattle.delay_rule_defs.specs.Line.{line}
+use Rattle.trip_match_defs.specs.Autumn.{autumn}
 
 pub autumn_passes : passes autumn ≡ true
 unfolding is_day all_pairs

@@ -2,8 +2,8 @@
 
 ghost use Rattle.std.specs.Prelude.{◌≡◌, ◌<◌, map, IfOk};
 ghost use Rattle.std.specs.List.{range_with_len};
-ghost use Rattle.delay_defs.specs.Line as example;
-ghost use Rattle.delay_defs.specs.Line.{line_place};
+ghost use Rattle.delay_rule_defs.specs.Line as example;
+ghost use Rattle.delay_rule_defs.specs.Line.{line_place};
 
 use delay_rule::{NoMemory, Steps, StopState, walk};
 use rt_types::{Bytes, Event, Items, StopRelation, StopUpdate, Text, TripRef, TripUpdate};

@@ -1,6 +1,6 @@
 //! The files by their names.
 
-use load_defs::File;
+use sched_load_defs::File;
 
 #[test]
 fn the_names_of_files() {

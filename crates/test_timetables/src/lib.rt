@@ -1,7 +1,7 @@
 //! Tests of timetables: of the rows of their files, their zones and days, their look-ups, the loading of
 //! folders, which trip an update means, and what it tells of each place.
 //!
-//! They call `gtfs_rows`, `service_day`, `sched_types`, `load_defs`, `sched_load`, `trip_match` and
+//! They call `gtfs_rows`, `service_day`, `sched_types`, `sched_load_defs`, `sched_load`, `trip_match` and
 //! `delay_rule` by their public contracts. Every test is proved safe, and then it is run.
 #![tactic(auto)]
 

@@ -1,8 +1,8 @@
 //! The rules of matching on a small timetable, around both changes of the clock.
 
 ghost use Rattle.std.specs.Prelude.{◌≡◌, map, IfOk};
-ghost use Rattle.match_defs.specs.Autumn as fall;
-ghost use Rattle.match_defs.specs.Autumn.{autumn_places};
+ghost use Rattle.trip_match_defs.specs.Autumn as fall;
+ghost use Rattle.trip_match_defs.specs.Autumn.{autumn_places};
 
 use rt_types::{Bytes, Text, TripRef, TripRelation};
 use sample_city::{NoMemory, city, place, routes, stops, trips};

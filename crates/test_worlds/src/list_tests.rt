@@ -6,12 +6,12 @@ use crate::meaning::meant;
 use crate::scan::{Question, Seen, scan, stamp_of};
 use board_core::{BoardQuery, HubView};
 use board_lists::{AlertRow, RowsFault, Unmatched, alerts, unmatched};
-use match_defs::{Found, Why};
 use rt_types::{Text, TripRelation};
 use sample_worlds::{Dice, MadeWords, STOPS, World, hub_of, made_world, named_by};
 use std::alloc::Global;
 use std::test::Fail;
 use texts::LAST_MOMENT;
+use trip_match_defs::{Found, Why};
 
 /// The first text that tells no language.
 fn plain(words: &[MadeWords]) -> Option<&'static str> {

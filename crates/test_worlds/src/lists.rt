@@ -2,12 +2,12 @@
 
 use crate::meaning::meant;
 use crate::scan::{Question, Seen, lies_in, stamp_of};
-use match_defs::{Found, Why};
 use sample_worlds::{
     ALERT_IDS, ENTITY_IDS, FIRST_STAMP, MadeAlert, MadeDate, MadePeriod, MadeRef, MadeSelector,
     MadeVehicle, ROUTE_AGENCIES, ROUTE_KINDS, TRIP_DIRECTIONS, World, named_by,
 };
 use std::alloc::{AllocError, Global};
+use trip_match_defs::{Found, Why};
 
 /// Whether a period holds: from its start on, up to but not at its end.
 fn holds_at(period: MadePeriod, at: u64) -> bool {

@@ -1,12 +1,12 @@
 //! What a trip descriptor means, by going over all days and trips (GTFS Realtime 2.0, TripDescriptor).
 
 use crate::scan::runs;
-use match_defs::{Found, Why};
 use rt_types::TripRelation;
 use sample_worlds::{
     BASES, MadeDate, MadeRef, MadeTime, MadeTrip, TRIP_DIRECTIONS, TRIP_ROUTES, World,
 };
 use sched_types::Run;
+use trip_match_defs::{Found, Why};
 
 /// What a descriptor means at an instant.
 pub(crate) fn meant(world: &World, named: MadeRef, stamp: u64) -> Found {

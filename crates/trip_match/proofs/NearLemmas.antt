@@ -12,10 +12,10 @@ use Rattle.order.proofs.Lists.{range_more}
 use Rattle.sched_types.specs.declared.rows.Place.{Place}
 use Rattle.sched_types.specs.declared.rows.Run.{Run}
 use Rattle.sched_types.specs.Timetable.{Timetable, IsSmall, places_of}
-use Rattle.match_defs.specs.declared.found.Near.{Near}
-use Rattle.match_defs.specs.declared.found.Found.TheVariants as found
-use Rattle.match_defs.specs.declared.found.Why.TheVariants as why
-use Rattle.match_defs.specs.Matching.{seconds_outside, near_at, nearer, nearest, is_near, runs_near, run_near, by_near}
+use Rattle.trip_match_defs.specs.declared.found.Near.{Near}
+use Rattle.trip_match_defs.specs.declared.found.Found.TheVariants as found
+use Rattle.trip_match_defs.specs.declared.found.Why.TheVariants as why
+use Rattle.trip_match_defs.specs.Matching.{seconds_outside, near_at, nearer, nearest, is_near, runs_near, run_near, by_near}
 
 -- ---- sums of seconds fit 64 bits
 

@@ -4,9 +4,9 @@ use Rattle.std.specs.Option.{option_to_list, is_some}
 use Rattle.std.proofs.lemmas.List.{take_more, take_all, take-append-drop}
 use Rattle.std.proofs.lemmas.List.Elements.{filter-append}
 use Rattle.sched_types.specs.Timetable.{Timetable, is_run}
-use Rattle.match_defs.specs.declared.found.Found.TheVariants as answer
-use Rattle.match_defs.specs.declared.found.Why.TheVariants as why
-use Rattle.match_defs.specs.Matching.{only_trip, trips_running}
+use Rattle.trip_match_defs.specs.declared.found.Found.TheVariants as answer
+use Rattle.trip_match_defs.specs.declared.found.Why.TheVariants as why
+use Rattle.trip_match_defs.specs.Matching.{only_trip, trips_running}
 
 module _ (t : Timetable) (day : ℕ) (trips : List ℕ) where
   abbrev runs : ℕ → Bool

@@ -1,7 +1,7 @@
 //! The texts of a trip descriptor.
 ghost use Rattle.std.specs.Prelude.{◌≡◌};
 ghost use Rattle.std.specs.Option.{option_copied};
-ghost use Rattle.match_defs.specs.Texts as rule;
+ghost use Rattle.trip_match_defs.specs.Texts as rule;
 
 use rt_types::Text;
 

@@ -1,13 +1,13 @@
 // Trips with a trip_id.
 ghost use Rattle.std.specs.Prelude.{◌≡◌, Some, pos};
 ghost use Rattle.sched_types.specs.Timetable.{day_with_date};
-ghost use Rattle.match_defs.specs.declared.found.Found.{Found};
-ghost use Rattle.match_defs.specs.Matching as rule;
-ghost use Rattle.match_defs.specs.Matching.{first_rule, rule_4_trip_id, rule_5_nearest_day};
+ghost use Rattle.trip_match_defs.specs.declared.found.Found.{Found};
+ghost use Rattle.trip_match_defs.specs.Matching as rule;
+ghost use Rattle.trip_match_defs.specs.Matching.{first_rule, rule_4_trip_id, rule_5_nearest_day};
 
 use crate::near::by_near;
-use match_defs::{Found, Why};
 use sched_types::{Plan, Run};
+use trip_match_defs::{Found, Why};
 
 /// The run of the trip on the day with that date.
 fn run_on(plan: &Plan, trip: u32, date: u32) -> Found

@@ -1,17 +1,17 @@
 // The rules in their order.
 ghost use Rattle.std.specs.Prelude.{◌≡◌, None, Option, List, ℕ, pos, if◌then◌else◌};
-ghost use Rattle.match_defs.specs.Matching as rule;
-ghost use Rattle.match_defs.specs.Matching.{first_rule, match_of, no_match, rule_1_relation, rule_3_added_trip, rule_4_trip_id, rule_5_nearest_day, rule_6_route_and_time};
-ghost use Rattle.match_defs.specs.Texts as text;
+ghost use Rattle.trip_match_defs.specs.Matching as rule;
+ghost use Rattle.trip_match_defs.specs.Matching.{first_rule, match_of, no_match, rule_1_relation, rule_3_added_trip, rule_4_trip_id, rule_5_nearest_day, rule_6_route_and_time};
+ghost use Rattle.trip_match_defs.specs.Texts as text;
 ghost use Rattle.trip_match.specs.Reading.{IsRead};
 
 use crate::descriptor::given;
 use crate::ids::by_id;
 use crate::routes::by_departure;
-use match_defs::{Found, Why};
 use rt_types::{TripRef, TripRelation};
 use sched_types::Plan;
 use texts::read_date;
+use trip_match_defs::{Found, Why};
 
 /// Whether trips of that relation are about no run of a timetable.
 fn has_no_run(relation: TripRelation) -> bool
@@ -71,7 +71,7 @@ fn scheduled(plan: &Plan, trip: &TripRef, date: Option<u32>, stamp: u64) -> Foun
 
 /// What a trip descriptor is about at an instant, in seconds since 1970: that of the update or message in which
 /// it stands (GTFS Realtime, TripDescriptor).
-#[tactic(auto, unfolding(match_defs::specs::Matching::match_of))]
+#[tactic(auto, unfolding(trip_match_defs::specs::Matching::match_of))]
 pub fn find(plan: &Plan, trip: &TripRef, stamp: u64) -> Found
     ensures { result ≡ match_of plan.now trip.now stamp }
 {

@@ -1,11 +1,11 @@
 // The run on the near day whose span lies nearest to an instant.
 ghost use Rattle.std.specs.Prelude.{◌≡◌, ◌<◌, ◌||◌, Some, None, pos, ◌+ℤ◌, ◌≤ℤ◌, length, slice_get, if◌then◌else◌, IfSome};
 ghost use Rattle.sched_types.specs.Timetable.{IsSmall, places_of};
-ghost use Rattle.match_defs.specs.Matching as rule;
-ghost use Rattle.match_defs.specs.Matching.{is_near, is_near_noon, runs_near};
+ghost use Rattle.trip_match_defs.specs.Matching as rule;
+ghost use Rattle.trip_match_defs.specs.Matching.{is_near, is_near_noon, runs_near};
 
-use match_defs::{Found, Near, Why};
 use sched_types::{Plan, Run};
+use trip_match_defs::{Found, Near, Why};
 
 /// Noon, in seconds from the base of a day.
 const NOON: i64 = 43_200;

@@ -1,16 +1,16 @@
 // Trips without a trip_id.
 ghost use Rattle.std.specs.Prelude.{◌≡◌};
 ghost use Rattle.sched_types.specs.Timetable.{day_with_date};
-ghost use Rattle.match_defs.specs.Matching as rule;
-ghost use Rattle.match_defs.specs.Matching.{at_time, on_day, rule_6_route_and_time, trips_running};
-ghost use Rattle.match_defs.specs.Texts as text;
+ghost use Rattle.trip_match_defs.specs.Matching as rule;
+ghost use Rattle.trip_match_defs.specs.Matching.{at_time, on_day, rule_6_route_and_time, trips_running};
+ghost use Rattle.trip_match_defs.specs.Texts as text;
 ghost use Rattle.text_defs.specs.Times.{time_in};
 
 use crate::descriptor::given;
-use match_defs::{Found, Why};
 use rt_types::TripRef;
 use sched_types::{Plan, Run};
 use texts::read_time;
+use trip_match_defs::{Found, Why};
 
 /// The run on that day of the one of these trips that runs then.
 fn only(plan: &Plan, trips: &[u32], day: u32) -> Found

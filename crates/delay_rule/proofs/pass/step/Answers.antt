@@ -3,7 +3,7 @@ use Rattle.std.proofs.lemmas.Int.{to_z-of_z}
 use Rattle.std.proofs.lemmas.Option.{slice_get-get_or}
 use Rattle.sched_types.specs.declared.rows.Place.{Place}
 use Rattle.sched_types.proofs.Lists.{fits_seconds}
-use Rattle.delay_defs.specs.Delays.{relation_of, state_by}
+use Rattle.delay_rule_defs.specs.Delays.{relation_of, state_by}
 use Rattle.delay_rule.specs.Pass.{told_by}
 use Rattle.delay_rule.proofs.NearLaw.{adds_plain, adds_one}
 use Rattle.delay_rule.proofs.StepLaw.{goes_nowhere, goes_further}

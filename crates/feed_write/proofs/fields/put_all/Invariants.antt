@@ -1,7 +1,7 @@
 -- The messages that were gone over are written.
 use Rattle.std.proofs.Common.{◌≡◌, ◌++◌, take, map}
 use Rattle.std.specs.List.{flat_map}
-use Rattle.wire_defs.specs.Writing.{field_bytes}
+use Rattle.pb_wire_defs.specs.Writing.{field_bytes}
 use Rattle.feed_defs.specs.Rows.{write_all}
 use Rattle.feed_write.proofs.fields.put_all.Given as goal
 

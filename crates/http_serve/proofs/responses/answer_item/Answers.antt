@@ -1,4 +1,4 @@
-use Rattle.serve_defs.proofs.QueryLaws.{request_askable}
+use Rattle.http_serve_defs.proofs.QueryLaws.{request_askable}
 use Rattle.http_serve.proofs.responses.answer_item.Goals as goal
 
 pub answer_query-requires-clause-askable : goal.answer_query-requires-clause-askable

@@ -1,6 +1,6 @@
 -- The configuration's fault, or the lines of its timetables.
 use Rattle.hub_check.specs.Told.{Checks}
-use Rattle.command_defs.specs.Checks.{check_output}
+use Rattle.hub_main_defs.specs.Checks.{check_output}
 use Rattle.hub_load.proofs.Stopping.{behind_conf, conf_stops, fault_by, stops_by, stops_passed}
 use Rattle.hub_load.proofs.Telling.{both_told, each_told, passed}
 use Rattle.hub_check.proofs.CountsLines.{check_refused, check_told}

@@ -1,8 +1,8 @@
 -- The lines of the schedules up to one, and then its line or its fault.
 use Rattle.std.proofs.Common.{◌∙◌, ℕ, Result, Vec, arith}
 use Rattle.std.specs.declared.alloc.Global.{Global}
-use Rattle.load_defs.specs.Loading.{timetable}
-use Rattle.command_defs.specs.Checks.{counts_line, plan_conf}
+use Rattle.sched_load_defs.specs.Loading.{timetable}
+use Rattle.hub_main_defs.specs.Checks.{counts_line, plan_conf}
 use Rattle.hub_load.specs.declared.fault.HubFault.{HubFault}
 use Rattle.hub_load.specs.Told.{IsAsTold}
 use Rattle.hub_check.specs.Told.{lines_for}

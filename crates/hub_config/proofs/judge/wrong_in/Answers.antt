@@ -1,6 +1,6 @@
 use Rattle.std.proofs.Common.{◌∙◌, sym}
 use Rattle.toml.specs.View.{table_view}
-use Rattle.conf_defs.specs.declared.rule.Key.TheVariants.{Readers}
+use Rattle.hub_config_defs.specs.declared.rule.Key.TheVariants.{Readers}
 use Rattle.hub_config.proofs.Judging.{wrong_here, wrong_later, wrong_none}
 use Rattle.hub_config.proofs.judge.wrong_in.Goals as goal
 

@@ -1,6 +1,6 @@
 use Rattle.std.proofs.Common.{◌≡◌, drop}
 use Rattle.toml.specs.View.{table_view}
-use Rattle.conf_defs.specs.Faults as faults
+use Rattle.hub_config_defs.specs.Faults as faults
 use Rattle.hub_config.proofs.judge.wrong_in.Given as goal
 
 abbrev pub invariant-loop-key : goal.invariant-loop-key

@@ -1,8 +1,8 @@
 use Rattle.std.proofs.Common.{◌∙◌, ap, sym, Ok, []}
 use Rattle.toml.specs.View.{table_view}
-use Rattle.conf_defs.specs.declared.fault.TableName.TheVariants.{Top}
-use Rattle.conf_defs.specs.Conf.{feeds_in, schedules_in}
-use Rattle.conf_defs.specs.Faults.{fault_in}
+use Rattle.hub_config_defs.specs.declared.fault.TableName.TheVariants.{Top}
+use Rattle.hub_config_defs.specs.Conf.{feeds_in, schedules_in}
+use Rattle.hub_config_defs.specs.Faults.{fault_in}
 use Rattle.hub_config.proofs.Documents.{conf_is, feeds_stop, schedules_stop, top_stops}
 use Rattle.hub_config.proofs.Rows.{refused_whole, refuses, tells_passed}
 use Rattle.hub_config.proofs.read.conf_in.Goals as goal

@@ -1,6 +1,6 @@
 use Rattle.std.proofs.Common.{◌≡◌, ◌+◌, ◌≤◌, [], length, drop}
 use Rattle.toml.specs.View.{items_view}
-use Rattle.conf_defs.specs.Conf.{rows_from}
+use Rattle.hub_config_defs.specs.Conf.{rows_from}
 use Rattle.hub_config.proofs.read.read_rows.Given as goal
 
 abbrev pub invariant-loop-value : goal.invariant-loop-value

@@ -2,7 +2,7 @@
 use Rattle.std.proofs.Common.{◌∙◌, ◌++◌, [], List, ap, arith, refl, subst, sym}
 use Rattle.board_defs.specs.Views.{folds_of}
 use Rattle.board_defs.specs.declared.row.Row.{Row}
-use Rattle.gen_defs.specs.Run.{board_rows, rows_at}
+use Rattle.hub_gen_defs.specs.Run.{board_rows, rows_at}
 use Rattle.hub_gen.proofs.Ranges.{Appended, begins, ends, goes_on}
 use Rattle.hub_gen.proofs.boards.board_rows.Goals as goal
 

@@ -1,6 +1,6 @@
 -- Each turn draws one entity.
 use Rattle.std.proofs.Common.{◌≡◌, ap, arith, ◌∙◌}
-use Rattle.gen_defs.specs.Messages.{entities_from}
+use Rattle.hub_gen_defs.specs.Messages.{entities_from}
 use Rattle.hub_gen.proofs.Drawn.{gave_more, gave_none}
 use Rattle.hub_gen.proofs.messages.next_entities.Goals as goal
 

@@ -1,6 +1,6 @@
 -- Each turn appends the line of its number.
 use Rattle.std.proofs.Common.{arith, refl}
-use Rattle.gen_defs.specs.Network.{stop_time_line}
+use Rattle.hub_gen_defs.specs.Network.{stop_time_line}
 use Rattle.hub_gen.proofs.Ranges.{begins, ends, goes_on}
 use Rattle.hub_gen.proofs.network.push_places.Goals as goal
 

@@ -1,6 +1,6 @@
 -- Each turn appends the line of its number.
 use Rattle.std.proofs.Common.{arith}
-use Rattle.gen_defs.specs.Network.{route_line, routes_txt}
+use Rattle.hub_gen_defs.specs.Network.{route_line, routes_txt}
 use Rattle.hub_gen.proofs.Ranges.{begins, ends, goes_on}
 use Rattle.hub_gen.proofs.network.routes_txt.Goals as goal
 

@@ -1,6 +1,6 @@
 -- Each turn appends the line of its number.
 use Rattle.std.proofs.Common.{arith}
-use Rattle.gen_defs.specs.Network.{stop_line, stops_txt}
+use Rattle.hub_gen_defs.specs.Network.{stop_line, stops_txt}
 use Rattle.hub_gen.proofs.Ranges.{begins, ends, goes_on}
 use Rattle.hub_gen.proofs.network.stops_txt.Goals as goal
 

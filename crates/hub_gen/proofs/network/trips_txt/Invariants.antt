@@ -1,5 +1,5 @@
 -- The lines of the numbers that were gone over stand behind what was there.
-use Rattle.gen_defs.specs.Network.{trip_line}
+use Rattle.hub_gen_defs.specs.Network.{trip_line}
 use Rattle.hub_gen.proofs.Ranges.{Appended}
 use Rattle.hub_gen.proofs.network.trips_txt.Given as goal
 

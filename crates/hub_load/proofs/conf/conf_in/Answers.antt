@@ -1,5 +1,5 @@
 -- A configuration's schedules have windows that can be loaded, and their names are distinct.
-use Rattle.conf_defs.proofs.ConfLaws.{conf_legal, conf_windows}
+use Rattle.hub_config_defs.proofs.ConfLaws.{conf_legal, conf_windows}
 use Rattle.hub_load.proofs.conf.conf_in.Goals as goal
 
 pub returns-in-Ok-clause-windows : goal.returns-in-Ok-clause-windows

@@ -1,6 +1,6 @@
 -- The configuration's fault, want of memory for its copy, or its timetables and feeds beside it.
 use Rattle.std.proofs.Common.{Result}
-use Rattle.command_defs.specs.Hubs.{configured_at}
+use Rattle.hub_main_defs.specs.Hubs.{configured_at}
 use Rattle.hub_load.specs.Configuring.{configured_seen}
 use Rattle.hub_load.specs.Told.{IsAsTold}
 use Rattle.hub_load.specs.declared.fault.HubFault.{HubFault}

@@ -1,7 +1,7 @@
 -- The configuration's fault, or its timetables and feeds.
 use Rattle.std.proofs.Common.{sym, subst, Result}
 use Rattle.sched_types.specs.Schedules.{Schedules}
-use Rattle.command_defs.specs.Hubs.{schedules_at}
+use Rattle.hub_main_defs.specs.Hubs.{schedules_at}
 use Rattle.hub_load.specs.Told.{IsAsTold}
 use Rattle.hub_load.specs.declared.fault.HubFault.{HubFault}
 use Rattle.hub_load.proofs.LoadedPlans.{conf_refused, whole}

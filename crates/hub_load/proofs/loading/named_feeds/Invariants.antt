@@ -1,6 +1,6 @@
 -- What was taken has the number of its schedule, and the rest is still to come.
 use Rattle.std.specs.Prelude.{◌≡◌, ◌++◌, map}
-use Rattle.command_defs.specs.Hubs.{named_feed}
+use Rattle.hub_main_defs.specs.Hubs.{named_feed}
 use Rattle.hub_load.proofs.loading.named_feeds.Given as goal
 
 abbrev pub invariant-loop-feed : goal.invariant-loop-feed

@@ -4,9 +4,9 @@ use Rattle.std.specs.declared.alloc.Global.{Global}
 use Rattle.std.proofs.lemmas.Grind.{common_steps}
 use Rattle.sched_types.specs.declared.plans.NamedPlan.{NamedPlan}
 use Rattle.sched_types.specs.Timetable.{Timetable}
-use Rattle.load_defs.specs.Loading.{timetable}
-use Rattle.conf_defs.specs.declared.conf.ScheduleConf.{ScheduleConf}
-use Rattle.command_defs.specs.Checks.{plan_conf}
+use Rattle.sched_load_defs.specs.Loading.{timetable}
+use Rattle.hub_config_defs.specs.declared.conf.ScheduleConf.{ScheduleConf}
+use Rattle.hub_main_defs.specs.Checks.{plan_conf}
 use Rattle.hub_load.specs.declared.fault.HubFault.{HubFault}
 use Rattle.hub_load.specs.Told.{IsAsTold, named_plans_told}
 use Rattle.hub_load.proofs.LoadedPlans.{IsLeft, LoadsLeft, left_more, loads_end, loads_more, loads_stop}

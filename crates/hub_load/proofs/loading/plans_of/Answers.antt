@@ -1,8 +1,8 @@
 -- The timetables and feeds of a configuration, or the first fault.
 use Rattle.std.proofs.Common.{◌≡◌, ◌∙◌, ap, map, sym, subst, Ok, Result}
 use Rattle.sched_types.specs.Schedules.{AreSchedules, Schedules}
-use Rattle.command_defs.specs.Hubs.{named_feed}
-use Rattle.command_defs.proofs.Hubs.{schedules_named}
+use Rattle.hub_main_defs.specs.Hubs.{named_feed}
+use Rattle.hub_main_defs.proofs.Hubs.{schedules_named}
 use Rattle.hub_load.specs.Told.{IsAsTold, schedules_told}
 use Rattle.hub_load.specs.declared.fault.HubFault.{HubFault}
 use Rattle.hub_load.proofs.LoadedPlans.{plans_refused, plans_told}

@@ -1,6 +1,6 @@
 -- The line of the sample was written, or that of its refusal.
 use Rattle.std.proofs.Common.{◌∙◌, Ok, ap, sym}
-use Rattle.command_defs.specs.Samples.{sample_lines}
+use Rattle.hub_main_defs.specs.Samples.{sample_lines}
 use Rattle.hub_outside.specs.Outside.{stream}
 use Rattle.hub_main.proofs.Commands.{lines_printed, sample_fault}
 use Rattle.hub_main.proofs.offline.run_gen.Goals as goal

@@ -1,5 +1,5 @@
 use Rattle.hub_outside.specs.Outside.{file_store, outside, stream}
-use Rattle.command_defs.specs.Words.{command_of}
+use Rattle.hub_main_defs.specs.Words.{command_of}
 use Rattle.hub_main.proofs.Commands.{told_whole}
 use Rattle.hub_main.proofs.Exits.{command_exit, command_output, command_usage}
 use Rattle.hub_main.proofs.offline.run_offline.Goals as goal

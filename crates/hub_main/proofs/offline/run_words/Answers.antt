@@ -1,10 +1,10 @@
 use Rattle.hub_outside.specs.Outside.{file_store, outside, stream}
-use Rattle.command_defs.specs.Words.{command_of}
+use Rattle.hub_main_defs.specs.Words.{command_of}
 use Rattle.std.proofs.Common.{◌≡◌, Some, subst}
 use Rattle.hub_words.specs.Answer.{asked_seen, seen}
 use Rattle.hub_words.specs.declared.read.Command.TheVariants.{Board, Gen}
 use Rattle.hub_main.proofs.Asked.{asked_range, sample_range}
-use Rattle.script_defs.specs.Record.{start}
+use Rattle.hub_replay_defs.specs.Record.{start}
 use Rattle.hub_main.proofs.Commands.{short_outcome}
 use Rattle.hub_main.proofs.Exits.{configured_input, replay_input}
 use Rattle.hub_main.proofs.offline.run_words.Goals as goal

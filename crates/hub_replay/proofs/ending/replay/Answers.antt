@@ -1,7 +1,7 @@
 use Rattle.std.proofs.Common.{[], subst}
 use Rattle.std.proofs.lemmas.List.Elements.{All-nil}
-use Rattle.serve_defs.specs.Connections.{IsServed}
-use Rattle.script_defs.specs.Record.{Hub}
+use Rattle.http_serve_defs.specs.Connections.{IsServed}
+use Rattle.hub_replay_defs.specs.Record.{Hub}
 use Rattle.hub_outside.specs.Outside.{stream}
 use Rattle.hub_replay.specs.Outcome.{ReplayOutcome}
 use Rattle.hub_replay.proofs.Outcomes.{nothing_done}

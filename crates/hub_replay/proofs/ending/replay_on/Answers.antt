@@ -1,5 +1,5 @@
 use Rattle.std.proofs.Common.{subst, ◌++◌}
-use Rattle.script_defs.specs.Record.{serving}
+use Rattle.hub_replay_defs.specs.Record.{serving}
 use Rattle.hub_replay.specs.Steps.{At, at_first, Leaves}
 use Rattle.hub_replay.proofs.Outcomes.{outcome, finishes_count, leaves_on, replay_outcome}
 use Rattle.hub_replay.proofs.ending.replay_on.Goals as goal

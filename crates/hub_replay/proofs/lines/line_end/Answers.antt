@@ -1,6 +1,6 @@
 use Rattle.std.proofs.Common.{refl, take, length}
 use Rattle.std.specs.Prelude.{min}
-use Rattle.script_defs.specs.Lines.{longest_line}
+use Rattle.hub_replay_defs.specs.Lines.{longest_line}
 use Rattle.hub_replay.proofs.Places.{line_ends}
 use Rattle.hub_replay.proofs.lines.line_end.Goals as goal
 

@@ -1,7 +1,7 @@
 use Rattle.std.proofs.Common.{refl, sym, ◌∙◌, arith, ap, rules, ◌≡◌, ◌<◌, ◌≤◌, ◌+◌, ◌-◌, ◌++◌, [], length, take, drop, append-nil, Some}
 use Rattle.std.proofs.lemmas.Option.{slice_get_within}
-use Rattle.script_defs.specs.Record.{act, payload_at, payload_waits, serving}
-use Rattle.script_defs.specs.Lines.Head.{Message}
+use Rattle.hub_replay_defs.specs.Record.{act, payload_at, payload_waits, serving}
+use Rattle.hub_replay_defs.specs.Lines.Head.{Message}
 use Rattle.hub_replay.specs.declared.records.Step.TheVariants.{Whole}
 use Rattle.hub_replay.specs.Records.{numbered_turn}
 use Rattle.hub_replay.proofs.Doing.{acts_of_number, does_same}

@@ -1,6 +1,6 @@
 -- A 0 adds nothing, and a digit above 1 makes the number too large.
 use Rattle.std.proofs.Common.{◌≤◌, ◌∷◌, length, ◌∙◌, ap, sym, arith}
-use Rattle.command_defs.specs.Words.{last_seed}
+use Rattle.hub_main_defs.specs.Words.{last_seed}
 use Rattle.text_defs.specs.Numbers.{number}
 use Rattle.hub_words.proofs.LongNumbers.{past_one, zero_in_front}
 use Rattle.hub_words.proofs.given.seed_behind.Goals as goal

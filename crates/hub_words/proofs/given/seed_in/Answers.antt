@@ -1,6 +1,6 @@
 -- Up to 19 digits are read as they are.
 use Rattle.std.proofs.Common.{◌∙◌}
-use Rattle.command_defs.specs.Words.{last_seed}
+use Rattle.hub_main_defs.specs.Words.{last_seed}
 use Rattle.hub_words.proofs.LongNumbers.{few_digits}
 use Rattle.hub_words.proofs.given.seed_in.Goals as goal
 

@@ -1,7 +1,7 @@
 use Rattle.std.proofs.Common.{refl, sym, arith}
 use Rattle.std.proofs.lemmas.Bool.{eqb-true}
-use Rattle.wire_defs.proofs.Bytes.{AreBytes}
-use Rattle.wire_defs.proofs.Shorter.{field_shorter}
+use Rattle.pb_wire_defs.proofs.Bytes.{AreBytes}
+use Rattle.pb_wire_defs.proofs.Shorter.{field_shorter}
 use Rattle.pb_wire.specs.Parts.{part_seen}
 use Rattle.pb_wire.proofs.Lists.{some_left}
 use Rattle.pb_wire.proofs.Rows.{begins, ends_within, carries_within, goes_on, stops, ends}

@@ -1,7 +1,7 @@
 use Rattle.std.proofs.Common.{◌%◌, ◌<◌, refl, arith}
-use Rattle.wire_defs.specs.Field.{deepest_group}
-use Rattle.wire_defs.specs.Reading.{tag_at, payload_at, group_at}
-use Rattle.wire_defs.proofs.Shorter.{tag_shorter, payload_shorter, group_shorter}
+use Rattle.pb_wire_defs.specs.Field.{deepest_group}
+use Rattle.pb_wire_defs.specs.Reading.{tag_at, payload_at, group_at}
+use Rattle.pb_wire_defs.proofs.Shorter.{tag_shorter, payload_shorter, group_shorter}
 use Rattle.pb_wire.proofs.Faults.{finds_passed}
 use Rattle.pb_wire.proofs.Nested.{begins, ends, no_tag, too_deep, other_end, closes, opens, passes, fails}
 use Rattle.pb_wire.proofs.groups.group_at.Goals as goal

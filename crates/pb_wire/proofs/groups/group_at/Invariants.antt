@@ -1,6 +1,6 @@
 use Rattle.std.proofs.Common.{length}
-use Rattle.wire_defs.specs.Field.{deepest_group}
-use Rattle.wire_defs.specs.Reading.{group_at}
+use Rattle.pb_wire_defs.specs.Field.{deepest_group}
+use Rattle.pb_wire_defs.specs.Reading.{group_at}
 use Rattle.pb_wire.proofs.Nested.{Nested}
 use Rattle.pb_wire.proofs.groups.group_at.Given as goal
 

@@ -1,4 +1,4 @@
-use Rattle.wire_defs.specs.Reading.{varint_at}
+use Rattle.pb_wire_defs.specs.Reading.{varint_at}
 use Rattle.pb_wire.proofs.Varints.{begins, ends_early, too_long, last_group, next_group}
 use Rattle.pb_wire.proofs.numbers.long_varint_at.Goals as goal
 

@@ -1,5 +1,5 @@
 use Rattle.std.proofs.Common.{◌≡◌, ◌-◌}
-use Rattle.wire_defs.specs.Reading.{varint_at}
+use Rattle.pb_wire_defs.specs.Reading.{varint_at}
 use Rattle.pb_wire.proofs.Varints.{so_far}
 use Rattle.pb_wire.proofs.numbers.long_varint_at.Given as goal
 

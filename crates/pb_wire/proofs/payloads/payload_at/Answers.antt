@@ -1,8 +1,8 @@
 use Rattle.std.proofs.Common.{refl}
 use Rattle.std.proofs.lemmas.Bool.{ne_eqb}
-use Rattle.wire_defs.specs.Field.{deepest_group}
-use Rattle.wire_defs.specs.Reading.{group_at}
-use Rattle.wire_defs.proofs.Groups.{payload_at-plain, payload_at-group}
+use Rattle.pb_wire_defs.specs.Field.{deepest_group}
+use Rattle.pb_wire_defs.specs.Reading.{group_at}
+use Rattle.pb_wire_defs.proofs.Groups.{payload_at-plain, payload_at-group}
 use Rattle.pb_wire.proofs.Faults.{finds_same, finds_passed}
 use Rattle.pb_wire.proofs.payloads.payload_at.Goals as goal
 

@@ -1,7 +1,7 @@
 use Rattle.std.proofs.Common.{arith}
-use Rattle.wire_defs.specs.Field.{deepest_group}
-use Rattle.wire_defs.specs.Reading.{group_at}
-use Rattle.wire_defs.proofs.Shorter.{tag_shorter, payload_shorter, group_shorter}
+use Rattle.pb_wire_defs.specs.Field.{deepest_group}
+use Rattle.pb_wire_defs.specs.Reading.{group_at}
+use Rattle.pb_wire_defs.proofs.Shorter.{tag_shorter, payload_shorter, group_shorter}
 use Rattle.pb_wire.proofs.reading.field_at.Goals as goal
 
 pub slice_bounds-result-count : goal.slice_bounds-result-count

@@ -2,8 +2,8 @@ use Rattle.std.proofs.Common.{◌≡◌, ◌++◌, ◌∷◌, [], length, take, 
 use Rattle.std.proofs.Math.Seq.{take-length}
 use Rattle.std.proofs.lemmas.Bool.{eqb-true}
 use Rattle.std.proofs.lemmas.List.{map_push, length-append, take-append-le}
-use Rattle.wire_defs.proofs.Shorter.{field_shorter}
-use Rattle.wire_defs.specs.Reading.{field_at, fields_of}
+use Rattle.pb_wire_defs.proofs.Shorter.{field_shorter}
+use Rattle.pb_wire_defs.specs.Reading.{field_at, fields_of}
 use Rattle.pb_wire.specs.Parts.{part_seen, parts_seen}
 use Rattle.pb_wire.proofs.Faults.{fails_on, causes}
 use Rattle.pb_wire.proofs.Lists.{begins, goes_on, stops, ends, some_left}

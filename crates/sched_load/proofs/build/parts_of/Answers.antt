@@ -7,9 +7,9 @@ use Rattle.gtfs_rows.specs.Tables.{calendar}
 use Rattle.gtfs_rows.specs.declared.rows.TripRow.{TripRow}
 use Rattle.service_day.specs.declared.services.Exception.{Exception}
 use Rattle.sched_types.specs.Timetable.{IsTimetable, RisesById}
-use Rattle.load_defs.specs.declared.fault.File.TheVariants as file
-use Rattle.load_defs.specs.Numbers.{by_id}
-use Rattle.load_defs.specs.Services.{active_days, flags_of}
+use Rattle.sched_load_defs.specs.declared.fault.File.TheVariants as file
+use Rattle.sched_load_defs.specs.Numbers.{by_id}
+use Rattle.sched_load_defs.specs.Services.{active_days, flags_of}
 use Rattle.sched_load.specs.declared.visits.Visit.{Visit}
 use Rattle.sched_load.specs.Built.{AreSmall, places_of_trip, trip_in}
 use Rattle.sched_load.specs.Days.{active_by}

@@ -1,5 +1,5 @@
 use Rattle.std.proofs.Common.{◌≤◌, subst}
-use Rattle.load_defs.specs.Numbers.{by_id}
+use Rattle.sched_load_defs.specs.Numbers.{by_id}
 use Rattle.sched_load.specs.Built.{route_in}
 use Rattle.sched_load.proofs.BuildLemmas.{made_all, made_more}
 use Rattle.sched_load.proofs.build.routes_of.Goals as goal

@@ -1,5 +1,5 @@
 use Rattle.std.proofs.Common.{◌≡◌, map, take}
-use Rattle.load_defs.specs.Numbers.{by_id}
+use Rattle.sched_load_defs.specs.Numbers.{by_id}
 use Rattle.sched_load.specs.Built.{stop_in}
 use Rattle.sched_load.proofs.build.stops_of.Given as goal
 

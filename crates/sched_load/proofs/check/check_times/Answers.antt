@@ -3,9 +3,9 @@ use Rattle.std.specs.Prelude.{slice_get, Some, true}
 use Rattle.std.proofs.lemmas.Option.{slice_get_read, slice_get_within, none-some as none_some}
 use Rattle.gtfs_rows.specs.Tables.{trips}
 use Rattle.sched_types.specs.Timetable.{number_of}
-use Rattle.load_defs.specs.declared.fault.File.TheVariants as file
-use Rattle.load_defs.specs.Numbers.{by_id, stop_times_of}
-use Rattle.load_defs.specs.Times.{are_times}
+use Rattle.sched_load_defs.specs.declared.fault.File.TheVariants as file
+use Rattle.sched_load_defs.specs.Numbers.{by_id, stop_times_of}
+use Rattle.sched_load_defs.specs.Times.{are_times}
 use Rattle.sched_load.specs.Course.{given_of}
 use Rattle.sched_load.specs.Tables.{dataset_of}
 use Rattle.sched_load.proofs.Laws.{file_few}

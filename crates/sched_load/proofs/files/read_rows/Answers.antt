@@ -2,7 +2,7 @@ use Rattle.std.proofs.Common.{Some, subst}
 use Rattle.answer_defs.specs.Defined.{IsCause}
 use Rattle.gtfs_rows.specs.Files.{cause_of, rows_of}
 use Rattle.hub_outside.specs.Files.{file_at}
-use Rattle.load_defs.specs.Files.{path_of}
+use Rattle.sched_load_defs.specs.Files.{path_of}
 use Rattle.sched_load.proofs.Laws.{file_few}
 use Rattle.sched_load.proofs.Reading.{rows_ok, read_fault}
 use Rattle.sched_load.proofs.files.read_rows.Goals as goal

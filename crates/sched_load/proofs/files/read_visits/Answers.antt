@@ -3,8 +3,8 @@ use Rattle.answer_defs.specs.Defined.{IsCause}
 use Rattle.gtfs_rows.specs.Files.{cause_of, rows_of}
 use Rattle.gtfs_rows.specs.Tables.{stop_times}
 use Rattle.hub_outside.specs.Files.{file_at}
-use Rattle.load_defs.specs.Files.{path_of}
-use Rattle.load_defs.specs.declared.fault.File.TheVariants as file
+use Rattle.sched_load_defs.specs.Files.{path_of}
+use Rattle.sched_load_defs.specs.declared.fault.File.TheVariants as file
 use Rattle.sched_load.proofs.Reading.{read_fault, read_whole, rows_ok}
 use Rattle.sched_load.proofs.files.read_visits.Goals as goal
 

@@ -3,7 +3,7 @@ use Rattle.std.specs.Prelude.{slice_get}
 use Rattle.std.proofs.lemmas.Option.{none-some as none_some}
 use Rattle.gtfs_rows.specs.StopTimes.{rows_to_come}
 use Rattle.gtfs_rows.specs.declared.rows.TripRow.{TripRow}
-use Rattle.load_defs.specs.Numbers.{by_id}
+use Rattle.sched_load_defs.specs.Numbers.{by_id}
 use Rattle.sched_load.proofs.GatherLemmas.{below_pushed, gathering_more, gathering_start, gathering_unknown}
 use Rattle.sched_load.proofs.gather.gather.Goals as goal
 

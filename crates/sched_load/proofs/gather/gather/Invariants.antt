@@ -1,6 +1,6 @@
 use Rattle.std.proofs.Common.{◌-◌, length}
 use Rattle.gtfs_rows.specs.StopTimes.{IsOpen, row_to_come, rows_to_come}
-use Rattle.load_defs.specs.Numbers.{by_id}
+use Rattle.sched_load_defs.specs.Numbers.{by_id}
 use Rattle.sched_load.specs.Gathering.{BelowAll}
 use Rattle.sched_load.proofs.GatherLemmas.{Gathering}
 use Rattle.sched_load.proofs.gather.gather.Given as goal

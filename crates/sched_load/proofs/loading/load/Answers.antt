@@ -1,6 +1,6 @@
 use Rattle.std.proofs.Common.{refl}
-use Rattle.load_defs.specs.Loading.{with_times, zone_of}
-use Rattle.load_defs.specs.Numbers.{timetable_of}
+use Rattle.sched_load_defs.specs.Loading.{with_times, zone_of}
+use Rattle.sched_load_defs.specs.Numbers.{timetable_of}
 use Rattle.sched_load.specs.Tables.{dataset_of}
 use Rattle.sched_load.proofs.Chain.{loaded, passed, step_alone, step_done, step_fails, step_value, timetable_is, told_same}
 use Rattle.sched_load.proofs.Stopping.{stops_alone, stops_built, stops_by, stops_loading, stops_passed}

@@ -1,8 +1,8 @@
 use Rattle.std.proofs.Common.{◌∙◌, ℕ, List, [], ap, sym, refl, length, arith}
 use Rattle.std.proofs.lemmas.Option.{slice_get_read, none-some as none_some}
 use Rattle.service_day.specs.declared.services.Exception.{Exception}
-use Rattle.load_defs.specs.declared.fault.File.TheVariants as file
-use Rattle.load_defs.specs.References.{refers_to_none}
+use Rattle.sched_load_defs.specs.declared.fault.File.TheVariants as file
+use Rattle.sched_load_defs.specs.References.{refers_to_none}
 use Rattle.sched_types.specs.Timetable.{number_of}
 use Rattle.sched_load.specs.Listed.{entries_of}
 use Rattle.sched_load.proofs.Faults.{judged_start}

@@ -1,7 +1,7 @@
 use Rattle.std.proofs.Common.{◌≡◌, ◌&&◌, take, nat_eq}
 use Rattle.std.specs.Str.{bytes_eq}
-use Rattle.load_defs.specs.declared.fault.File.TheVariants as file
-use Rattle.load_defs.specs.References.{refers_to_none}
+use Rattle.sched_load_defs.specs.declared.fault.File.TheVariants as file
+use Rattle.sched_load_defs.specs.References.{refers_to_none}
 use Rattle.sched_load.specs.Groups.{exceptions_of}
 use Rattle.sched_load.specs.Listed.{entries_of}
 use Rattle.sched_load.proofs.Faults.{Judged}

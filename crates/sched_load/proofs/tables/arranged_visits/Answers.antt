@@ -1,7 +1,7 @@
 use Rattle.std.proofs.Common.{true, arith, subst, sym}
 use Rattle.gtfs_rows.specs.Tables.{stop_times}
-use Rattle.load_defs.specs.References.{consistent_stop_times}
-use Rattle.load_defs.specs.declared.fault.File.TheVariants as file
+use Rattle.sched_load_defs.specs.References.{consistent_stop_times}
+use Rattle.sched_load_defs.specs.declared.fault.File.TheVariants as file
 use Rattle.sched_load.specs.Gathering.{BelowAll}
 use Rattle.sched_load.proofs.Chain.{step_alone, step_done, step_fails, step_value, visits_passed}
 use Rattle.sched_load.proofs.Laws.{file_few}

@@ -1,5 +1,5 @@
 use Rattle.std.proofs.Common.{◌≡◌}
-use Rattle.load_defs.specs.References.{parent_fault}
+use Rattle.sched_load_defs.specs.References.{parent_fault}
 use Rattle.sched_load.proofs.Faults.{faults_from}
 use Rattle.sched_load.proofs.tables.check_parents.Given as goal
 

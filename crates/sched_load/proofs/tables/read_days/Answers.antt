@@ -2,8 +2,8 @@ use Rattle.std.proofs.Common.{◌≡◌, ◌≤◌, ◌++◌, ◌∙◌, ℕ, ma
 use Rattle.std.specs.Prelude.{slice_get, Some, false}
 use Rattle.gtfs_rows.specs.Tables.{exceptions}
 use Rattle.sched_types.specs.Timetable.{RisesById, number_of}
-use Rattle.load_defs.specs.declared.fault.File.TheVariants as file
-use Rattle.load_defs.specs.References.{consistent_exceptions}
+use Rattle.sched_load_defs.specs.declared.fault.File.TheVariants as file
+use Rattle.sched_load_defs.specs.References.{consistent_exceptions}
 use Rattle.sched_load.proofs.Chain.{days_passed, no_memory, step_alone, step_done, step_fails, step_value, told_same}
 use Rattle.sched_load.proofs.ColumnLaws.{exception_types}
 use Rattle.sched_load.proofs.Laws.{file_within}

@@ -1,5 +1,5 @@
 use Rattle.std.proofs.Common.{◌≡◌, ◌+◌, drop}
-use Rattle.load_defs.specs.Times.{next_timed}
+use Rattle.sched_load_defs.specs.Times.{next_timed}
 use Rattle.sched_load.specs.Course.{given_of}
 use Rattle.sched_load.proofs.times.next_timed.Given as goal
 

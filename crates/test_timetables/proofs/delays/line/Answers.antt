@@ -2,7 +2,7 @@ use Rattle.std.proofs.Common.{ap, refl, ◌∷◌, [], List, ℕ}
 use Rattle.sched_types.specs.declared.rows.Place.{Place}
 use Rattle.sched_types.specs.declared.rows.PlanParts.{PlanParts}
 use Rattle.sched_types.proofs.Checked.{checked_parts}
-use Rattle.delay_defs.specs.Line.{line}
+use Rattle.delay_rule_defs.specs.Line.{line}
 use Rattle.test_timetables.proofs.Samples.{line_passes}
 use Rattle.test_timetables.proofs.delays.line.Goals as goal
 

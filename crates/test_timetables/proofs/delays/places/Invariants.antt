@@ -1,6 +1,6 @@
 use Rattle.std.proofs.Common.{◌≡◌, map}
 use Rattle.std.specs.List.{range_with_len}
-use Rattle.delay_defs.specs.Line.{line_place}
+use Rattle.delay_rule_defs.specs.Line.{line_place}
 use Rattle.test_timetables.proofs.delays.places.Given as goal
 
 abbrev pub invariant-loop-i : goal.invariant-loop-i

@@ -1,6 +1,6 @@
 use Rattle.std.proofs.Common.{Option, List, ℕ, pos, ap, ◌∙◌}
-use Rattle.match_defs.specs.Texts.{text_given}
-use Rattle.match_defs.specs.Matching.{first_rule, rule_4_trip_id, rule_5_nearest_day, rule_6_route_and_time}
+use Rattle.trip_match_defs.specs.Texts.{text_given}
+use Rattle.trip_match_defs.specs.Matching.{first_rule, rule_4_trip_id, rule_5_nearest_day, rule_6_route_and_time}
 use Rattle.trip_match.proofs.matching.scheduled.Goals as goal
 
 pub returns-in-Some : goal.returns-in-Some

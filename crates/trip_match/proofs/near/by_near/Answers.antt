@@ -1,5 +1,5 @@
 use Rattle.std.proofs.Common.{◌≡◌, length, pos, sym, ap, subst, ◌∙◌, ℕ, arith}
-use Rattle.match_defs.specs.Matching.{run_near}
+use Rattle.trip_match_defs.specs.Matching.{run_near}
 use Rattle.trip_match.proofs.NearLemmas.{IsSeen, seen_more, no_day, some_day}
 use Rattle.trip_match.proofs.near.by_near.Goals as goal
 

@@ -1,6 +1,6 @@
 use Rattle.std.proofs.Common.{◌≡◌, take}
 use Rattle.std.specs.Option.{option_to_list}
-use Rattle.match_defs.specs.Matching.{trips_running}
+use Rattle.trip_match_defs.specs.Matching.{trips_running}
 use Rattle.trip_match.proofs.routes.only.Given as goal
 
 abbrev pub invariant-loop-trip : goal.invariant-loop-trip

@@ -1,6 +1,6 @@
 use Rattle.std.proofs.Common.{◌∙◌, ap, sym, Ok}
 use Rattle.toml.specs.View.{table_view}
-use Rattle.conf_defs.specs.Conf.{feed_row, feed_of}
+use Rattle.hub_config_defs.specs.Conf.{feed_row, feed_of}
 use Rattle.hub_config.proofs.Rows.{passes, refuses, tells_passed}
 use Rattle.hub_config.proofs.read.FeedConfRow.read.Goals as goal
 

@@ -1,7 +1,7 @@
 use Rattle.std.proofs.Common.{◌∙◌, ap, sym}
 use Rattle.sched_types.specs.Timetable.{number_of}
 use Rattle.sched_types.proofs.TimetableLaws.{own_number}
-use Rattle.load_defs.specs.Numbers.{by_id}
+use Rattle.sched_load_defs.specs.Numbers.{by_id}
 use Rattle.sched_load.proofs.Grouping.{text_from}
 use Rattle.sched_load.proofs.Numbered.{ids_rise}
 use Rattle.sched_load.proofs.table.Table.number_near.Goals as goal

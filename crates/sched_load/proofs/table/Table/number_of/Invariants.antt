@@ -1,5 +1,5 @@
 use Rattle.std.proofs.Common.{◌-◌}
-use Rattle.load_defs.specs.Numbers.{by_id}
+use Rattle.sched_load_defs.specs.Numbers.{by_id}
 use Rattle.sched_load.proofs.Numbered.{Between}
 use Rattle.sched_load.proofs.table.Table.number_of.Given as goal
 

@@ -1,5 +1,5 @@
 use Rattle.std.proofs.Common.{◌<◌, length, subst, sym, arith}
-use Rattle.load_defs.specs.Numbers.{by_id}
+use Rattle.sched_load_defs.specs.Numbers.{by_id}
 use Rattle.sched_load.proofs.Numbered.{order_within, order_row}
 use Rattle.sched_load.proofs.table.Table.row.Goals as goal
 

@@ -1,0 +1,80 @@
+-- What answers an item of a connection, of what all feeds say (RFC 9110, section 15).
+use Rattle.std.specs.Prelude.{ℕ, Bool, true, ◌||◌, not, bytes_eq, if◌then◌else◌, List, Option, Some, None, unwrap_or, codes}
+use Rattle.std.specs.Option.{option_map}
+use Rattle.sched_types.specs.Schedules.{Schedules}
+use Rattle.board_defs.specs.Fold.{FeedFold}
+use Rattle.board_text_defs.specs.Answers.{Question, answer_to}
+use Rattle.board_text_defs.specs.Answers.Question.{FeedOf, BoardOf, AlertsOf, UnmatchedOf, StatusOf}
+use Rattle.http_defs.specs.declared.request.Item.{Item}
+use Rattle.http_defs.specs.declared.request.Item.TheVariants.{Asked, Malformed}
+use Rattle.http_defs.specs.declared.asked.Query.{Query}
+use Rattle.http_defs.specs.declared.asked.Query.TheVariants.{Board, Alerts, Feed, Unmatched, Status, Refused}
+use Rattle.http_defs.specs.declared.response.BodyKind.{BodyKind}
+use Rattle.http_defs.specs.declared.response.BodyKind.TheVariants.{Text as Lines, Json, Feed as Message}
+use Rattle.http_defs.specs.Targets.{query_of}
+use Rattle.http_defs.specs.Responses.{response, refusal_text, status_of}
+use Rattle.http_serve_defs.specs.Questions.{question_of}
+
+-- a status, the type of a body, and the body
+pub record Answered : Type 0 where
+  pub status : ℕ
+  pub kind : BodyKind
+  pub body : List ℕ
+
+-- a refusal of that status
+abbrev pub refused : ℕ → Answered
+refused code = record { status = code; kind = Lines; body = refusal_text (status_of code) }
+
+-- the type of the answer to a question
+abbrev pub kind_of : Question → BodyKind
+kind_of (FeedOf schedule) = Message
+kind_of (BoardOf asked) = if asked.json then Json else Lines
+kind_of (AlertsOf asked) = if asked.json then Json else Lines
+kind_of (UnmatchedOf schedule) = Lines
+kind_of StatusOf = Lines
+
+-- a body that is there, or the refusal where what is asked for isn't there
+abbrev pub found : BodyKind → Option (List ℕ) → Answered
+found kind (Some body) = record { status = 200; kind = kind; body = body }
+found kind None = refused 404
+
+-- what answers a question; a schedule or a stop that isn't there is 404
+abbrev pub question_answered : Schedules → List FeedFold → Question → Answered
+question_answered schedules folds question =
+    found (kind_of question) (answer_to schedules folds question)
+
+-- the status of a query that asks no question: its refusal's; for any other, that nothing is found
+abbrev pub refusal_code : Query → ℕ
+refusal_code (Refused code) = code
+refusal_code (Board schedule stop span limit json) = 404
+refusal_code (Feed schedule) = 404
+refusal_code (Alerts schedule stop span limit json) = 404
+refusal_code (Unmatched schedule) = 404
+refusal_code Status = 404
+
+-- what answers a query at a moment
+abbrev pub query_answered : Schedules → List FeedFold → Query → ℕ → Answered
+query_answered schedules folds query moment =
+    unwrap_or (option_map (question_answered schedules folds) (question_of query moment))
+    (refused (refusal_code query))
+
+-- what answers an item at a moment; what is no request is 400
+abbrev pub item_answered : Schedules → List FeedFold → Item → ℕ → Answered
+item_answered schedules folds Malformed moment = refused 400
+item_answered schedules folds (Asked r) moment =
+    query_answered schedules folds (query_of r) moment
+
+-- Whether the connection closes behind the answer to an item: it is no request, is no GET, may
+-- carry a body or asks to close, or is the thousandth.
+unfoldable pub closes_behind : Item → Bool → Bool
+closes_behind Malformed thousandth = true
+closes_behind (Asked r) thousandth =
+    r.close || not (bytes_eq r.method (codes "GET")) || r.body || thousandth
+
+-- the response to an item, which may be the thousandth of its connection, at a moment, of what all
+-- feeds say after so many messages
+unfoldable pub answer : Schedules → Item → Bool → ℕ → ℕ → List FeedFold → List ℕ
+answer schedules item thousandth moment number folds =
+    let answered = item_answered schedules folds item moment in
+    response answered.status answered.kind answered.body number moment
+    (closes_behind item thousandth)

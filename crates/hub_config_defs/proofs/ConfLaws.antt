@@ -1,0 +1,473 @@
+-- What holds of every configuration that was read, for the crates above.
+use Rattle.std.proofs.Common.{◌≡◌, ◌∙◌, ℕ, zero, suc, ◌+◌, ◌<◌, ◌≤◌, ◌&&◌, ◌||◌, ◌⊎◌, nat_lt, nat_le, List, [], ◌∷◌, ◌++◌, length, length-append, map, slice_get, Bool, true, false, Option, Some, None, Result, Ok, Err, pos, negsuc, refl, ap, sym, subst, inl, inr, arith, cond, if◌then◌else◌, codes}
+use Rattle.std.proofs.lemmas.Bool.{cases_Bool, and_parts}
+use Rattle.std.proofs.lemmas.Bool.Decides.{nat_tests}
+use Rattle.std.proofs.lemmas.List.{map-append}
+use Rattle.std.proofs.lemmas.Option.{none-some, same_Some}
+use Rattle.std.proofs.lemmas.Slice.Eq.{bytes_eq-Decides}
+use Rattle.std.specs.List.{list_all, list_any}
+use Rattle.text_defs.specs.Names.{is_name}
+use Rattle.std.specs.Str.{bytes_eq, is_utf8}
+use Rattle.toml.specs.Parse.{parse_document}
+use Rattle.hub_config_defs.specs.declared.fault.ConfWhy.TheVariants.{Bad, Twice}
+use Rattle.hub_config_defs.specs.Right.{AreNames, IsLegal, has_window, has_schedule_of}
+use Rattle.std.specs.Option.{is_some, option_and_then, option_map, option_or, unwrap_or}
+use Rattle.toml.specs.Data.{Data, string, integer, float, boolean, datetime, array, table, Items, no_items, item, Members, get_member, as_table}
+use Rattle.hub_config_defs.specs.declared.conf.HubConf.{HubConf}
+use Rattle.hub_config_defs.specs.declared.conf.ScheduleConf.{ScheduleConf}
+use Rattle.hub_config_defs.specs.declared.conf.FeedConf.{FeedConf}
+use Rattle.hub_config_defs.specs.declared.fault.ConfFault.{ConfFault}
+use Rattle.hub_config_defs.specs.declared.fault.ConfWhy.{ConfWhy}
+use Rattle.hub_config_defs.specs.declared.fault.TableName.TheVariants.{Top, Schedule, Feed}
+use Rattle.hub_config_defs.specs.declared.rule.Key.{Key}
+use Rattle.hub_config_defs.specs.declared.rule.Key.TheVariants as key
+use Rattle.hub_config_defs.specs.declared.rule.Holds.TheVariants.{Number, Date, KnownSchedule, NewSchedule, NewFeed, Tables}
+use Rattle.text_defs.specs.Dates.{date_in}
+use Rattle.hub_config_defs.specs.Rules.{Default, no_tables, required, rule_of, keys_of}
+use Rattle.hub_config_defs.specs.Values.{are_tables, count, text_at, number_of, text_of, tables_of, is_text_for, is_array_for, number_at, tables_at, date_of, is_window_date, within}
+use Rattle.hub_config_defs.specs.Faults.{has_feed, has_schedule, fault_in, first_wrong, wrong_in, named_fault, key_fault, found_fault, value_fault, is_held, name_fault}
+use Rattle.hub_config_defs.specs.Conf.{added, and_then, rows_from, unless, schedule_row, schedule_of, feed_row, feed_of, index_of, conf_in, conf_in_document, conf_of, feeds_in, hub_of, schedules_in}
+
+-- a part's value, where the whole is one
+and_then_ok : {A B : Type 0} (r : Result A ConfFault) (more : A → Result B ConfFault) (y : B) → and_then r more ≡ Ok y → (x : A) × (r ≡ Ok x) × (more x ≡ Ok y)
+and_then_ok (Ok x) more y h = (x, refl, h)
+and_then_ok (Err e) more y h = cc
+
+unless_ok : {A : Type 0} (o : Option ConfFault) (x y : A) → unless o x ≡ Ok y → (o ≡ None) × (x ≡ y)
+unless_ok None x y h = (refl, cc)
+unless_ok (Some e) x y h = cc
+
+-- a test that each row passes is one that all pass
+list_all-last : {A : Type 0} (test : A → Bool) (xs : List A) (x : A) → list_all test xs ≡ true → test x ≡ true → list_all test (xs ++ x ∷ []) ≡ true
+list_all-last test [] x h e = rw e
+list_all-last test (y ∷ xs) x h e =
+    let (here, more) = and_parts (test y) (list_all test xs) h in
+    rw (here, list_all-last test xs x more e)
+
+added_right : {A : Type 0} (test : A → Bool) (row_of : List A → Members → Result A ConfFault) → ((before : List A) (ms : Members) (x : A) → row_of before ms ≡ Ok x → test x ≡ true)
+    → (before : List A) (o : Option Members) (xs : List A) → list_all test before ≡ true → added row_of before o ≡ Ok xs → list_all test xs ≡ true
+unfolding added
+added_right test row_of right before None xs h e = let same : before ≡ xs = cc in subst (λ ys. list_all test ys ≡ true) same h
+added_right test row_of right before (Some ms) xs h e =
+    let (x, said, last) = and_then_ok (row_of before ms) _ xs e in
+    let same : before ++ x ∷ [] ≡ xs = cc in
+    subst (λ ys. list_all test ys ≡ true) same (list_all-last test before x h (right before ms x said))
+
+pub rows_right : {A : Type 0} (test : A → Bool) (row_of : ℕ → List A → Members → Result A ConfFault) → ((row : ℕ) (before : List A) (ms : Members) (x : A) → row_of row before ms ≡ Ok x → test x ≡ true)
+    → (row : ℕ) (before : List A) (ds : Items) (xs : List A) → list_all test before ≡ true → rows_from row_of row before ds ≡ Ok xs → list_all test xs ≡ true
+unfolding rows_from
+rows_right test row_of right row before no_items xs h e = let same : before ≡ xs = cc in subst (λ ys. list_all test ys ≡ true) same h
+rows_right test row_of right row before (item d ds) xs h e =
+    let (more, said, rest) = and_then_ok (added (row_of row) before (as_table d)) _ xs e in
+    rows_right test row_of right (row + 1) more ds xs (added_right test (row_of row) (right row) before (as_table d) more h said) rest
+
+-- what isn't there has no parts
+none_of : {X : Type 0} (o p : Option X) → option_or o p ≡ None → (o ≡ None) × (p ≡ None)
+none_of None p h = (refl, h)
+none_of (Some x) p h = cc
+
+unmapped : {X Y : Type 0} (f : X → Y) (o : Option X) → option_map f o ≡ None → o ≡ None
+unmapped f None h = refl
+unmapped f (Some x) h = cc
+
+in_range : (least most n : ℕ) (ss : List ScheduleConf) (fs : List FeedConf) → value_fault (Number least most) (integer (pos n)) ss fs ≡ None → within least most (pos n) ≡ Some n
+unfolding value_fault is_held number_of text_of tables_of
+in_range least most n ss fs h =
+    elim (cases_Bool (nat_le least n && nat_le n most)) [
+      | inl fits ↦ rw fits
+      | inr other ↦ let wrong = rw other at h in cc
+    ]
+
+within_range : (least most n : ℕ) → within least most (pos n) ≡ Some n → (nat_le least n && nat_le n most) ≡ true
+within_range least most n h =
+    elim (cases_Bool (nat_le least n && nat_le n most)) [
+      | inl fits ↦ fits
+      | inr other ↦ let wrong = rw other at h in cc
+    ]
+
+-- a required number with which nothing is wrong is in its range
+number_right : (name : List ℕ) (least most : ℕ) (o : Option Data) (ss : List ScheduleConf) (fs : List FeedConf)
+    → found_fault (record { name = name; holds = Number least most; absent = required }) o ss fs ≡ None
+    → (nat_le least (unwrap_or (option_and_then (number_of (Number least most)) o) 0) && nat_le (unwrap_or (option_and_then (number_of (Number least most)) o) 0) most) ≡ true
+unfolding value_fault is_held number_of text_of tables_of is_text_for is_array_for
+number_right name least most None ss fs h = cc
+number_right name least most (Some (integer (pos n))) ss fs h = let e = in_range least most n ss fs h in rw e (within_range least most n e)
+number_right name least most (Some (integer (negsuc n))) ss fs h = cc
+number_right name least most (Some (string t)) ss fs h = cc
+number_right name least most (Some (float x)) ss fs h = cc
+number_right name least most (Some (boolean b)) ss fs h = cc
+number_right name least most (Some (datetime t)) ss fs h = cc
+number_right name least most (Some (array ds)) ss fs h = cc
+number_right name least most (Some (table ms)) ss fs h = cc
+
+window_date : (o : Option ℕ) (n : ℕ) → option_and_then (λ date. if is_window_date date then Some date else None) o ≡ Some n → is_window_date n ≡ true
+window_date None n h = cc
+window_date (Some date) n h =
+    elim (cases_Bool (is_window_date date)) [
+      | inl fits ↦ let said = rw fits at h in let same : date ≡ n = cc in subst (λ d. is_window_date d ≡ true) same fits
+      | inr other ↦ let wrong = rw other at h in cc
+    ]
+
+held_date : (o : Option ℕ) (why : ConfWhy) → (if is_some o || false || false then None else Some why) ≡ None → (n : ℕ) × (o ≡ Some n)
+held_date None why h = cc
+held_date (Some n) why h = (n, refl)
+
+-- a required date with which nothing is wrong is one of the days that a window may begin on
+date_right : (name : List ℕ) (o : Option Data) (ss : List ScheduleConf) (fs : List FeedConf)
+    → found_fault (record { name = name; holds = Date; absent = required }) o ss fs ≡ None
+    → is_window_date (unwrap_or (option_and_then (number_of Date) o) 0) ≡ true
+unfolding value_fault is_held number_of text_of tables_of is_text_for is_array_for date_of
+date_right name None ss fs h = cc
+date_right name (Some (string t)) ss fs h =
+    let (n, e) = held_date (option_and_then (λ date. if is_window_date date then Some date else None) (date_in t)) Bad h in
+    rw e (window_date (date_in t) n e)
+date_right name (Some (integer z)) ss fs h = cc
+date_right name (Some (float x)) ss fs h = cc
+date_right name (Some (boolean b)) ss fs h = cc
+date_right name (Some (datetime t)) ss fs h = cc
+date_right name (Some (array ds)) ss fs h = cc
+date_right name (Some (table ms)) ss fs h = cc
+
+days_right : (ms : Members) (ss : List ScheduleConf) (fs : List FeedConf) → key_fault key.Days ms ss fs ≡ None → (nat_le 1 (number_at key.Days ms) && nat_le (number_at key.Days ms) 400) ≡ true
+unfolding key_fault rule_of number_at
+days_right ms ss fs h = number_right (codes "days") 1 400 (get_member (codes "days") ms) ss fs h
+
+first_right : (ms : Members) (ss : List ScheduleConf) (fs : List FeedConf) → key_fault key.First ms ss fs ≡ None → is_window_date (number_at key.First ms) ≡ true
+unfolding key_fault rule_of number_at
+first_right ms ss fs h = date_right (codes "first") (get_member (codes "first") ms) ss fs h
+
+wrong_step : (k : Key) (keys : List Key) (ms : Members) (ss : List ScheduleConf) (fs : List FeedConf) → wrong_in (k ∷ keys) ms ss fs ≡ None → (key_fault k ms ss fs ≡ None) × (wrong_in keys ms ss fs ≡ None)
+unfolding wrong_in
+wrong_step k keys ms ss fs h =
+    let (here, more) = none_of (named_fault k (key_fault k ms ss fs)) (wrong_in keys ms ss fs) h in
+    (unmapped (λ why. ((rule_of k).name, why)) (key_fault k ms ss fs) here, more)
+
+-- with no fault in a schedule nothing is wrong with its window
+keys_right : (ms : Members) (ss : List ScheduleConf) (fs : List FeedConf) → wrong_in (keys_of Schedule) ms ss fs ≡ None → (key_fault key.First ms ss fs ≡ None) × (key_fault key.Days ms ss fs ≡ None)
+unfolding keys_of
+keys_right ms ss fs h =
+    let (n, after_name) = wrong_step key.ScheduleName (key.Folder ∷ key.Zone ∷ key.First ∷ key.Days ∷ key.Prefix ∷ []) ms ss fs h in
+    let (f, after_folder) = wrong_step key.Folder (key.Zone ∷ key.First ∷ key.Days ∷ key.Prefix ∷ []) ms ss fs after_name in
+    let (z, after_zone) = wrong_step key.Zone (key.First ∷ key.Days ∷ key.Prefix ∷ []) ms ss fs after_folder in
+    let (first, after_first) = wrong_step key.First (key.Days ∷ key.Prefix ∷ []) ms ss fs after_zone in
+    let (days, after_days) = wrong_step key.Days (key.Prefix ∷ []) ms ss fs after_first in
+    (first, days)
+
+wrong_none : (ms : Members) (ss : List ScheduleConf) (fs : List FeedConf) → first_wrong Schedule ms ss fs ≡ None → wrong_in (keys_of Schedule) ms ss fs ≡ None
+unfolding first_wrong
+wrong_none ms ss fs h = (none_of _ _ h).1
+
+schedule_right : (row : ℕ) (before : List ScheduleConf) (ms : Members) (s : ScheduleConf) → schedule_row row before ms ≡ Ok s → has_window s ≡ true
+unfolding schedule_row schedule_of
+schedule_right row before ms s h =
+    let (none, same) = unless_ok (fault_in Schedule row ms before []) (schedule_of ms) s h in
+    let (first, days) = keys_right ms before [] (wrong_none ms before [] (unmapped _ _ none)) in
+    subst (λ x. has_window x ≡ true) same (rw (first_right ms before [] first, days_right ms before [] days))
+
+conf_in_right : (ms : Members) (conf : HubConf) → conf_in ms ≡ Ok conf → list_all has_window conf.schedules ≡ true
+unfolding conf_in hub_of
+conf_in_right ms conf h =
+    let (top, passed, rest) = and_then_ok (unless (fault_in Top 0 ms [] []) ms) _ conf h in
+    let (ss, schedules, more) = and_then_ok (schedules_in ms) _ conf rest in
+    let (fs, feeds, last) = and_then_ok (feeds_in ms ss) _ conf more in
+    let same : hub_of ms ss fs ≡ conf = cc in
+    subst (λ c. list_all has_window c.schedules ≡ true) same (rows_right has_window schedule_row schedule_right 1 [] (tables_at key.Schedules ms) ss refl schedules)
+
+conf_said_right : (said : Option Members) (conf : HubConf) → conf_in_document said ≡ Ok conf → list_all has_window conf.schedules ≡ true
+conf_said_right None conf h = cc
+conf_said_right (Some ms) conf h = conf_in_right ms conf h
+
+-- the window of each schedule of a configuration begins on a day from 19700201 to 29991231 and has 1 to 400 days
+pub conf_windows : (bytes : List ℕ) (conf : HubConf) → conf_of bytes ≡ Ok conf → list_all has_window conf.schedules ≡ true
+unfolding conf_of
+conf_windows bytes conf h =
+    elim (cases_Bool (is_utf8 bytes)) [
+      | inl utf8 ↦ conf_said_right (parse_document bytes) conf (rw utf8 at h)
+      | inr other ↦ let wrong = rw other at h in cc
+    ]
+
+-- a feed without a fault names a schedule that is there, so that there is one
+named_right : (name : List ℕ) (o : Option Data) (ss : List ScheduleConf) (fs : List FeedConf)
+    → found_fault (record { name = name; holds = KnownSchedule; absent = required }) o ss fs ≡ None → 0 < length ss
+unfolding value_fault is_held number_of text_of tables_of is_text_for is_array_for name_fault
+named_right name o (s ∷ ss) fs h = omega arith
+named_right name None [] fs h = cc
+named_right name (Some (string t)) [] fs h = cc
+named_right name (Some (integer z)) [] fs h = cc
+named_right name (Some (float x)) [] fs h = cc
+named_right name (Some (boolean b)) [] fs h = cc
+named_right name (Some (datetime t)) [] fs h = cc
+named_right name (Some (array ds)) [] fs h = cc
+named_right name (Some (table ms)) [] fs h = cc
+
+some_schedule : (ms : Members) (ss : List ScheduleConf) (fs : List FeedConf) → key_fault key.FeedSchedule ms ss fs ≡ None → 0 < length ss
+unfolding key_fault rule_of
+some_schedule ms ss fs h = named_right (codes "schedule") (get_member (codes "schedule") ms) ss fs h
+
+feed_key_right : (ms : Members) (ss : List ScheduleConf) (fs : List FeedConf) → wrong_in (keys_of Feed) ms ss fs ≡ None → key_fault key.FeedSchedule ms ss fs ≡ None
+unfolding keys_of
+feed_key_right ms ss fs h =
+    let (n, after_name) = wrong_step key.FeedName (key.FeedSchedule ∷ key.Kind ∷ key.Place ∷ []) ms ss fs h in
+    (wrong_step key.FeedSchedule (key.Kind ∷ key.Place ∷ []) ms ss fs after_name).0
+
+feed_wrong_none : (ms : Members) (ss : List ScheduleConf) (fs : List FeedConf) → first_wrong Feed ms ss fs ≡ None → wrong_in (keys_of Feed) ms ss fs ≡ None
+unfolding first_wrong
+feed_wrong_none ms ss fs h = (none_of _ _ h).1
+
+place_within : (n m : ℕ) → 0 < m → nat_lt (unwrap_or (cond (nat_lt n m) (Some n) None) 0) m ≡ true
+place_within n m h =
+    elim (cases_Bool (nat_lt n m)) [
+      | inl below ↦ rw below below
+      | inr other ↦ rw other (grind (arith, nat_tests))
+    ]
+
+feed_right : (ss : List ScheduleConf) (row : ℕ) (before : List FeedConf) (ms : Members) (f : FeedConf) → feed_row ss row before ms ≡ Ok f → has_schedule_of (length ss) f ≡ true
+unfolding feed_row feed_of index_of
+feed_right ss row before ms f h =
+    let (none, same) = unless_ok (fault_in Feed row ms ss before) (feed_of ss ms) f h in
+    let some : 0 < length ss = some_schedule ms ss before (feed_key_right ms ss before (feed_wrong_none ms ss before (unmapped _ _ none))) in
+    subst (λ x. has_schedule_of (length ss) x ≡ true) same (place_within _ (length ss) some)
+
+conf_in_feeds : (ms : Members) (conf : HubConf) → conf_in ms ≡ Ok conf → list_all (has_schedule_of (length conf.schedules)) conf.feeds ≡ true
+unfolding conf_in hub_of
+conf_in_feeds ms conf h =
+    let (top, passed, rest) = and_then_ok (unless (fault_in Top 0 ms [] []) ms) _ conf h in
+    let (ss, schedules, more) = and_then_ok (schedules_in ms) _ conf rest in
+    let (fs, feeds, last) = and_then_ok (feeds_in ms ss) _ conf more in
+    let same : hub_of ms ss fs ≡ conf = cc in
+    subst (λ c. list_all (has_schedule_of (length c.schedules)) c.feeds ≡ true) same (rows_right (has_schedule_of (length ss)) (feed_row ss) (feed_right ss) 1 [] (tables_at key.Feeds ms) fs refl feeds)
+
+conf_said_feeds : (said : Option Members) (conf : HubConf) → conf_in_document said ≡ Ok conf → list_all (has_schedule_of (length conf.schedules)) conf.feeds ≡ true
+conf_said_feeds None conf h = cc
+conf_said_feeds (Some ms) conf h = conf_in_feeds ms conf h
+
+-- each feed of a configuration belongs to one of its schedules
+pub conf_feeds : (bytes : List ℕ) (conf : HubConf) → conf_of bytes ≡ Ok conf → list_all (has_schedule_of (length conf.schedules)) conf.feeds ≡ true
+unfolding conf_of
+conf_feeds bytes conf h =
+    elim (cases_Bool (is_utf8 bytes)) [
+      | inl utf8 ↦ conf_said_feeds (parse_document bytes) conf (rw utf8 at h)
+      | inr other ↦ let wrong = rw other at h in cc
+    ]
+
+-- ---- how many there are, and their names
+
+-- what holds of the rows before each row, and with it, holds of all rows
+added_keeps : {A : Type 0} (P : List A → Type 0) (row_of : List A → Members → Result A ConfFault) → ((before : List A) (ms : Members) (x : A) → row_of before ms ≡ Ok x → P before → P (before ++ x ∷ []))
+    → (before : List A) (o : Option Members) (xs : List A) → P before → added row_of before o ≡ Ok xs → P xs
+unfolding added
+added_keeps P row_of keeps before None xs h e = let same : before ≡ xs = cc in subst P same h
+added_keeps P row_of keeps before (Some ms) xs h e =
+    let (x, said, last) = and_then_ok (row_of before ms) _ xs e in
+    let same : before ++ x ∷ [] ≡ xs = cc in
+    subst P same (keeps before ms x said h)
+
+rows_keep : {A : Type 0} (P : List A → Type 0) (row_of : ℕ → List A → Members → Result A ConfFault) → ((row : ℕ) (before : List A) (ms : Members) (x : A) → row_of row before ms ≡ Ok x → P before → P (before ++ x ∷ []))
+    → (row : ℕ) (before : List A) (ds : Items) (xs : List A) → P before → rows_from row_of row before ds ≡ Ok xs → P xs
+unfolding rows_from
+rows_keep P row_of keeps row before no_items xs h e = let same : before ≡ xs = cc in subst P same h
+rows_keep P row_of keeps row before (item d ds) xs h e =
+    let (more, said, rest) = and_then_ok (added (row_of row) before (as_table d)) _ xs e in
+    rows_keep P row_of keeps (row + 1) more ds xs (added_keeps P (row_of row) (keeps row) before (as_table d) more h said) rest
+
+-- there are no more rows than values
+added_few : {A : Type 0} (row_of : List A → Members → Result A ConfFault) (before : List A) (o : Option Members) (xs : List A) → added row_of before o ≡ Ok xs → length xs ≤ length before + 1
+unfolding added
+added_few row_of before None xs e = let same : before ≡ xs = cc in omega (arith, ap length same)
+added_few row_of before (Some ms) xs e =
+    let (x, said, last) = and_then_ok (row_of before ms) _ xs e in
+    let same : before ++ x ∷ [] ≡ xs = cc in
+    omega (arith, ap length same, length-append before (x ∷ []))
+
+rows_few : {A : Type 0} (row_of : ℕ → List A → Members → Result A ConfFault) (row : ℕ) (before : List A) (ds : Items) (xs : List A) → rows_from row_of row before ds ≡ Ok xs → length xs ≤ length before + count ds
+unfolding rows_from
+rows_few row_of row before no_items xs e = let same : before ≡ xs = cc in omega (arith, ap length same)
+rows_few row_of row before (item d ds) xs e =
+    let (more, said, rest) = and_then_ok (added (row_of row) before (as_table d)) _ xs e in
+    omega (arith, added_few (row_of row) before (as_table d) more said, rows_few row_of (row + 1) more ds xs rest)
+
+counted : (least most : ℕ) (ds : Items) (why : ConfWhy) (o : Option Items) → o ≡ (if nat_le least (count ds) && nat_le (count ds) most && are_tables ds then Some ds else None)
+    → (if is_some o then None else Some why) ≡ None → count (unwrap_or o no_items) ≤ most
+counted least most ds why o is h =
+    elim (cases_Bool (nat_le least (count ds) && nat_le (count ds) most && are_tables ds)) [
+      | inl fits ↦
+          let found : o ≡ Some ds = is ∙ rw fits refl in
+          let (both, tables) = and_parts (nat_le least (count ds) && nat_le (count ds) most) (are_tables ds) fits in
+          let (low, high) = and_parts (nat_le least (count ds)) (nat_le (count ds) most) both in
+          rw found (grind (arith, nat_tests))
+      | inr other ↦ let none : o ≡ None = is ∙ rw other refl in let wrong = rw none at h in cc
+    ]
+
+-- an array of tables with which nothing is wrong has no more than its key asks for
+tables_right : (name : List ℕ) (least most : ℕ) (absent : Default) (o : Option Data) → found_fault (record { name = name; holds = Tables least most; absent = absent }) o [] [] ≡ None
+    → count (unwrap_or (option_and_then (tables_of (Tables least most)) o) no_items) ≤ most
+unfolding value_fault is_held number_of text_of tables_of is_text_for is_array_for
+tables_right name least most absent None h = omega arith
+tables_right name least most absent (Some (array ds)) h =
+    counted least most ds Bad (if nat_le least (count ds) && nat_le (count ds) most && are_tables ds then Some ds else None) refl h
+tables_right name least most absent (Some (string t)) h = cc
+tables_right name least most absent (Some (integer z)) h = cc
+tables_right name least most absent (Some (float x)) h = cc
+tables_right name least most absent (Some (boolean b)) h = cc
+tables_right name least most absent (Some (datetime t)) h = cc
+tables_right name least most absent (Some (table ms)) h = cc
+
+schedules_few : (ms : Members) → key_fault key.Schedules ms [] [] ≡ None → count (tables_at key.Schedules ms) ≤ 8
+unfolding key_fault rule_of tables_at
+schedules_few ms h = tables_right (codes "schedule") 1 8 required (get_member (codes "schedule") ms) h
+
+feeds_few : (ms : Members) → key_fault key.Feeds ms [] [] ≡ None → count (tables_at key.Feeds ms) ≤ 64
+unfolding key_fault rule_of tables_at
+feeds_few ms h = tables_right (codes "feed") 0 64 no_tables (get_member (codes "feed") ms) h
+
+top_right : (ms : Members) → first_wrong Top ms [] [] ≡ None → (key_fault key.Schedules ms [] [] ≡ None) × (key_fault key.Feeds ms [] [] ≡ None)
+unfolding first_wrong keys_of
+top_right ms h =
+    let all = (none_of _ (wrong_in (key.Readers ∷ key.Listen ∷ key.Connections ∷ key.Schedules ∷ key.Feeds ∷ []) ms [] []) h).1 in
+    let (r, after_readers) = wrong_step key.Readers (key.Listen ∷ key.Connections ∷ key.Schedules ∷ key.Feeds ∷ []) ms [] [] all in
+    let (l, after_listen) = wrong_step key.Listen (key.Connections ∷ key.Schedules ∷ key.Feeds ∷ []) ms [] [] after_readers in
+    let (c, after_connections) = wrong_step key.Connections (key.Schedules ∷ key.Feeds ∷ []) ms [] [] after_listen in
+    let (schedules, after_schedules) = wrong_step key.Schedules (key.Feeds ∷ []) ms [] [] after_connections in
+    (schedules, (wrong_step key.Feeds [] ms [] [] after_schedules).0)
+
+-- ---- names
+
+taken : (has : Bool) → (if has then Some Twice else None) ≡ None → has ≡ false
+taken true h = cc
+taken false h = refl
+
+-- a name with which nothing is wrong is one that no earlier row has
+new_schedule : (name : List ℕ) (o : Option Data) (ss : List ScheduleConf) (fs : List FeedConf) → found_fault (record { name = name; holds = NewSchedule; absent = required }) o ss fs ≡ None
+    → (is_name (unwrap_or (option_and_then (text_of NewSchedule) o) []) ≡ true) × (has_schedule (unwrap_or (option_and_then (text_of NewSchedule) o) []) ss ≡ false)
+unfolding value_fault is_held number_of text_of tables_of is_text_for is_array_for name_fault
+new_schedule name (Some (string t)) ss fs h =
+    elim (cases_Bool (is_name t)) [
+      | inl named ↦ rw named (named, taken (has_schedule t ss) (rw named at h))
+      | inr other ↦ let wrong = rw other at h in cc
+    ]
+new_schedule name None ss fs h = cc
+new_schedule name (Some (integer z)) ss fs h = cc
+new_schedule name (Some (float x)) ss fs h = cc
+new_schedule name (Some (boolean b)) ss fs h = cc
+new_schedule name (Some (datetime t)) ss fs h = cc
+new_schedule name (Some (array ds)) ss fs h = cc
+new_schedule name (Some (table ms)) ss fs h = cc
+
+new_feed : (name : List ℕ) (o : Option Data) (ss : List ScheduleConf) (fs : List FeedConf) → found_fault (record { name = name; holds = NewFeed; absent = required }) o ss fs ≡ None
+    → (is_name (unwrap_or (option_and_then (text_of NewFeed) o) []) ≡ true) × (has_feed (unwrap_or (option_and_then (text_of NewFeed) o) []) fs ≡ false)
+unfolding value_fault is_held number_of text_of tables_of is_text_for is_array_for name_fault
+new_feed name (Some (string t)) ss fs h =
+    elim (cases_Bool (is_name t)) [
+      | inl named ↦ rw named (named, taken (has_feed t fs) (rw named at h))
+      | inr other ↦ let wrong = rw other at h in cc
+    ]
+new_feed name None ss fs h = cc
+new_feed name (Some (integer z)) ss fs h = cc
+new_feed name (Some (float x)) ss fs h = cc
+new_feed name (Some (boolean b)) ss fs h = cc
+new_feed name (Some (datetime t)) ss fs h = cc
+new_feed name (Some (array ds)) ss fs h = cc
+new_feed name (Some (table ms)) ss fs h = cc
+
+schedule_name_right : (ms : Members) (ss : List ScheduleConf) (fs : List FeedConf) → wrong_in (keys_of Schedule) ms ss fs ≡ None
+    → (is_name (text_at key.ScheduleName ms) ≡ true) × (has_schedule (text_at key.ScheduleName ms) ss ≡ false)
+unfolding keys_of key_fault rule_of text_at
+schedule_name_right ms ss fs h =
+    new_schedule (codes "name") (get_member (codes "name") ms) ss fs (wrong_step key.ScheduleName (key.Folder ∷ key.Zone ∷ key.First ∷ key.Days ∷ key.Prefix ∷ []) ms ss fs h).0
+
+feed_name_right : (ms : Members) (ss : List ScheduleConf) (fs : List FeedConf) → wrong_in (keys_of Feed) ms ss fs ≡ None
+    → (is_name (text_at key.FeedName ms) ≡ true) × (has_feed (text_at key.FeedName ms) fs ≡ false)
+unfolding keys_of key_fault rule_of text_at
+feed_name_right ms ss fs h = new_feed (codes "name") (get_member (codes "name") ms) ss fs (wrong_step key.FeedName (key.FeedSchedule ∷ key.Kind ∷ key.Place ∷ []) ms ss fs h).0
+
+-- an item of a list with one more at its end
+last_or : {A : Type 0} (xs : List A) (x y : A) (i : ℕ) → slice_get (xs ++ x ∷ []) i ≡ Some y → (slice_get xs i ≡ Some y) ⊎ ((i ≡ length xs) × (x ≡ y))
+last_or [] x y zero h = inr (refl, same_Some x y h)
+last_or [] x y (suc i) h = absurd (none-some y h)
+last_or (z ∷ xs) x y zero h = inl h
+last_or (z ∷ xs) x y (suc i) h =
+    elim (last_or xs x y i h) [
+      | inl before ↦ inl before
+      | inr last ↦ inr (omega (arith, last.0), last.1)
+    ]
+
+names_last : (names : List (List ℕ)) (n : List ℕ) → AreNames names → is_name n ≡ true → ((i : ℕ) → slice_get names i ≡ Some n → ⊥) → AreNames (names ++ n ∷ [])
+names_last names n are named new = record {
+  formed = λ i m h. formed_by m (last_or names n m i h);
+  apart = λ i j m h k. apart_by i j m (last_or names n m i h) (last_or names n m j k);
+}
+  where
+    formed_by : (m : List ℕ) {i : ℕ} → (slice_get names i ≡ Some m) ⊎ ((i ≡ length names) × (n ≡ m)) → is_name m ≡ true
+    formed_by m {i} (inl before) = are.formed i m before
+    formed_by m {i} (inr last) = subst (λ x. is_name x ≡ true) last.1 named
+
+    apart_by : (i j : ℕ) (m : List ℕ) → (slice_get names i ≡ Some m) ⊎ ((i ≡ length names) × (n ≡ m)) → (slice_get names j ≡ Some m) ⊎ ((j ≡ length names) × (n ≡ m)) → i ≡ j
+    apart_by i j m (inl a) (inl b) = are.apart i j m a b
+    apart_by i j m (inl a) (inr b) = absurd (new i (a ∙ ap Some (sym b.1)))
+    apart_by i j m (inr a) (inl b) = absurd (new j (b ∙ ap Some (sym a.1)))
+    apart_by i j m (inr a) (inr b) = a.0 ∙ sym b.0
+
+-- a name that no row has is none of their names
+not_among : {A : Type 0} (name : A → List ℕ) (xs : List A) (n : List ℕ) → list_any (λ x. bytes_eq (name x) n) xs ≡ false → (i : ℕ) → slice_get (map name xs) i ≡ Some n → ⊥
+not_among name [] n h i e = none-some n e
+not_among name (x ∷ xs) n h zero e =
+    let here : bytes_eq (name x) n ≡ true = (bytes_eq-Decides (name x) n).1 (same_Some (name x) n e) in
+    let wrong = rw here at h in cc
+not_among name (x ∷ xs) n h (suc i) e = not_among name xs n (second (bytes_eq (name x) n) (list_any (λ x. bytes_eq (name x) n) xs) h) i e
+  where
+    second : (a b : Bool) → (a || b) ≡ false → b ≡ false
+    second true b h = cc
+    second false b h = h
+
+schedule_names : (row : ℕ) (before : List ScheduleConf) (ms : Members) (s : ScheduleConf) → schedule_row row before ms ≡ Ok s
+    → AreNames (map (λ s. s.name) before) → AreNames (map (λ s. s.name) (before ++ s ∷ []))
+unfolding schedule_row schedule_of
+schedule_names row before ms s h are =
+    let (none, same) = unless_ok (fault_in Schedule row ms before []) (schedule_of ms) s h in
+    let (named, new) = schedule_name_right ms before [] (wrong_none ms before [] (unmapped _ _ none)) in
+    subst (λ x. AreNames (map (λ s. s.name) (before ++ x ∷ []))) same
+    (rw (map-append (λ (s : ScheduleConf). s.name) before (schedule_of ms ∷ [])) (names_last (map (λ s. s.name) before) (text_at key.ScheduleName ms) are named (not_among (λ s. s.name) before (text_at key.ScheduleName ms) new)))
+
+feed_names : (ss : List ScheduleConf) (row : ℕ) (before : List FeedConf) (ms : Members) (f : FeedConf) → feed_row ss row before ms ≡ Ok f
+    → AreNames (map (λ f. f.name) before) → AreNames (map (λ f. f.name) (before ++ f ∷ []))
+unfolding feed_row feed_of
+feed_names ss row before ms f h are =
+    let (none, same) = unless_ok (fault_in Feed row ms ss before) (feed_of ss ms) f h in
+    let (named, new) = feed_name_right ms ss before (feed_wrong_none ms ss before (unmapped _ _ none)) in
+    subst (λ x. AreNames (map (λ f. f.name) (before ++ x ∷ []))) same
+    (rw (map-append (λ (f : FeedConf). f.name) before (feed_of ss ms ∷ [])) (names_last (map (λ f. f.name) before) (text_at key.FeedName ms) are named (not_among (λ f. f.name) before (text_at key.FeedName ms) new)))
+
+no_names : AreNames []
+no_names = record {
+  formed = λ i n h. absurd (none-some n h);
+  apart = λ i j n h k. absurd (none-some n h);
+}
+
+conf_in_legal : (ms : Members) (conf : HubConf) → conf_in ms ≡ Ok conf → IsLegal conf
+unfolding conf_in hub_of
+conf_in_legal ms conf h =
+    let (top, passed, rest) = and_then_ok (unless (fault_in Top 0 ms [] []) ms) _ conf h in
+    let (ss, schedules, more) = and_then_ok (schedules_in ms) _ conf rest in
+    let (fs, feeds, last) = and_then_ok (feeds_in ms ss) _ conf more in
+    let same : hub_of ms ss fs ≡ conf = cc in
+    let (few, few_feeds) = top_right ms (unmapped _ _ (unless_ok (fault_in Top 0 ms [] []) ms top passed).0) in
+    subst IsLegal same (record {
+      few_schedules = omega (arith, rows_few schedule_row 1 [] (tables_at key.Schedules ms) ss schedules, schedules_few ms few);
+      few_feeds = omega (arith, rows_few (feed_row ss) 1 [] (tables_at key.Feeds ms) fs feeds, feeds_few ms few_feeds);
+      schedule_names = rows_keep (λ xs. AreNames (map (λ s. s.name) xs)) schedule_row schedule_names 1 [] (tables_at key.Schedules ms) ss no_names schedules;
+      feed_names = rows_keep (λ xs. AreNames (map (λ f. f.name) xs)) (feed_row ss) (feed_names ss) 1 [] (tables_at key.Feeds ms) fs no_names feeds;
+      of_schedules = rows_right (has_schedule_of (length ss)) (feed_row ss) (feed_right ss) 1 [] (tables_at key.Feeds ms) fs refl feeds;
+    })
+
+conf_said_legal : (said : Option Members) (conf : HubConf) → conf_in_document said ≡ Ok conf → IsLegal conf
+conf_said_legal None conf h = cc
+conf_said_legal (Some ms) conf h = conf_in_legal ms conf h
+
+-- a configuration has up to 8 schedules and up to 64 feeds, with distinct names, and each feed belongs to one of its schedules
+pub conf_legal : (bytes : List ℕ) (conf : HubConf) → conf_of bytes ≡ Ok conf → IsLegal conf
+unfolding conf_of
+conf_legal bytes conf h =
+    elim (cases_Bool (is_utf8 bytes)) [
+      | inl utf8 ↦ conf_said_legal (parse_document bytes) conf (rw utf8 at h)
+      | inr other ↦ let wrong = rw other at h in cc
+    ]
