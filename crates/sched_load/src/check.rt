@@ -6,7 +6,7 @@ ghost use Rattle.sched_load_defs.specs.Loading.{times_fault};
 ghost use Rattle.sched_load.specs.Built.{TimesAre};
 ghost use Rattle.sched_load.specs.Tables.{AreRead, WereRead, dataset_of};
 
-use crate::order::row_number;
+use crate::id_order::row_number;
 use crate::tables::Tables;
 use crate::times::are_times;
 use crate::visits::visits_of;

@@ -9,7 +9,7 @@ ghost use Rattle.sched_load.specs.Groups.{Groups, exceptions_of};
 ghost use Rattle.sched_load.specs.Services.{ids_gathered, services_of};
 
 use crate::groups::{empty_maps, put_new};
-use crate::order::row_number;
+use crate::id_order::row_number;
 use gtfs_rows::{CalendarRow, ExceptionRow, TripRow};
 use sched_load_defs::{File, LoadFault};
 use sched_types::PlanName;

@@ -16,8 +16,8 @@ ghost use Rattle.gtfs_rows.specs.Tables.{stop_times, stops};
 ghost use Rattle.sched_load_defs.specs.declared.fault.File.TheVariants as file;
 
 use crate::files::{read_rows, read_visits};
+use crate::id_order::{order_of, row_number};
 use crate::judges::{Judge, KnownAgencies, KnownRoutes, NoReference};
-use crate::order::{order_of, row_number};
 use crate::rows::IdRow;
 use crate::services::{group_exceptions, service_ids};
 use crate::table::Table;

@@ -11,7 +11,7 @@ ghost use Rattle.gtfs_rows.specs.declared.rows.StopRow.{StopRow};
 ghost use Rattle.gtfs_rows.specs.declared.rows.TripRow.{TripRow};
 ghost use Rattle.gtfs_rows.specs.declared.rows.StopTimeRow.{StopTimeRow};
 
-use crate::order::row_number;
+use crate::id_order::row_number;
 use gtfs_rows::Column;
 use sched_load_defs::{File, LoadFault};
 use std::alloc::{AllocError, Global};

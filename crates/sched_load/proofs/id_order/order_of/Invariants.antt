@@ -2,7 +2,7 @@ use Rattle.std.proofs.Common.{◌≡◌}
 use Rattle.sched_load.specs.Listed.{same_id, texts_seen}
 use Rattle.sched_load.proofs.Faults.{Judged}
 use Rattle.sched_load.proofs.Places.{places_taken}
-use Rattle.sched_load.proofs.order.order_of.Given as goal
+use Rattle.sched_load.proofs.id_order.order_of.Given as goal
 
 abbrev pub invariant-loop-place : goal.invariant-loop-place
 invariant-loop-place g l = record {
