@@ -1,10 +1,12 @@
 //! The state, and its step.
 
-ghost use Rattle.std.specs.Prelude.{◌≡◌, ◌<◌, List, [], ◌∷◌, ◌++◌, length, IfOk, IsTrue};
+ghost use Rattle.std.specs.Prelude.{◌≡◌, ◌<◌, Some, List, [], ◌∷◌, ◌++◌, length, slice_get, IfOk, IsTrue};
 ghost use Rattle.std.specs.Arc.{arc_value};
+ghost use Rattle.std.specs.Option.{option_and_then};
 ghost use Rattle.feed_defs.specs.declared.history.Entry.{Entry};
 ghost use Rattle.feed_defs.specs.History.{stamp_of};
 ghost use Rattle.text_defs.specs.Moments.{is_stamp};
+ghost use Rattle.board_defs.specs.Rows.{timetable_in};
 ghost use Rattle.board_defs.specs.Views.{StandsFor, feed_at, feed_after, hub_first, hub_after};
 
 use crate::NoMemory;
@@ -99,6 +101,9 @@ fn next_view(
 /// The timetable of the feed of that number.
 fn plan_of(plans: &Plans, feed: u32) -> &Plan
     requires { feed < length plans.now.feeds }
+    ensures { option_and_then (λ named. timetable_in plans.now named.plan)
+        (slice_get plans.now.feeds feed)
+        ≡ Some result.now }
 {
     plans.sound();
     let plan = plans.feeds()[feed as usize].plan;
