@@ -1,6 +1,6 @@
 //! At which stops an added trip calls, and when.
 
-ghost use Rattle.std.specs.Prelude.{◌≡◌, ◌<◌, length, IfOk, IfSome};
+ghost use Rattle.std.specs.Prelude.{◌≡◌, ◌<◌, IfOk, IfSome};
 ghost use Rattle.std.specs.List.{All};
 ghost use Rattle.delay_defs.specs.Delays.{relation_of};
 ghost use Rattle.board_defs.specs.Rows as rule;

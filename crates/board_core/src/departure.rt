@@ -1,10 +1,10 @@
 //! The departures of a run at the asked stop, before their texts are made.
 
-ghost use Rattle.std.specs.Prelude.{◌≡◌, ◌+◌, ◌<◌, ◌≤◌, ◌++◌, Some, length, map, drop, take, ℤ, pos, ◌+ℤ◌, unwrap_or, IfSome, OnOk, IsTrue};
-ghost use Rattle.std.specs.List.{All, cons_option};
+ghost use Rattle.std.specs.Prelude.{◌≡◌, ◌+◌, ◌<◌, ◌≤◌, ◌++◌, Some, length, ℤ, pos, ◌+ℤ◌, unwrap_or, IfSome, OnOk};
+ghost use Rattle.std.specs.List.{All};
 ghost use Rattle.std.specs.Option.{option_map, option_to_list};
 ghost use Rattle.text_defs.specs.Moments.{last_moment};
-ghost use Rattle.sched_types.specs.Timetable.{IsSmall, base_of, places_of, is_run};
+ghost use Rattle.sched_types.specs.Timetable.{IsSmall, places_of};
 ghost use Rattle.delay_rule.specs.Near.{IsNear, IsNearState};
 ghost use Rattle.board_defs.specs.Rows.{departures_of, row_of, RunOf};
 ghost use Rattle.board_parts.specs.Appended.{Adds};

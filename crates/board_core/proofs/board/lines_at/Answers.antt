@@ -1,10 +1,7 @@
 -- The updates are in order of their runs, and give with the added trips the lines of the board.
-use Rattle.std.proofs.Common.{List, map, ap, ◌∙◌}
-use Rattle.std.specs.List.{filter_map}
-use Rattle.board_defs.specs.Choice.{update_in}
+use Rattle.std.proofs.Common.{map, ap, ◌∙◌}
 use Rattle.board_parts.proofs.Appended.{become_same}
 use Rattle.board_added.specs.Added as others
-use Rattle.board_core.specs.Found.{AreUpdates}
 use Rattle.board_core.proofs.FirstRows.{rows_same, board_is}
 use Rattle.board_core.proofs.board.lines_at.Goals as goal
 
