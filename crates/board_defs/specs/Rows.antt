@@ -18,10 +18,9 @@ use Rattle.rt_types.specs.declared.trip_update.TripUpdate.{TripUpdate}
 use Rattle.sched_types.specs.declared.rows.Place.{Place}
 use Rattle.sched_types.specs.declared.rows.Route.{Route}
 use Rattle.sched_types.specs.declared.rows.Run.{Run}
-use Rattle.sched_types.specs.declared.rows.Stop.{Stop}
 use Rattle.sched_types.specs.declared.rows.Trip.{Trip}
 use Rattle.sched_types.specs.Schedules.{Schedules}
-use Rattle.sched_types.specs.Timetable.{Timetable, number_of, places_of, is_run, is_given, base_of, dates_of}
+use Rattle.sched_types.specs.Timetable.{Timetable, number_of, places_of, is_run, names_parent, base_of, dates_of}
 use Rattle.delay_rule_defs.specs.declared.state.StopState.{StopState}
 use Rattle.delay_rule_defs.specs.Delays.{states}
 use Rattle.delay_rule_defs.specs.Delays.{relation_of as served_as}
@@ -63,12 +62,8 @@ abbrev pub stands_at : Place → ℕ
 stands_at place = place.stop
 
 -- the stop is the asked one, or names it as its parent_station (GTFS Schedule, stops.txt)
-abbrev pub is_child : ℕ → Option Stop → Bool
-is_child asked None = false
-is_child asked (Some stop) = is_given asked stop.parent
-
 abbrev pub is_asked : Timetable → ℕ → ℕ → Bool
-is_asked t asked stop = (stop == asked) || is_child asked (slice_get t.stops stop)
+is_asked t asked stop = (stop == asked) || names_parent asked (slice_get t.stops stop)
 
 -- passengers may board there (GTFS Schedule, stop_times.txt, pickup_type: 1 is no pickup)
 abbrev pub may_board : Place → Bool

@@ -4,7 +4,7 @@ ghost use Rattle.std.specs.Prelude.{◌≡◌, ◌<◌, length, IfOk};
 ghost use Rattle.std.specs.Arc.{arc_value};
 ghost use Rattle.board_defs.specs.Views.{hub_first};
 
-use board_core::HubView;
+use board_parts::HubView;
 use feed_out::{NoMemory, combined};
 use feed_view::FeedView;
 use rt_types::{Entity, Shared, Text, Vehicle};
