@@ -2,9 +2,10 @@
 
 ghost use Rattle.std.specs.Prelude.{◌≡◌};
 ghost use Rattle.board_defs.specs.Choice as choosing;
-ghost use Rattle.board_defs.specs.Choice.{stamp_or, update_in};
+ghost use Rattle.board_defs.specs.Choice.{stamp_or, update_at, update_in};
 
 use crate::entities::HeldEntity;
+use crate::window::counts_at;
 use rt_types::TripUpdate;
 use std::cmp::Ordering;
 use std::marker::Model;
@@ -34,8 +35,20 @@ impl<'a> Model for Update<'a> {
 }
 
 impl<'a> Update<'a> {
+    /// The trip update of an entity, if it has one that counts at a moment.
+    pub fn at(held: &HeldEntity<'a>, at: u64) -> Option<Update<'a>>
+        ensures { result ≡ update_at at held.entry.now }
+    {
+        let update = Update::of(held)?;
+        if counts_at(held.feed().max_age, update.stamp, at) {
+            Some(update)
+        } else {
+            None
+        }
+    }
+
     /// The trip update of an entity, if it has one.
-    pub fn of(held: &HeldEntity<'a>) -> Option<Update<'a>>
+    fn of(held: &HeldEntity<'a>) -> Option<Update<'a>>
         ensures { result ≡ update_in held.entry.now }
     {
         let stored = held.stored();
