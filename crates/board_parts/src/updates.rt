@@ -9,7 +9,7 @@ use crate::window::counts_at;
 use rt_types::TripUpdate;
 use std::cmp::Ordering;
 use std::marker::Model;
-use texts::LAST_MOMENT;
+use texts::is_stamp;
 
 /// A trip update, with the number of its feed, the id of its entity, and its stamp. A contract sees it as `Update` of
 /// `board_defs`.
@@ -110,7 +110,7 @@ pub fn stamp_of(message: u64, own: Option<u64>) -> u64
     ensures { result ≡ stamp_or message own }
 {
     match own {
-        Some(own) if 1 <= own && own <= LAST_MOMENT => own,
+        Some(own) if is_stamp(own) => own,
         _ => message,
     }
 }

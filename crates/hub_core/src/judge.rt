@@ -9,7 +9,7 @@ use crate::refusal::Refusal;
 use feed_read::{ReadFault, read_message};
 use rt_types::{FeedMessage, Header};
 use std::alloc::Global;
-use texts::LAST_MOMENT;
+use texts::is_stamp;
 
 /// The most bytes that a message may have.
 const LONGEST_MESSAGE: usize = 16_777_216;
@@ -91,8 +91,7 @@ fn has_version(message: &FeedMessage) -> bool
 fn has_moment(message: &FeedMessage) -> bool
     ensures { result ≡ has_moment message.now }
 {
-    let stamp = stamp(message);
-    1 <= stamp && stamp <= LAST_MOMENT
+    is_stamp(stamp(message))
 }
 
 /// When the message was made, in seconds since 1970; 0 where it doesn't say.
