@@ -32,7 +32,7 @@ use Rattle.alert_defs.specs.Unmatched.{unmatched}
 abbrev schedules : Schedules
 schedules = record {
   plans = record { name = codes "city"; prefix = []; plan = city } ∷ [];
-  feeds = record { name = codes "a"; plan = 0 } ∷ record { name = codes "b"; plan = 0 } ∷ [];
+  feeds = record { name = codes "a"; plan = 0; max_age = 0 } ∷ record { name = codes "b"; plan = 0; max_age = 0 } ∷ [];
 }
 
 abbrev nothing : Selector
@@ -250,6 +250,21 @@ where_a_row_is : listed_at (lift_alert (record (of_stop (codes "S3")) { route_id
     ≡ Some (record { feed = 0; id = codes "w"; cause = None; effect = None; header = codes "Lift out" } ∷ [])
 unfolding alerts is_active concerns touches fold_of messages_of since_full changes_by_id entities_of chosen added_updates match_of by_near date_in is_day date_plus next_day states all_runs run_rows board_at board inserted ordered digits
 where_a_row_is = refl
+
+-- an alert counts up to its feed's max_age behind the stamp of its message, which is 5
+abbrev listed_with : ℕ → ℕ → Option (List AlertRow)
+listed_with max_age at =
+    alerts (record schedules { feeds = record { name = codes "a"; plan = 0; max_age = max_age } ∷ [] }) (fold_of 1 (lift_alert (of_stop (codes "S3") ∷ [])))
+    (record { plan = 0; stop = codes "S3"; at = at; span = 3600; limit = 50 })
+
+at_the_end_of_its_age : listed_with 1743314495 1743314500
+    ≡ Some (record { feed = 0; id = codes "w"; cause = None; effect = None; header = codes "Lift out" } ∷ [])
+unfolding alerts is_active concerns touches fold_of messages_of since_full changes_by_id entities_of chosen added_updates match_of by_near date_in is_day date_plus next_day states all_runs run_rows board_at board inserted ordered digits
+at_the_end_of_its_age = refl
+
+too_old : listed_with 1743314495 1743314501 ≡ Some []
+unfolding alerts is_active concerns touches fold_of messages_of since_full changes_by_id entities_of chosen added_updates match_of by_near date_in is_day date_plus next_day states all_runs run_rows board_at board inserted ordered digits
+too_old = refl
 
 -- a trip update and a vehicle of a trip that isn't there, and a deleted one that is
 abbrev about_no_run : List Entry

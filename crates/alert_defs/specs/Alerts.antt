@@ -11,7 +11,7 @@ use Rattle.feed_defs.specs.Enums.{cause_number, effect_number}
 use Rattle.sched_types.specs.Schedules.{Schedules}
 use Rattle.sched_types.specs.Timetable.{Timetable, number_of}
 use Rattle.board_defs.specs.declared.query.BoardQuery.{BoardQuery}
-use Rattle.board_defs.specs.Feeds.{HeldEntity, schedule_entities}
+use Rattle.board_defs.specs.Feeds.{HeldEntity, counts_at, schedule_entities}
 use Rattle.board_defs.specs.Fold.{FeedFold}
 use Rattle.board_defs.specs.Rows.{BoardRow, board, timetable_in}
 use Rattle.alert_defs.specs.declared.rows.AlertRow.{AlertRow}
@@ -78,12 +78,17 @@ alert_row held alert = record {
 
 -- ---- the list
 
--- the row of an entity that has an alert, where it is active and touches what is asked for
+-- an alert that counts, by the stamp of its message, and is active
+abbrev pub is_current : ℕ → HeldEntity → Alert → Bool
+is_current at held alert =
+    counts_at held.feed.max_age held.stored.stamp at && is_active alert at
+
+-- the row of an entity that has an alert, where that is current and touches what is asked for
 abbrev pub row_of_alert : Timetable → ℕ → ℕ → List Touched → HeldEntity → Option Alert
     → Option AlertRow
 row_of_alert t at stop rows held None = None
 row_of_alert t at stop rows held (Some alert) =
-    if is_active alert at && concerns t alert held.stored.stamp stop rows
+    if is_current at held alert && concerns t alert held.stored.stamp stop rows
     then Some (alert_row held alert) else None
 
 abbrev pub row_of_entity : Timetable → ℕ → ℕ → List Touched → HeldEntity → Option AlertRow
@@ -106,7 +111,7 @@ abbrev pub alerts_beside : Option Timetable → Schedules → List FeedFold → 
 alerts_beside None schedules folds query rows = None
 alerts_beside (Some t) schedules folds query rows = alerts_in t schedules folds query rows
 
--- The alerts that are active at the query's moment and touch its stop or one of the rows of its
+-- The alerts that count and are active at the query's moment and touch its stop or one of the rows of its
 -- board, by feed and id; None where no row of stops.txt has the asked id.
 unfoldable pub alerts : Schedules → List FeedFold → BoardQuery → Option (List AlertRow)
 alerts schedules folds query =

@@ -12,7 +12,7 @@ use board_parts::stop_named;
 use rt_types::{Event, StopRelation, StopUpdate, TripUpdate};
 use sched_types::Plan;
 use std::alloc::Global;
-use texts::LAST_MOMENT;
+use texts::is_instant;
 
 /// The time that an event tells, where it is a moment, in seconds since 1970.
 fn moment_of(event: &Option<Event>) -> Option<i64>
@@ -20,7 +20,7 @@ fn moment_of(event: &Option<Event>) -> Option<i64>
 {
     match event {
         Some(event) => match event.time {
-            Some(time) if 1 <= time && time <= LAST_MOMENT as i64 => Some(time),
+            Some(time) if is_instant(time) => Some(time),
             _ => None,
         },
         None => None,

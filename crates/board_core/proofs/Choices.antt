@@ -15,11 +15,11 @@ use Rattle.trip_match_defs.specs.declared.found.Found.{Found}
 use Rattle.trip_match_defs.specs.declared.found.Found.TheVariants as found
 use Rattle.trip_match_defs.specs.Matching.{match_of}
 use Rattle.order.specs.Order.{greatest}
-use Rattle.board_defs.specs.Choice.{Update, update_in, is_run_found, is_about, is_added_update, choice_cmp, chosen}
+use Rattle.board_defs.specs.Choice.{Update, update_at, is_run_found, is_about, is_added_update, choice_cmp, chosen}
 use Rattle.board_defs.specs.Feeds.{HeldEntity}
 use Rattle.board_parts.proofs.Lists.{both_maps, filter_is}
 use Rattle.board_core.specs.declared.run_updates.Updates.{Updates}
-use Rattle.board_core.specs.RunUpdates.{UpdateOfRun, with_run, run_update, run_update_in, added_update, added_update_in, run_cmp, key_of, key_of_update, is_of_run, weight_cmp, update_for, AreChoices}
+use Rattle.board_core.specs.RunUpdates.{UpdateOfRun, with_run, run_update, run_update_at, added_update, added_update_at, run_cmp, key_of, key_of_update, is_of_run, weight_cmp, update_for, AreChoices}
 use Rattle.board_core.specs.Found.{AreUpdates}
 use Rattle.board_core.proofs.OrderedMap.{map_greatest}
 
@@ -85,17 +85,17 @@ module _ (t : Timetable) (run : Run) where
       ∙ ap (greatest choice_cmp) (about us))
 
 -- what was appended of some entities is what is defined
-pub sorted_out : (t : Timetable) (entities : List HeldEntity) (found : Updates) (before : List UpdateOfRun) → before ≡ filter_map (run_update_in t) entities
-    → found.added.items ≡ filter_map (added_update_in t) entities
+pub sorted_out : (t : Timetable) (at : ℕ) (entities : List HeldEntity) (found : Updates) (before : List UpdateOfRun) → before ≡ filter_map (run_update_at t at) entities
+    → found.added.items ≡ filter_map (added_update_at t at) entities
     → IsSortedByKey key_of_update run_cmp found.of_runs.items → IsStableByKey key_of_update run_cmp before found.of_runs.items
-    → AreUpdates t (filter_map update_in entities) found
-sorted_out t entities found before runs added sorted stable =
-    let all = filter_map update_in entities in
+    → AreUpdates t (filter_map (update_at at) entities) found
+sorted_out t at entities found before runs added sorted stable =
+    let all = filter_map (update_at at) entities in
     record {
       runs = record {
         sorted = sorted;
         same = λ run. kept run_cmp run_total key_of_update (key_of run) before found.of_runs.items stable
-            ∙ ap (filter (is_of_run run)) (runs ∙ both_maps (run_update t) update_in entities);
+            ∙ ap (filter (is_of_run run)) (runs ∙ both_maps (run_update t) (update_at at) entities);
       };
-      added = added ∙ both_maps (added_update t) update_in entities ∙ filter_is (is_added_update t) all;
+      added = added ∙ both_maps (added_update t) (update_at at) entities ∙ filter_is (is_added_update t) all;
     }

@@ -1,5 +1,5 @@
 -- Trip updates with the runs that they are about.
-use Rattle.std.specs.Prelude.{◌≡◌, if◌then◌else◌, Bool, List, filter, Option, Some, None}
+use Rattle.std.specs.Prelude.{◌≡◌, ℕ, if◌then◌else◌, Bool, List, filter, Option, Some, None}
 use Rattle.std.specs.List.{filter_map}
 use Rattle.std.specs.List.Sorted.{IsSortedByKey}
 use Rattle.std.specs.Option.{option_map, option_and_then}
@@ -12,7 +12,7 @@ use Rattle.trip_match_defs.specs.declared.found.Found.{Found}
 use Rattle.trip_match_defs.specs.declared.found.Found.TheVariants as found
 use Rattle.trip_match_defs.specs.Matching.{match_of}
 use Rattle.order.specs.Order.{greatest}
-use Rattle.board_defs.specs.Choice.{Update, update_in, is_added_update, choice_cmp}
+use Rattle.board_defs.specs.Choice.{Update, update_at, is_added_update, choice_cmp}
 use Rattle.board_defs.specs.Feeds.{HeldEntity}
 use Rattle.board_core.specs.declared.run_updates.RunKey.{RunKey}
 
@@ -34,12 +34,12 @@ run_update t u = with_run u (match_of t u.update.trip u.stamp)
 abbrev pub added_update : Timetable → Update → Option Update
 added_update t u = if is_added_update t u then Some u else None
 
--- the update of an entity, likewise
-abbrev pub run_update_in : Timetable → HeldEntity → Option UpdateOfRun
-run_update_in t held = option_and_then (run_update t) (update_in held)
+-- the update of an entity that counts at a moment, likewise
+abbrev pub run_update_at : Timetable → ℕ → HeldEntity → Option UpdateOfRun
+run_update_at t at held = option_and_then (run_update t) (update_at at held)
 
-abbrev pub added_update_in : Timetable → HeldEntity → Option Update
-added_update_in t held = option_and_then (added_update t) (update_in held)
+abbrev pub added_update_at : Timetable → ℕ → HeldEntity → Option Update
+added_update_at t at held = option_and_then (added_update t) (update_at at held)
 
 -- runs go by day and then by trip
 abbrev pub run_cmp : RunKey → RunKey → Ordering

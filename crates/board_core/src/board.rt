@@ -65,7 +65,7 @@ fn lines_at<'a>(
         (updates_at query.now.plan query.now.at view.entry.now.plans.feeds (folds_of view.entry.now))
         query.now)) }
 {
-    let updates = updates_of(alloc, plan, view.entities_of(query.plan))?;
+    let updates = updates_of(alloc, plan, query.at, view.entities_of(query.plan))?;
     let asked = Asked {
         stop,
         at: query.at,

@@ -3,8 +3,8 @@
 ghost use Rattle.std.specs.Prelude.{◌≡◌, ◌++◌, IfOk, OnOk};
 ghost use Rattle.std.specs.List.{filter_map};
 ghost use Rattle.std.specs.Option.{option_to_list};
-ghost use Rattle.board_defs.specs.Choice.{update_in};
-ghost use Rattle.board_core.specs.RunUpdates.{key_of_update, run_update, run_update_in, added_update, added_update_in};
+ghost use Rattle.board_defs.specs.Choice.{update_at};
+ghost use Rattle.board_core.specs.RunUpdates.{key_of_update, run_update, run_update_at, added_update, added_update_at};
 ghost use Rattle.board_core.specs.Found.{AreUpdates};
 
 use crate::NoMemory;
@@ -83,36 +83,39 @@ fn push_update<'a>(
     Ok(())
 }
 
-/// Appends the trip update of an entity, if it has one.
+/// Appends the trip update of an entity, if it has one that counts at that moment.
 fn push_entity<'a>(
     plan: &Plan,
+    at: u64,
     held: &HeldEntity<'a>,
     of_runs: &mut Vec<UpdateOfRun<'a>>,
     added: &mut Vec<Update<'a>>,
 ) -> Result<(), NoMemory>
     ensures runs { OnOk result (of_runs.new.items
-        ≡ of_runs.old.items ++ option_to_list (run_update_in plan.now held.entry.now)) }
+        ≡ of_runs.old.items ++ option_to_list (run_update_at plan.now at held.entry.now)) }
     ensures added { OnOk result (added.new.items
-        ≡ added.old.items ++ option_to_list (added_update_in plan.now held.entry.now)) }
+        ≡ added.old.items ++ option_to_list (added_update_at plan.now at held.entry.now)) }
 {
-    match Update::of(held) {
+    match Update::at(held, at) {
         Some(update) => push_update(plan, update, of_runs, added),
         None => Ok(()),
     }
 }
 
-/// The updates of some entities, those that are about runs in order of these; or want of memory.
+/// The updates of some entities that count at a moment, those that are about runs in order of these; or want of
+/// memory.
 pub(crate) fn updates_of<'a>(
     alloc: Global,
     plan: &Plan,
+    at: u64,
     entities: HeldEntities<'a>,
 ) -> Result<Updates<'a>, NoMemory>
-    ensures { IfOk result (AreUpdates plan.now (filter_map update_in entities.entry)) }
+    ensures { IfOk result (AreUpdates plan.now (filter_map (update_at at) entities.entry)) }
 {
     let mut of_runs = Vec::new(alloc);
     let mut added = Vec::new(alloc);
     for held in entities {
-        push_entity(plan, &held, &mut of_runs, &mut added)?;
+        push_entity(plan, at, &held, &mut of_runs, &mut added)?;
     }
     of_runs.sort_by_key(|update| update.key())?;
     Ok(Updates { of_runs, added })

@@ -26,7 +26,7 @@ use Rattle.board_defs.proofs.Parts.{stop_update, trip_on, trip_update, entity_of
 abbrev schedules : Schedules
 schedules = record {
   plans = record { name = codes "city"; prefix = []; plan = city } ∷ [];
-  feeds = record { name = codes "a"; plan = 0 } ∷ record { name = codes "b"; plan = 0 } ∷ [];
+  feeds = record { name = codes "a"; plan = 0; max_age = 0 } ∷ record { name = codes "b"; plan = 0; max_age = 0 } ∷ [];
 }
 
 -- a stop, for an hour from 07:53:20 on

@@ -25,7 +25,7 @@ use Rattle.board_defs.proofs.Parts.{late, stop_update, trip_update, entity_of, m
 abbrev schedules : Schedules
 schedules = record {
   plans = record { name = codes "city"; prefix = []; plan = city } ∷ [];
-  feeds = record { name = codes "a"; plan = 0 } ∷ record { name = codes "b"; plan = 0 } ∷ [];
+  feeds = record { name = codes "a"; plan = 0; max_age = 0 } ∷ record { name = codes "b"; plan = 0; max_age = 0 } ∷ [];
 }
 
 -- the market, for an hour from 07:53:20 on
@@ -100,3 +100,26 @@ no_stop : rows schedules (fold_of 2 []) (record (query 50) { stop = codes "NO" }
     ≡ None
 unfolding fold_of messages_of since_full changes_by_id entities_of chosen added_updates match_of by_near date_in is_day date_plus next_day states all_runs run_rows board_at board inserted ordered digits
 no_stop = refl
+
+-- ---- ageing
+
+-- T1 is told to be late by 300 seconds at 1743314000, by a feed of that max_age, and asked for at a moment
+abbrev told_with : ℕ → ℕ → Option (List Row)
+told_with max_age at =
+    rows (record schedules { feeds = record { name = codes "a"; plan = 0; max_age = max_age } ∷ [] }) (fold_of 1 (updated 0 (codes "u") None (late_from_first 300) ∷ []))
+    (record (query 1) { at = at })
+
+-- an update counts up to its max_age behind its stamp
+at_its_last_second : told_with 60 1743314060 ≡ Some (late_row 1743314400 300 (codes "S1") ∷ [])
+unfolding fold_of messages_of since_full changes_by_id entities_of chosen added_updates match_of by_near date_in is_day date_plus next_day states all_runs run_rows board_at board inserted ordered digits
+at_its_last_second = refl
+
+-- a second later the run is as scheduled
+too_old : told_with 60 1743314061 ≡ Some (departure_of 1743314400 (codes "T1") (codes "S1") ∷ [])
+unfolding fold_of messages_of since_full changes_by_id entities_of chosen added_updates match_of by_near date_in is_day date_plus next_day states all_runs run_rows board_at board inserted ordered digits
+too_old = refl
+
+-- 0 is no end
+never_too_old : told_with 0 1743314061 ≡ Some (late_row 1743314400 300 (codes "S1") ∷ [])
+unfolding fold_of messages_of since_full changes_by_id entities_of chosen added_updates match_of by_near date_in is_day date_plus next_day states all_runs run_rows board_at board inserted ordered digits
+never_too_old = refl

@@ -11,7 +11,7 @@ use Rattle.board_defs.proofs.Parts.{first_trip, trip_on, trip_update, entity_of,
 
 -- the feed a of the schedule 0, and the feed b of the schedule 1
 abbrev feeds : List NamedFeed
-feeds = record { name = codes "a"; plan = 0 } ∷ record { name = codes "b"; plan = 1 } ∷ []
+feeds = record { name = codes "a"; plan = 0; max_age = 0 } ∷ record { name = codes "b"; plan = 1; max_age = 0 } ∷ []
 
 -- both speak of trip T1, b later
 abbrev history : List Entry

@@ -15,7 +15,7 @@ use Rattle.trip_match_defs.specs.declared.found.Found.TheVariants as found
 use Rattle.trip_match_defs.specs.Matching.{match_of}
 use Rattle.order.specs.Order.{greatest}
 use Rattle.text_defs.specs.Moments.{is_stamp}
-use Rattle.board_defs.specs.Feeds.{HeldEntity, schedule_entities}
+use Rattle.board_defs.specs.Feeds.{HeldEntity, counts_at, schedule_entities}
 use Rattle.board_defs.specs.Fold.{FeedFold}
 
 -- a trip update, with the number of its feed, the id of its entity, and its stamp
@@ -44,10 +44,18 @@ update_of held (Some update) = Some (record {
 abbrev pub update_in : HeldEntity → Option Update
 update_in held = update_of held held.stored.entity.trip_update
 
--- The trip updates in the feeds of a schedule, by feed and id. An update counts at any moment, whatever its
--- age, so `at` makes no difference.
+-- and where it counts at a moment, by its own stamp
+abbrev pub if_counting : ℕ → HeldEntity → Option Update → Option Update
+if_counting at held None = None
+if_counting at held (Some u) =
+    if counts_at held.feed.max_age u.stamp at then Some u else None
+
+abbrev pub update_at : ℕ → HeldEntity → Option Update
+update_at at held = if_counting at held (update_in held)
+
+-- the trip updates in the feeds of a schedule that count at a moment, by feed and id
 abbrev pub updates_at : ℕ → ℕ → List NamedFeed → List FeedFold → List Update
-updates_at plan at feeds folds = filter_map update_in (schedule_entities plan feeds folds)
+updates_at plan at feeds folds = filter_map (update_at at) (schedule_entities plan feeds folds)
 
 -- whether what a trip descriptor is about is this run
 abbrev pub is_run_found : Run → Found → Bool

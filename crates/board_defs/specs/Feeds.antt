@@ -1,5 +1,5 @@
 -- The feeds of a hub, numbered, and what those of a schedule hold.
-use Rattle.std.specs.Prelude.{ℕ, ◌+◌, Bool, ◌==◌, List, [], ◌∷◌, map, filter}
+use Rattle.std.specs.Prelude.{ℕ, ◌+◌, Bool, ◌||◌, ◌==◌, nat_le, List, [], ◌∷◌, map, filter}
 use Rattle.std.specs.List.{flat_map}
 use Rattle.feed_defs.specs.declared.history.Stored.{Stored}
 use Rattle.feed_defs.specs.History.{Change}
@@ -18,6 +18,11 @@ pub record HeldEntity : Type 0 where
   pub number : ℕ
   pub feed : NamedFeed
   pub stored : Stored
+
+-- What has that stamp counts at a moment, in a feed of that max_age, in seconds: as long as it is no older. 0 is no
+-- end.
+abbrev pub counts_at : ℕ → ℕ → ℕ → Bool
+counts_at max_age stamp at = (max_age == 0) || nat_le at (stamp + max_age)
 
 -- feeds with what each says, numbered from `first` on
 abbrev pub feeds_from : ℕ → List NamedFeed → List FeedFold → List HubFeed

@@ -26,7 +26,7 @@ use Rattle.delay_rule_defs.specs.Delays.{states}
 use Rattle.delay_rule_defs.specs.Delays.{relation_of as served_as}
 use Rattle.trip_match_defs.specs.Matching.{relation_of}
 use Rattle.order.specs.Order.{ordered}
-use Rattle.text_defs.specs.Moments.{last_moment}
+use Rattle.text_defs.specs.Moments.{is_instant}
 use Rattle.board_defs.specs.declared.call.Call.{Call}
 use Rattle.board_defs.specs.declared.query.BoardQuery.{BoardQuery}
 use Rattle.board_defs.specs.declared.row.Row.{Row}
@@ -165,14 +165,10 @@ run_rows t asked updates run =
 
 -- ---- the rows of added trips (GTFS Realtime, TripDescriptor, ADDED)
 
--- an instant that is a moment
-abbrev pub is_moment : ℤ → Bool
-is_moment instant = int_le (pos 1) instant && int_le instant (pos last_moment)
-
 -- the time that an event tells, where it is a moment (StopTimeEvent, time)
 abbrev pub moment_of : Option Event → Option ℤ
 moment_of event =
-    option_and_then (λ time. if is_moment time then Some time else None)
+    option_and_then (λ time. if is_instant time then Some time else None)
     (option_and_then (λ e. e.time) event)
 
 -- when a call leaves: the time of its departure, or else of its arrival

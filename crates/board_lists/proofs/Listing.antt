@@ -20,7 +20,7 @@ use Rattle.board_defs.specs.Views.{HubKept, StandsFor, folds_of}
 use Rattle.alert_defs.specs.declared.rows.AlertRow.{AlertRow}
 use Rattle.alert_defs.specs.declared.rows.Unmatched.{Unmatched}
 use Rattle.alert_defs.specs.Touching.{Touched}
-use Rattle.alert_defs.specs.Alerts.{is_active, concerns, alert_row, row_of_alert, row_of_entity, alerts_at, alerts_beside, alerts, touched_as}
+use Rattle.alert_defs.specs.Alerts.{is_current, concerns, alert_row, row_of_alert, row_of_entity, alerts_at, alerts_beside, alerts, touched_as}
 use Rattle.alert_defs.specs.Unmatched.{unmatched_in, unmatched_of, unmatched}
 use Rattle.alert_select.specs.FeedAlerts.{alerts_of}
 use Rattle.alert_select.specs.declared.subject.Subject.{Subject}
@@ -73,7 +73,7 @@ module _ (at : ℕ) where
 -- a row is that of an alert that is active
 by_active : (t : Timetable) (at stop : ℕ) (rows : List Touched) (held : HeldEntity) (o : Option Alert) → row_of_alert t at stop rows held o ≡ option_and_then (row_if t stop rows) (active_if at held o)
 by_active t at stop rows held None = refl
-by_active t at stop rows held (Some alert) = by_test (is_active alert at)
+by_active t at stop rows held (Some alert) = by_test (is_current at held alert)
   where
     by_test : (b : Bool) → (if b && concerns t alert held.stored.stamp stop rows then Some (alert_row held alert) else None)
         ≡ option_and_then (row_if t stop rows) (if b then Some (record { held = held; alert = alert }) else None)

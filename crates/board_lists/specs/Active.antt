@@ -6,18 +6,18 @@ use Rattle.sched_types.specs.Timetable.{Timetable}
 use Rattle.board_defs.specs.Feeds.{HeldEntity}
 use Rattle.alert_defs.specs.declared.rows.AlertRow.{AlertRow}
 use Rattle.alert_defs.specs.Touching.{Touched}
-use Rattle.alert_defs.specs.Alerts.{is_active, concerns, alert_row}
+use Rattle.alert_defs.specs.Alerts.{is_current, concerns, alert_row}
 
 -- an alert with its entity
 pub record Active : Type 0 where
   pub held : HeldEntity
   pub alert : Alert
 
--- the alert of an entity, where it has one that is active
+-- the alert of an entity, where it has one that counts and is active
 abbrev pub active_if : ℕ → HeldEntity → Option Alert → Option Active
 active_if at held None = None
 active_if at held (Some alert) =
-    if is_active alert at then Some (record { held = held; alert = alert }) else None
+    if is_current at held alert then Some (record { held = held; alert = alert }) else None
 
 abbrev pub active_in : ℕ → HeldEntity → Option Active
 active_in at held = active_if at held held.stored.entity.alert

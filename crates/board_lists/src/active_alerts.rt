@@ -1,4 +1,4 @@
-//! The alerts of a schedule's feeds that are active at a moment.
+//! The alerts of a schedule's feeds that count and are active at a moment.
 
 ghost use Rattle.std.specs.Prelude.{◌≡◌, IfOk};
 ghost use Rattle.std.specs.List.{filter_map};
@@ -6,7 +6,7 @@ ghost use Rattle.board_lists.specs.Active.{active_in};
 
 use crate::NoMemory;
 use alert_select::active;
-use board_parts::{HeldEntities, HeldEntity};
+use board_parts::{HeldEntities, HeldEntity, counts_at};
 use rt_types::Alert;
 use std::alloc::Global;
 use std::marker::Model;
@@ -59,14 +59,14 @@ pub(crate) fn all_active<'a>(
     Ok(all)
 }
 
-/// The alert of an entity, where it has one that is active.
+/// The alert of an entity, where it has one that counts and is active.
 fn active_of<'a>(at: u64, held: HeldEntity<'a>) -> Option<ActiveAlert<'a>>
     ensures { result ≡ active_in at held.entry }
 {
     match &held.stored().entity.alert {
         Some(alert) => {
             let alert = alert.get();
-            if active(alert, at) {
+            if counts_at(held.feed().max_age, held.stored().stamp, at) && active(alert, at) {
                 return Some(ActiveAlert { held, alert });
             }
             None

@@ -22,7 +22,7 @@ use board_defs::BoardQuery;
 use sched_types::Plan;
 use std::alloc::Global;
 
-/// The alerts of the schedule's feeds that are active at the query's moment and touch its stop or one of the
+/// The alerts of the schedule's feeds that count and are active at the query's moment and touch its stop or one of the
 /// rows of its board, by feed and then by id.
 ///
 /// It looks at the alerts alone, and asks for the rows of the board only where one of them is active.

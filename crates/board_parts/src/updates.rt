@@ -2,13 +2,14 @@
 
 ghost use Rattle.std.specs.Prelude.{◌≡◌};
 ghost use Rattle.board_defs.specs.Choice as choosing;
-ghost use Rattle.board_defs.specs.Choice.{stamp_or, update_in};
+ghost use Rattle.board_defs.specs.Choice.{stamp_or, update_at, update_in};
 
 use crate::entities::HeldEntity;
+use crate::window::counts_at;
 use rt_types::TripUpdate;
 use std::cmp::Ordering;
 use std::marker::Model;
-use texts::LAST_MOMENT;
+use texts::is_stamp;
 
 /// A trip update, with the number of its feed, the id of its entity, and its stamp. A contract sees it as `Update` of
 /// `board_defs`.
@@ -34,8 +35,20 @@ impl<'a> Model for Update<'a> {
 }
 
 impl<'a> Update<'a> {
+    /// The trip update of an entity, if it has one that counts at a moment.
+    pub fn at(held: &HeldEntity<'a>, at: u64) -> Option<Update<'a>>
+        ensures { result ≡ update_at at held.entry.now }
+    {
+        let update = Update::of(held)?;
+        if counts_at(held.feed().max_age, update.stamp, at) {
+            Some(update)
+        } else {
+            None
+        }
+    }
+
     /// The trip update of an entity, if it has one.
-    pub fn of(held: &HeldEntity<'a>) -> Option<Update<'a>>
+    fn of(held: &HeldEntity<'a>) -> Option<Update<'a>>
         ensures { result ≡ update_in held.entry.now }
     {
         let stored = held.stored();
@@ -97,7 +110,7 @@ pub fn stamp_of(message: u64, own: Option<u64>) -> u64
     ensures { result ≡ stamp_or message own }
 {
     match own {
-        Some(own) if 1 <= own && own <= LAST_MOMENT => own,
+        Some(own) if is_stamp(own) => own,
         _ => message,
     }
 }

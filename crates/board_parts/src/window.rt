@@ -1,7 +1,8 @@
-//! Which stops and instants are those that a board asks for.
+//! Which stops and instants are those that a board asks for, and what counts at a moment.
 
 ghost use Rattle.std.specs.Prelude.{◌≡◌, ◌+◌, ◌<◌, ◌≤◌, ◌&&◌, length, pos, int_le, int_lt};
 ghost use Rattle.text_defs.specs.Moments.{last_moment};
+ghost use Rattle.board_defs.specs.Feeds.{counts_at};
 ghost use Rattle.board_defs.specs.Rows.{is_asked};
 
 use sched_types::Plan;
@@ -21,4 +22,12 @@ pub fn is_within(at: u64, span: u32, instant: i64) -> bool
     ensures { result ≡ (int_le (pos at) instant && int_lt instant (pos (at + span))) }
 {
     at as i64 <= instant && instant < (at + u64::from(span)) as i64
+}
+
+/// Whether what has that stamp counts at a moment, in a feed of that max_age; all in seconds, stamp and moment since
+/// 1970. A max_age of 0 is no end.
+pub fn counts_at(max_age: u64, stamp: u64, at: u64) -> bool
+    ensures { result ≡ counts_at max_age stamp at }
+{
+    max_age == 0 || at.saturating_sub(stamp) <= max_age
 }

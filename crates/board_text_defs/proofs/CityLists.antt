@@ -28,7 +28,7 @@ use Rattle.board_text_defs.specs.Answers.Question.{AlertsOf, UnmatchedOf, Status
 abbrev schedules : Schedules
 schedules = record {
   plans = record { name = codes "city"; prefix = []; plan = city } ∷ [];
-  feeds = record { name = codes "a"; plan = 0 } ∷ [];
+  feeds = record { name = codes "a"; plan = 0; max_age = 0 } ∷ [];
 }
 
 -- one message of the feed a

@@ -216,7 +216,11 @@ fn declare_feed(alloc: Global, feeds: &mut Vec<NamedFeed>, name: &str) -> Result
         return Ok(false);
     }
     let name = Text::new(alloc, name)?;
-    feeds.push(NamedFeed { name, plan: 0 })?;
+    feeds.push(NamedFeed {
+        name,
+        plan: 0,
+        max_age: 0,
+    })?;
     Ok(true)
 }
 

@@ -27,11 +27,12 @@ fn plan(alloc: Global, name: &str, prefix: &str) -> Result<NamedPlan, NoMemory>
 
 /// A feed of the timetable of that number.
 fn feed(alloc: Global, name: &str, plan: u32) -> Result<NamedFeed, NoMemory>
-    ensures { IfOk result (λ feed. feed ≡ record { name = name.now; plan = plan }) }
+    ensures { IfOk result (λ feed. feed ≡ record { name = name.now; plan = plan; max_age = 0 }) }
 {
     Ok(NamedFeed {
         name: PlanName::new(alloc, name)?,
         plan,
+        max_age: 0,
     })
 }
 
