@@ -6,14 +6,18 @@ use Rattle.wire_defs.specs.Field.{Payload, Field}
 use Rattle.feed_defs.specs.Rows.{value_under, occurrences_of, last_of, span_in}
 use Rattle.field_read.specs.Occurring.{payloads_under}
 
+said_front : {A : Type 0} (says : Payload → Option A) (n : ℕ) (f : Field) (fs : List Field) → filter_map (value_under says n) fs ≡ filter_map says (payloads_under n fs) → filter_map (value_under says n) (f ∷ fs) ≡ filter_map says (payloads_under n (f ∷ fs))
+unfolding occurrences_of
+said_front says n f fs others = step (eqb f.number n) refl
+  where
+    step : (b : Bool) → eqb f.number n ≡ b → filter_map (value_under says n) (f ∷ fs) ≡ filter_map says (payloads_under n (f ∷ fs))
+    step true e = rw e (ap (cons_option (says f.payload)) others)
+    step false e = rw e others
+
 said_under : {A : Type 0} (says : Payload → Option A) (n : ℕ) (fields : List Field) → filter_map (value_under says n) fields ≡ filter_map says (payloads_under n fields)
 unfolding occurrences_of
 said_under says n [] = refl
-said_under {A} says n (f ∷ fs) = step (eqb f.number n) refl
-  where
-    step : (b : Bool) → eqb f.number n ≡ b → filter_map (value_under says n) (f ∷ fs) ≡ filter_map says (payloads_under n (f ∷ fs))
-    step true e = rw e (ap (cons_option (says f.payload)) (said_under says n fs))
-    step false e = rw e (said_under says n fs)
+said_under says n (f ∷ fs) = said_front says n f fs (said_under says n fs)
 
 last_single : {A : Type 0} (o : Option A) → last_or None (cons_option o []) ≡ o
 last_single None = refl

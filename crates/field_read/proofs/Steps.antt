@@ -13,7 +13,9 @@ use Rattle.field_read.specs.Occurring.{IsWhole, told_fields}
 -- bytes of which the fields are these
 pub whole_told : (bytes : List ℕ) (fields : List Field) → fields_of bytes ≡ Ok fields → (told_fields bytes ≡ fields) × IsWhole bytes
 unfolding told_fields
-whole_told bytes fields e = (rw e refl, rw e refl)
+whole_told bytes fields e =
+    let is : told_fields bytes ≡ fields = rw (e, told_fields) refl in
+    (is, e ∙ ap Ok (sym is))
 
 pub whole_nil : IsWhole []
 whole_nil = (whole_told [] [] fields_of-nil).1

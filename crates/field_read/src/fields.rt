@@ -7,6 +7,7 @@ ghost use Rattle.pb_wire.specs.Parts.{payload_seen};
 ghost use Rattle.field_read.specs.Occurring.{AreNoted, IsWhole, Tells, payloads_under, told_fields};
 
 use crate::iter::{Parts, Spans};
+use crate::payload::span;
 use crate::slots::{Occurs, Slots};
 use pb_wire::PartPayload;
 use std::marker::Model;
@@ -74,8 +75,10 @@ impl<'s, 'a> Fields<'s, 'a> {
     {
         match self.payload(number) {
             Occurs::Never => Occurs::Never,
-            Occurs::Once(PartPayload::Span(bytes)) => Occurs::Once(bytes),
-            Occurs::Once(_) => Occurs::Never,
+            Occurs::Once(payload) => match span(&payload) {
+                Some(bytes) => Occurs::Once(bytes),
+                None => Occurs::Never,
+            },
             Occurs::Several => Occurs::Several,
         }
     }

@@ -92,7 +92,7 @@ impl<'a> Iterator for Spans<'a> {
     ghost remaining = { item_count (λ left. left) };
 
     fn next(&mut self) -> Option<&'a [u8]> {
-        while let Some(part) = self.parts.next() {
+        'parts: while let Some(part) = self.parts.next() {
             if let Some(bytes) = span_at(self.number, &part) {
                 return Some(bytes);
             }

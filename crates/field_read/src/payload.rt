@@ -4,7 +4,7 @@ ghost use Rattle.std.specs.Prelude.{◌≡◌, is_some, None};
 ghost use Rattle.std.specs.List.{last_or};
 ghost use Rattle.std.specs.Option.{option_copied};
 ghost use Rattle.feed_defs.specs.Rows.{value_under, last_of, span_in, as_text};
-ghost use Rattle.pb_wire.specs.Parts.{part_seen};
+ghost use Rattle.pb_wire.specs.Parts.{part_seen, payload_seen};
 ghost use Rattle.answer_defs.specs.Defined.{AsDefined};
 ghost use Rattle.field_read.specs.Causes.{cause_of};
 
@@ -16,16 +16,24 @@ use pb_wire::{Part, PartPayload};
 use rt_types::{Kind, Text, What};
 use std::alloc::Global;
 
+/// The run of bytes that a payload is, if it is one.
+pub(crate) fn span<'a>(payload: &PartPayload<'a>) -> Option<&'a [u8]>
+    ensures { option_copied result ≡ span_in (payload_seen payload.now) }
+{
+    match payload {
+        PartPayload::Span(bytes) => Some(*bytes),
+        _ => None,
+    }
+}
+
 /// The bytes that the part carries, if it has this number and carries a run of bytes.
-pub fn span_at<'a>(number: u32, part: &Part<'a>) -> Option<&'a [u8]>
+pub(crate) fn span_at<'a>(number: u32, part: &Part<'a>) -> Option<&'a [u8]>
     ensures { option_copied result ≡ value_under span_in number (part_seen part.now) }
 {
-    if part.number != number {
-        return None;
-    }
-    match part.payload {
-        PartPayload::Span(bytes) => Some(bytes),
-        _ => None,
+    if part.number == number {
+        span(&part.payload)
+    } else {
+        None
     }
 }
 
