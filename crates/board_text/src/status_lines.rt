@@ -1,6 +1,7 @@
 //! The status of a hub as text.
 
 ghost use Rattle.std.specs.Prelude.{◌≡◌, ◌≤◌, [], ◌∷◌, ◌++◌, length, map, codes, OnOk, OnErr};
+ghost use Rattle.std.specs.Io.{StartsWith};
 ghost use Rattle.std.specs.Arc.{arc_value};
 ghost use Rattle.std.specs.Fmt.{decimal};
 ghost use Rattle.board_defs.specs.Views.{folds_of};
@@ -23,17 +24,20 @@ pub fn status_text(view: &HubView, out: &mut Vec<u8>) -> Result<(), NoMemory>
         (out.new.items ≡ out.old.items ++ status_text view.now.plans.feeds (folds_of view.now)) }
     ensures kept { OnErr result (out.new.items ≡ out.old.items) }
 {
-    // Made aside, since a line that fails leaves a part of itself.
-    let mut text = Vec::new(*out.allocator());
-    push_status(view, &mut text)?;
-    out.extend_from_slice(text.as_slice())
+    let before = out.len();
+    let written = push_status(view, out);
+    if written.is_err() {
+        out.truncate(before);
+    }
+    written
 }
 
 /// Appends the status, or as much of it as memory allows.
 #[tactic(auto, unfolding(board_text_defs::specs::Status::status_text))]
 fn push_status(view: &HubView, out: &mut Vec<u8>) -> Result<(), NoMemory>
-    ensures { OnOk result
+    ensures written { OnOk result
         (out.new.items ≡ out.old.items ++ status_text view.now.plans.feeds (folds_of view.now)) }
+    ensures begins { StartsWith out.new.items out.old.items }
 {
     view.sound();
     push_entries(view.entries(), out)?;
@@ -43,8 +47,9 @@ fn push_status(view: &HubView, out: &mut Vec<u8>) -> Result<(), NoMemory>
 
 /// Appends the line with how many messages were accepted.
 fn push_entries(entries: u64, out: &mut Vec<u8>) -> Result<(), NoMemory>
-    ensures { OnOk result (out.new.items ≡ out.old.items
+    ensures written { OnOk result (out.new.items ≡ out.old.items
         ++ line_of_fields (codes "entries" ∷ decimal entries ∷ [])) }
+    ensures begins { StartsWith out.new.items out.old.items }
 {
     let mut buffer = Buffer::new();
     push_pair(buffer.format(entries), out)
@@ -52,15 +57,17 @@ fn push_entries(entries: u64, out: &mut Vec<u8>) -> Result<(), NoMemory>
 
 /// The same of a number that is spelled already.
 fn push_pair<'a>(entries: &'a str, out: &mut Vec<u8>) -> Result<(), NoMemory>
-    ensures { OnOk result (out.new.items ≡ out.old.items
+    ensures written { OnOk result (out.new.items ≡ out.old.items
         ++ line_of_fields (codes "entries" ∷ entries.now ∷ [])) }
+    ensures begins { StartsWith out.new.items out.old.items }
 {
     push_line(&["entries", entries], out)
 }
 
 /// Appends the line with the names of the columns.
 fn push_columns(out: &mut Vec<u8>) -> Result<(), NoMemory>
-    ensures { OnOk result (out.new.items ≡ out.old.items ++ line_of_fields status_columns) }
+    ensures written { OnOk result (out.new.items ≡ out.old.items ++ line_of_fields status_columns) }
+    ensures begins { StartsWith out.new.items out.old.items }
 {
     push_line(&["feed", "accepted", "last", "entities"], out)
 }
@@ -73,8 +80,9 @@ fn push_feeds(
     out: &mut Vec<u8>,
 ) -> Result<(), NoMemory>
     requires each { length views.now ≡ length feeds.now }
-    ensures { OnOk result (out.new.items ≡ out.old.items
+    ensures written { OnOk result (out.new.items ≡ out.old.items
         ++ status_lines feeds.now (map (λ feed. feed.fold) (map arc_value views.now))) }
+    ensures begins { StartsWith out.new.items out.old.items }
 {
     for (i, feed) in feeds.iter().enumerate() {
         push_feed(feed, &views[i], out)?;
@@ -84,8 +92,9 @@ fn push_feeds(
 
 /// Appends the line of a feed.
 fn push_feed(feed: &NamedFeed, view: &FeedView, out: &mut Vec<u8>) -> Result<(), NoMemory>
-    ensures { OnOk result
+    ensures written { OnOk result
         (out.new.items ≡ out.old.items ++ status_line feed.now view.now.fold) }
+    ensures begins { StartsWith out.new.items out.old.items }
 {
     let (mut count, mut stamp, mut entities) = (Buffer::new(), Buffer::new(), Buffer::new());
     push_cells(
@@ -105,8 +114,9 @@ fn push_cells<'a>(
     entities: &'a str,
     out: &mut Vec<u8>,
 ) -> Result<(), NoMemory>
-    ensures { OnOk result (out.new.items ≡ out.old.items
+    ensures written { OnOk result (out.new.items ≡ out.old.items
         ++ line_of_fields (name.now ∷ count.now ∷ stamp.now ∷ entities.now ∷ [])) }
+    ensures begins { StartsWith out.new.items out.old.items }
 {
     push_line(&[name, count, stamp, entities], out)
 }

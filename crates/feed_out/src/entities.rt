@@ -2,6 +2,7 @@
 
 ghost use Rattle.std.specs.Prelude.{◌≡◌, ◌++◌, length, map, OnOk};
 ghost use Rattle.std.specs.Arc.{arc_value};
+ghost use Rattle.std.specs.Io.{StartsWith};
 ghost use Rattle.std.specs.List.{flat_map};
 ghost use Rattle.board_defs.specs.Feed.{combined_entity};
 ghost use Rattle.feed_write.specs.Entities.{entity_field};
@@ -23,9 +24,10 @@ pub(crate) fn push_entities(
     out: &mut Vec<u8>,
 ) -> Result<(), NoMemory>
     requires { length views.now ≡ length feeds.now }
-    ensures { OnOk result (out.new.items
+    ensures written { OnOk result (out.new.items
         ≡ out.old.items
         ++ flat_map (entity_fields prefix.now) (told_of plan feeds.now (map arc_value views.now))) }
+    ensures begins { StartsWith out.new.items out.old.items }
 {
     for (i, feed) in feeds.iter().enumerate() {
         push_feed(prefix, plan, feed, &views[i], out)?;
@@ -41,8 +43,9 @@ fn push_feed(
     view: &FeedView,
     out: &mut Vec<u8>,
 ) -> Result<(), NoMemory>
-    ensures { OnOk result (out.new.items
+    ensures written { OnOk result (out.new.items
         ≡ out.old.items ++ added_of prefix.now plan feed.now view.now.fold) }
+    ensures begins { StartsWith out.new.items out.old.items }
 {
     if feed.plan == plan {
         push_table(prefix, feed.name.as_str(), view.table(), out)?;
@@ -53,9 +56,10 @@ fn push_feed(
 /// Appends what a feed of that name holds, entity by entity: the ids of the timetable in it under the prefix, and its
 /// own under the feed's name.
 fn push_table(prefix: &str, feed: &str, table: &Table, out: &mut Vec<u8>) -> Result<(), NoMemory>
-    ensures { OnOk result (out.new.items
+    ensures written { OnOk result (out.new.items
         ≡ out.old.items
         ++ flat_map entity_field (map (combined_entity prefix.now feed.now) table.now)) }
+    ensures begins { StartsWith out.new.items out.old.items }
 {
     for stored in table.iter() {
         write_under_feed(feed, prefix, &stored.entity, out)?;

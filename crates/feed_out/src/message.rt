@@ -1,6 +1,7 @@
 //! The message, and its bytes.
 
-ghost use Rattle.std.specs.Prelude.{◌≡◌, ◌<◌, ◌^◌, ◌++◌, List, length, map, true, Ok, IfOk, OnOk};
+ghost use Rattle.std.specs.Prelude.{◌≡◌, ◌<◌, ◌^◌, ◌++◌, List, length, map, true, Ok, IfOk, OnOk, OnErr};
+ghost use Rattle.std.specs.Io.{StartsWith};
 ghost use Rattle.std.specs.Str.{is_utf8};
 ghost use Rattle.std.specs.Arc.{arc_value};
 ghost use Rattle.feed_defs.specs.declared.history.Entry.{Entry};
@@ -32,16 +33,58 @@ pub fn combined(alloc: Global, view: &HubView, plan: u32) -> Result<Vec<u8>, NoM
     ensures again { (h : List Entry) → WereRead h → StandsFor h view.now → IfOk result (λ bytes. read bytes.items
         ≡ Ok (schedule_message view.now.plans plan (folds_of view.now))) }
 {
+    let mut bytes = Vec::new(alloc);
+    push_combined(alloc, view, plan, &mut bytes)?;
+    Ok(bytes)
+}
+
+/// Appends the same bytes. Want of memory leaves `out` as it was.
+pub fn push_combined(
+    alloc: Global,
+    view: &HubView,
+    plan: u32,
+    out: &mut Vec<u8>,
+) -> Result<(), NoMemory>
+    requires { plan < length view.now.plans.plans }
+    ensures feed { OnOk result (out.new.items
+        ≡ out.old.items ++ combined_feed view.now.plans plan (folds_of view.now)) }
+    ensures again { (h : List Entry) → WereRead h → StandsFor h view.now
+        → OnOk result (read (combined_feed view.now.plans plan (folds_of view.now))
+        ≡ Ok (schedule_message view.now.plans plan (folds_of view.now))) }
+    ensures kept { OnErr result (out.new.items ≡ out.old.items) }
+{
+    let before = out.len();
+    let written = push_message(alloc, view, plan, out);
+    if written.is_err() {
+        out.truncate(before);
+    }
+    written
+}
+
+/// The same, where want of memory leaves what was written so far.
+fn push_message(
+    alloc: Global,
+    view: &HubView,
+    plan: u32,
+    out: &mut Vec<u8>,
+) -> Result<(), NoMemory>
+    requires { plan < length view.now.plans.plans }
+    ensures feed { OnOk result (out.new.items
+        ≡ out.old.items ++ combined_feed view.now.plans plan (folds_of view.now)) }
+    ensures again { (h : List Entry) → WereRead h → StandsFor h view.now
+        → OnOk result (read (combined_feed view.now.plans plan (folds_of view.now))
+        ≡ Ok (schedule_message view.now.plans plan (folds_of view.now))) }
+    ensures begins { StartsWith out.new.items out.old.items }
+{
     view.sound();
     let plans = view.plans();
     let prefix = plans.plans()[plan as usize].prefix.as_str();
     is_text(prefix);
     let feeds = plans.feeds();
     let views = view.feeds();
-    let mut bytes = Vec::new(alloc);
-    push_header(alloc, newest(plan, feeds, views), &mut bytes)?;
-    push_entities(prefix, plan, feeds, views, &mut bytes)?;
-    Ok(bytes)
+    push_header(alloc, newest(plan, feeds, views), out)?;
+    push_entities(prefix, plan, feeds, views, out)?;
+    Ok(())
 }
 
 /// Does nothing; its contract tells that a text is UTF-8.
@@ -52,7 +95,8 @@ fn is_text(_text: &str)
 /// Appends the header of a whole data set of that stamp: a message of no entities, behind which those follow as
 /// further fields.
 fn push_header(alloc: Global, newest: u64, out: &mut Vec<u8>) -> Result<(), NoMemory>
-    ensures { OnOk result (out.new.items ≡ out.old.items ++ write (header_of newest)) }
+    ensures written { OnOk result (out.new.items ≡ out.old.items ++ write (header_of newest)) }
+    ensures begins { StartsWith out.new.items out.old.items }
 {
     let message = FeedMessage {
         header: Header {

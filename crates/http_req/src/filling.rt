@@ -20,23 +20,45 @@ pub(crate) enum Next {
     Failed(usize),
 }
 
-/// Reads on behind the first `start` bytes of a buffer until they begin with a head, or never will.
+/// Moves the bytes between two places of a buffer to its front, and reads on behind them until the
+/// buffer begins with a head, or never will.
 pub(crate) fn next_head<S: Source>(
     buf: &mut [u8],
     start: usize,
+    end: usize,
     headers: &mut [HeaderSpan],
     source: &mut S,
 ) -> Next
     requires full { length buf.old ≡ 8192 }
     requires room { 2731 ≤ length headers.old }
-    requires fits { start ≤ 8192 }
-    ensures comes { ComesTo (take start buf.old) buf.new headers.new (S.left source.old)
+    requires within { start ≤ end }
+    requires fits { end ≤ 8192 }
+    ensures comes { ComesTo (take (end - start) (drop start buf.old)) buf.new headers.new
+        (S.left source.old) (S.left source.new) result }
+    ensures told { is_some (S.left source.new) ≡ is_some (S.left source.old) }
+    ensures cause { HasNextCause result (S.faults source.old) (S.faults source.new) }
+{
+    buf.copy_within(start..end, 0);
+    read_head(buf, end - start, headers, source)
+}
+
+/// Reads on behind the first `held` bytes of a buffer until they begin with a head, or never will.
+fn read_head<S: Source>(
+    buf: &mut [u8],
+    held: usize,
+    headers: &mut [HeaderSpan],
+    source: &mut S,
+) -> Next
+    requires full { length buf.old ≡ 8192 }
+    requires room { 2731 ≤ length headers.old }
+    requires fits { held ≤ 8192 }
+    ensures comes { ComesTo (take held buf.old) buf.new headers.new (S.left source.old)
         (S.left source.new) result }
     ensures told { is_some (S.left source.new) ≡ is_some (S.left source.old) }
     ensures cause { HasNextCause result (S.faults source.old) (S.faults source.new) }
 {
-    let mut filled = start;
-    let mut progress = Progress::START.after(&buf[..start]);
+    let mut filled = held;
+    let mut progress = Progress::START.after(&buf[..held]);
     'heads: loop {
         match look(progress, &buf[..filled], headers) {
             Found::Head(spans) => return Next::Head(spans, filled),
