@@ -18,21 +18,21 @@ use Rattle.trip_match_defs.specs.Matching.{match_of, by_near}
 use Rattle.trip_match_defs.specs.declared.found.Why.TheVariants as why
 use Rattle.delay_rule_defs.specs.Delays.{states}
 use Rattle.order.specs.Order.{inserted, ordered}
-use Rattle.board_defs.specs.Choice.{chosen, updates_from, added_updates}
+use Rattle.board_defs.specs.Choice.{chosen, added_updates}
 use Rattle.board_defs.specs.Fold.{fold_of}
 use Rattle.board_defs.specs.Rows.{all_runs, run_rows, board_at, board}
 use Rattle.board_defs.specs.Rows.Subject.{RunOf, AddedTrip}
 use Rattle.alert_defs.specs.declared.rows.AlertRow.{AlertRow}
 use Rattle.alert_defs.specs.Touching.{touches}
 use Rattle.alert_defs.specs.Touching.Touched.{StopItself, RowAt}
-use Rattle.alert_defs.specs.Alerts.{is_active, concerns, over_feeds, text_among, alerts}
+use Rattle.alert_defs.specs.Alerts.{is_active, concerns, text_among, alerts}
 use Rattle.alert_defs.specs.Unmatched.{unmatched}
 
 -- the city with the feeds a and b
 abbrev schedules : Schedules
 schedules = record {
   plans = record { name = codes "city"; prefix = []; plan = city } ∷ [];
-  feeds = record { name = codes "a"; plan = 0 } ∷ record { name = codes "b"; plan = 0 } ∷ [];
+  feeds = record { name = codes "a"; plan = 0; max_age = 0 } ∷ record { name = codes "b"; plan = 0; max_age = 0 } ∷ [];
 }
 
 abbrev nothing : Selector
@@ -234,26 +234,41 @@ listed_at history at =
 
 at_its_last_second : listed_at (lift_alert (of_stop (codes "S3") ∷ [])) 1743314999
     ≡ Some (record { feed = 0; id = codes "w"; cause = None; effect = None; header = codes "Lift out" } ∷ [])
-unfolding alerts over_feeds is_active concerns touches fold_of messages_of since_full changes_by_id entities_of updates_from chosen added_updates match_of by_near date_in is_day date_plus next_day states all_runs run_rows board_at board inserted ordered digits
+unfolding alerts is_active concerns touches fold_of messages_of since_full changes_by_id entities_of chosen added_updates match_of by_near date_in is_day date_plus next_day states all_runs run_rows board_at board inserted ordered digits
 at_its_last_second = refl
 
 a_second_later : listed_at (lift_alert (of_stop (codes "S3") ∷ [])) 1743315000 ≡ Some []
-unfolding alerts over_feeds is_active concerns touches fold_of messages_of since_full changes_by_id entities_of updates_from chosen added_updates match_of by_near date_in is_day date_plus next_day states all_runs run_rows board_at board inserted ordered digits
+unfolding alerts is_active concerns touches fold_of messages_of since_full changes_by_id entities_of chosen added_updates match_of by_near date_in is_day date_plus next_day states all_runs run_rows board_at board inserted ordered digits
 a_second_later = refl
 
 without_selectors : listed_at (lift_alert []) 1743314500 ≡ Some []
-unfolding alerts over_feeds is_active concerns touches fold_of messages_of since_full changes_by_id entities_of updates_from chosen added_updates match_of by_near date_in is_day date_plus next_day states all_runs run_rows board_at board inserted ordered digits
+unfolding alerts is_active concerns touches fold_of messages_of since_full changes_by_id entities_of chosen added_updates match_of by_near date_in is_day date_plus next_day states all_runs run_rows board_at board inserted ordered digits
 without_selectors = refl
 
 -- the departure of T1 at the harbour is one of the route
 where_a_row_is : listed_at (lift_alert (record (of_stop (codes "S3")) { route_id = Some (codes "R7") } ∷ [])) 1743314500
     ≡ Some (record { feed = 0; id = codes "w"; cause = None; effect = None; header = codes "Lift out" } ∷ [])
-unfolding alerts over_feeds is_active concerns touches fold_of messages_of since_full changes_by_id entities_of updates_from chosen added_updates match_of by_near date_in is_day date_plus next_day states all_runs run_rows board_at board inserted ordered digits
+unfolding alerts is_active concerns touches fold_of messages_of since_full changes_by_id entities_of chosen added_updates match_of by_near date_in is_day date_plus next_day states all_runs run_rows board_at board inserted ordered digits
 where_a_row_is = refl
 
+-- an alert counts up to its feed's max_age behind the stamp of its message, which is 5
+abbrev listed_with : ℕ → ℕ → Option (List AlertRow)
+listed_with max_age at =
+    alerts (record schedules { feeds = record { name = codes "a"; plan = 0; max_age = max_age } ∷ [] }) (fold_of 1 (lift_alert (of_stop (codes "S3") ∷ [])))
+    (record { plan = 0; stop = codes "S3"; at = at; span = 3600; limit = 50 })
+
+at_the_end_of_its_age : listed_with 1743314495 1743314500
+    ≡ Some (record { feed = 0; id = codes "w"; cause = None; effect = None; header = codes "Lift out" } ∷ [])
+unfolding alerts is_active concerns touches fold_of messages_of since_full changes_by_id entities_of chosen added_updates match_of by_near date_in is_day date_plus next_day states all_runs run_rows board_at board inserted ordered digits
+at_the_end_of_its_age = refl
+
+too_old : listed_with 1743314495 1743314501 ≡ Some []
+unfolding alerts is_active concerns touches fold_of messages_of since_full changes_by_id entities_of chosen added_updates match_of by_near date_in is_day date_plus next_day states all_runs run_rows board_at board inserted ordered digits
+too_old = refl
+
 -- a trip update and a vehicle of a trip that isn't there, and a deleted one that is
-abbrev strangers : List Entry
-strangers = sent (record (bare (codes "u")) {
+abbrev about_no_run : List Entry
+about_no_run = sent (record (bare (codes "u")) {
   trip_update = Some (record {
     trip = named (codes "T8") None None;
     stop_time_update = [];
@@ -283,8 +298,8 @@ strangers = sent (record (bare (codes "u")) {
   });
 } ∷ [])
 
-strangers_listed : unmatched schedules (fold_of 2 strangers) 0
+unmatched_listed : unmatched schedules (fold_of 2 about_no_run) 0
     ≡ record { feed = 0; id = codes "u"; vehicle = false; why = why.NoTrip }
     ∷ record { feed = 0; id = codes "u"; vehicle = true; why = why.NoDay } ∷ []
-unfolding unmatched over_feeds fold_of messages_of since_full changes_by_id entities_of match_of by_near date_in is_day date_plus next_day
-strangers_listed = refl
+unfolding unmatched fold_of messages_of since_full changes_by_id entities_of match_of by_near date_in is_day date_plus next_day
+unmatched_listed = refl

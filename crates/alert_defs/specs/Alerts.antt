@@ -1,6 +1,6 @@
 -- The alerts that a query of a board lists.
-use Rattle.std.specs.Prelude.{ℕ, ◌+◌, Bool, true, ◌&&◌, ◌||◌, ◌==◌, nat_le, nat_lt, if◌then◌else◌, List, [], ◌∷◌, ◌++◌, length, map, find, Option, Some, None, unwrap_or}
-use Rattle.std.specs.List.{list_any, flat_map}
+use Rattle.std.specs.Prelude.{ℕ, Bool, true, ◌&&◌, ◌||◌, ◌==◌, nat_le, nat_lt, if◌then◌else◌, List, [], ◌∷◌, length, map, find, Option, Some, None, unwrap_or}
+use Rattle.std.specs.List.{list_any, filter_map}
 use Rattle.std.specs.Option.{option_map, option_and_then, is_none}
 use Rattle.rt_types.specs.declared.alert.Alert.{Alert}
 use Rattle.rt_types.specs.declared.alert.Period.{Period}
@@ -8,11 +8,10 @@ use Rattle.rt_types.specs.declared.alert.Selector.{Selector}
 use Rattle.rt_types.specs.declared.alert.Translated.{Translated}
 use Rattle.rt_types.specs.declared.alert.Translation.{Translation}
 use Rattle.feed_defs.specs.Enums.{cause_number, effect_number}
-use Rattle.feed_defs.specs.History.{Change}
-use Rattle.sched_types.specs.declared.plans.NamedFeed.{NamedFeed}
 use Rattle.sched_types.specs.Schedules.{Schedules}
 use Rattle.sched_types.specs.Timetable.{Timetable, number_of}
 use Rattle.board_defs.specs.declared.query.BoardQuery.{BoardQuery}
+use Rattle.board_defs.specs.Feeds.{HeldEntity, counts_at, schedule_entities}
 use Rattle.board_defs.specs.Fold.{FeedFold}
 use Rattle.board_defs.specs.Rows.{BoardRow, board, timetable_in}
 use Rattle.alert_defs.specs.declared.rows.AlertRow.{AlertRow}
@@ -68,10 +67,10 @@ abbrev pub header_of : Option Translated → List ℕ
 header_of None = []
 header_of (Some translated) = text_among translated.translation
 
-abbrev pub alert_row : ℕ → List ℕ → Alert → AlertRow
-alert_row feed id alert = record {
-  feed = feed;
-  id = id;
+abbrev pub alert_row : HeldEntity → Alert → AlertRow
+alert_row held alert = record {
+  feed = held.number;
+  id = held.stored.entity.id;
   cause = option_map cause_number alert.cause;
   effect = option_map effect_number alert.effect;
   header = header_of alert.header_text;
@@ -79,38 +78,27 @@ alert_row feed id alert = record {
 
 -- ---- the list
 
--- the row of an entity that has an alert, where it is active and touches what is asked for
-abbrev pub row_of_alert : Timetable → ℕ → ℕ → List Touched → ℕ → Change → Option Alert
+-- an alert that counts, by the stamp of its message, and is active
+abbrev pub is_current : ℕ → HeldEntity → Alert → Bool
+is_current at held alert =
+    counts_at held.feed.max_age held.stored.stamp at && is_active alert at
+
+-- the row of an entity that has an alert, where that is current and touches what is asked for
+abbrev pub row_of_alert : Timetable → ℕ → ℕ → List Touched → HeldEntity → Option Alert
     → Option AlertRow
-row_of_alert t at stop rows feed change None = None
-row_of_alert t at stop rows feed change (Some alert) =
-    if is_active alert at && concerns t alert change.1.stamp stop rows
-    then Some (alert_row feed change.0 alert) else None
+row_of_alert t at stop rows held None = None
+row_of_alert t at stop rows held (Some alert) =
+    if is_current at held alert && concerns t alert held.stored.stamp stop rows
+    then Some (alert_row held alert) else None
 
-abbrev pub row_of_change : Timetable → ℕ → ℕ → List Touched → ℕ → Change → Option AlertRow
-row_of_change t at stop rows feed change =
-    row_of_alert t at stop rows feed change change.1.entity.alert
-
--- something of each entity that the feeds of a schedule hold, by feed and then by id; the feeds are
--- numbered from `first` on
-unfoldable pub over_feeds : {A : Type 0} → (ℕ → Change → List A) → ℕ → ℕ → List NamedFeed
-    → List FeedFold → List A
-over_feeds each plan first [] folds = []
-over_feeds each plan first (feed ∷ feeds) [] = []
-over_feeds each plan first (feed ∷ feeds) (fold ∷ folds) =
-    (if feed.plan == plan then flat_map (each first) fold.entities else [])
-    ++ over_feeds each plan (first + 1) feeds folds
-
--- at most one of a kind
-abbrev pub listed : {A : Type 0} → Option A → List A
-listed None = []
-listed (Some x) = x ∷ []
+abbrev pub row_of_entity : Timetable → ℕ → ℕ → List Touched → HeldEntity → Option AlertRow
+row_of_entity t at stop rows held = row_of_alert t at stop rows held held.stored.entity.alert
 
 abbrev pub alerts_at : Timetable → Schedules → List FeedFold → BoardQuery → List Touched → ℕ
     → List AlertRow
 alerts_at t schedules folds query rows stop =
-    over_feeds (λ feed change. listed (row_of_change t query.at stop rows feed change))
-    query.plan 0 schedules.feeds folds
+    filter_map (row_of_entity t query.at stop rows)
+    (schedule_entities query.plan schedules.feeds folds)
 
 abbrev pub alerts_in : Timetable → Schedules → List FeedFold → BoardQuery → List BoardRow
     → Option (List AlertRow)
@@ -123,7 +111,7 @@ abbrev pub alerts_beside : Option Timetable → Schedules → List FeedFold → 
 alerts_beside None schedules folds query rows = None
 alerts_beside (Some t) schedules folds query rows = alerts_in t schedules folds query rows
 
--- The alerts that are active at the query's moment and touch its stop or one of the rows of its
+-- The alerts that count and are active at the query's moment and touch its stop or one of the rows of its
 -- board, by feed and id; None where no row of stops.txt has the asked id.
 unfoldable pub alerts : Schedules → List FeedFold → BoardQuery → Option (List AlertRow)
 alerts schedules folds query =

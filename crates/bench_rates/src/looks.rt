@@ -7,7 +7,7 @@ use crate::Tally;
 use crate::intake::ingested;
 use crate::messages::one_feed;
 use crate::words::Task;
-use board_core::{HubView, Oracle};
+use board_parts::{HubView, Oracle};
 use hub_shared::{Opened, close_hub, open_hub};
 use snapshot_cell::Pass;
 use std::alloc::{AllocError as NoMemory, Global};

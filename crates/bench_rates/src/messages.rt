@@ -26,11 +26,12 @@ pub fn one_feed(alloc: Global) -> Result<Arc<Plans>, NoMemory>
 }
 
 fn feed(alloc: Global, name: &str) -> Result<NamedFeed, NoMemory>
-    ensures { IfOk result (λ feed. feed ≡ record { name = name.now; plan = 0 }) }
+    ensures { IfOk result (λ feed. feed ≡ record { name = name.now; plan = 0; max_age = 0 }) }
 {
     Ok(NamedFeed {
         name: PlanName::new(alloc, name)?,
         plan: 0,
+        max_age: 0,
     })
 }
 

@@ -1,5 +1,2 @@
-pub mod Lists
-pub mod Gathered
 pub mod Outdone
 pub mod Adding
-pub mod Relations

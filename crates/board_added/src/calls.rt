@@ -1,19 +1,18 @@
 //! At which stops an added trip calls, and when.
 
-ghost use Rattle.std.specs.Prelude.{◌≡◌, ◌<◌, length, IfOk, IfSome};
+ghost use Rattle.std.specs.Prelude.{◌≡◌, ◌<◌, IfOk, IfSome};
 ghost use Rattle.std.specs.List.{All};
-ghost use Rattle.std.specs.Option.{option_or, option_and_then};
-ghost use Rattle.sched_types.specs.Timetable.{number_of};
 ghost use Rattle.delay_rule_defs.specs.Delays.{relation_of};
 ghost use Rattle.board_defs.specs.Rows as rule;
 ghost use Rattle.board_added.specs.Added.{IsCall};
 
 use crate::NoMemory;
 use board_defs::Call;
-use rt_types::{Event, StopRelation, StopUpdate, Text, TripUpdate};
+use board_parts::stop_named;
+use rt_types::{Event, StopRelation, StopUpdate, TripUpdate};
 use sched_types::Plan;
 use std::alloc::Global;
-use texts::LAST_MOMENT;
+use texts::is_instant;
 
 /// The time that an event tells, where it is a moment, in seconds since 1970.
 fn moment_of(event: &Option<Event>) -> Option<i64>
@@ -21,7 +20,7 @@ fn moment_of(event: &Option<Event>) -> Option<i64>
 {
     match event {
         Some(event) => match event.time {
-            Some(time) if 1 <= time && time <= LAST_MOMENT as i64 => Some(time),
+            Some(time) if is_instant(time) => Some(time),
             _ => None,
         },
         None => None,
@@ -45,17 +44,6 @@ fn is_served(update: &StopUpdate) -> bool
     match update.relation.unwrap_or(StopRelation::Scheduled) {
         StopRelation::Scheduled => true,
         StopRelation::Skipped | StopRelation::NoData | StopRelation::Unscheduled => false,
-    }
-}
-
-/// The number of the stop of that stop_id, if it is in stops.txt.
-fn stop_named(plan: &Plan, id: &Option<Text>) -> Option<u32>
-    ensures value { result ≡ option_and_then (number_of (λ stop. stop.id) plan.now.stops) id.now }
-    ensures within { IfSome result (λ stop. stop < length plan.now.stops) }
-{
-    match id {
-        Some(id) => plan.stop_of(id.as_str()),
-        None => None,
     }
 }
 

@@ -7,10 +7,10 @@ ghost use Rattle.board_defs.specs.Choice as choosing;
 ghost use Rattle.board_defs.specs.Rows.{route_named};
 ghost use Rattle.board_added.specs.Added.{as_row, row_by, IsThere};
 
-use crate::window::{is_asked, is_within};
 use alert_select::AddedKey;
 use board_defs::{BoardQuery, Call};
-use rt_types::{Text, TripRef};
+use board_parts::{is_asked, is_within, route_named, text_of};
+use rt_types::TripRef;
 use sched_types::Plan;
 
 /// A row of an added trip.
@@ -24,27 +24,6 @@ pub struct AddedRow<'a> {
     pub place: usize,
     /// The number of the stop.
     pub stop: u32,
-}
-
-/// A text; empty where it is absent.
-pub(crate) fn text_of(text: &Option<Text>) -> &str
-    ensures { result.now ≡ choosing.text_or_none text.now }
-{
-    match text {
-        Some(text) => text.as_str(),
-        None => "",
-    }
-}
-
-/// The number of the route of that route_id, if it is in routes.txt.
-fn route_named(plan: &Plan, id: &Option<Text>) -> Option<u32>
-    ensures value { result ≡ route_named plan.now id.now }
-    ensures within { IfSome result (λ route. route < length plan.now.routes) }
-{
-    match id {
-        Some(id) => plan.route_of(id.as_str()),
-        None => None,
-    }
 }
 
 /// Which added trip a descriptor tells.

@@ -1,6 +1,6 @@
-//! The texts of rows.
+//! The texts of rows of added trips.
 
-ghost use Rattle.std.specs.Prelude.{◌≡◌, ◌<◌, Some, length, slice_get, IfOk, IfSome};
+ghost use Rattle.std.specs.Prelude.{◌≡◌, ◌<◌, length, slice_get, IfOk, IfSome};
 ghost use Rattle.std.specs.Option.{option_and_then};
 ghost use Rattle.board_defs.specs.Rows as rule;
 ghost use Rattle.board_added.specs.Added.{as_row, IsThere};
@@ -8,29 +8,10 @@ ghost use Rattle.board_added.specs.Added.{as_row, IsThere};
 use crate::NoMemory;
 use crate::row::AddedRow;
 use board_defs::{Row, RowState};
+use board_parts::{route_name, stop_id};
 use rt_types::Text;
-use sched_types::{Plan, Route};
+use sched_types::Plan;
 use std::alloc::Global;
-
-/// The short name of a route, else its long name.
-pub fn route_name(route: &Route) -> &str
-    ensures { result.now ≡ rule.route_name (Some route.now) }
-{
-    let short = route.short.as_str();
-    if short == "" {
-        route.long.as_str()
-    } else {
-        short
-    }
-}
-
-/// The id of a stop.
-pub fn stop_id(plan: &Plan, stop: u32) -> &str
-    requires { stop < length plan.now.stops }
-    ensures { result.now ≡ rule.stop_id_of plan.now stop }
-{
-    plan.stop(stop).id.as_str()
-}
 
 /// The name of an added trip's route; empty where it has none.
 fn name_of(plan: &Plan, route: Option<u32>) -> &str

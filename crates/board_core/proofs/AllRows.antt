@@ -10,11 +10,11 @@ use Rattle.sched_types.specs.declared.rows.Run.{Run}
 use Rattle.sched_types.specs.Timetable.{Timetable, is_run, places_of}
 use Rattle.board_defs.specs.Choice.{Update, chosen}
 use Rattle.board_defs.specs.Rows.{BoardRow, RunOf, Shown, all_runs, run_rows, place_row, row_of, shown_at, departures_of, is_within, is_asked, may_board, stands_at}
-use Rattle.board_core.specs.Told.{Told, update_for, AreChoices}
+use Rattle.board_core.specs.RunUpdates.{UpdateOfRun, update_for, AreChoices}
 use Rattle.board_core.specs.Departures.{shown_with, in_window, row_by, rows_at, rows_of_run, run_on, rows_on_day, counts_at, calls_at, rows_there}
 use Rattle.board_core.specs.declared.departure.Asked.{Asked}
 use Rattle.board_core.proofs.Choices.{choice_is}
-use Rattle.board_added.proofs.Lists.{kept, filter_each, filter_flat}
+use Rattle.board_parts.proofs.Lists.{kept, filter_each, filter_flat}
 
 -- ---- lists
 
@@ -60,11 +60,11 @@ module _ (t : Timetable) (asked : Asked) where
 
   -- ---- a run
 
-  module _ (updates : List Update) (told : List Told) (choices : AreChoices t updates told) where
-    run_is : (run : Run) → rows_of_run t asked told run ≡ (if is_run t run then filter within (run_rows t asked.stop updates run) else [])
+  module _ (updates : List Update) (of_runs : List UpdateOfRun) (choices : AreChoices t updates of_runs) where
+    run_is : (run : Run) → rows_of_run t asked of_runs run ≡ (if is_run t run then filter within (run_rows t asked.stop updates run) else [])
     unfolding run_rows
     run_is run =
-        ap (λ u. if is_run t run then rows_at t asked run (shown_with t run u) (departures_of t run.trip) else []) (choice_is t run updates told choices)
+        ap (λ u. if is_run t run then rows_at t asked run (shown_with t run u) (departures_of t run.trip) else []) (choice_is t run updates of_runs choices)
         ∙ ap (λ rows. if is_run t run then rows else [])
         (filter_each within (place_row t asked.stop run (chosen t updates run)) (λ pair. row_by t asked run (shown_with t run (option_map (λ x. x.update) (chosen t updates run)) pair.0) pair)
         (departures_of t run.trip) (row_is run (chosen t updates run)))
@@ -87,10 +87,10 @@ module _ (t : Timetable) (asked : Asked) where
         parts.0
         ∙ no_rows run shown places (n + 1) m parts.1
 
-    no_calls : (run : Run) → calls_at t asked.stop run.trip ≡ false → rows_of_run t asked told run ≡ []
+    no_calls : (run : Run) → calls_at t asked.stop run.trip ≡ false → rows_of_run t asked of_runs run ≡ []
     no_calls run none = by_test (is_run t run) where
-      by_test : (b : Bool) → (if b then rows_at t asked run (shown_with t run (update_for told run)) (departures_of t run.trip) else []) ≡ []
-      by_test true = no_rows run (shown_with t run (update_for told run)) (places_of t run.trip) 0 (length (places_of t run.trip) - 1) none
+      by_test : (b : Bool) → (if b then rows_at t asked run (shown_with t run (update_for of_runs run)) (departures_of t run.trip) else []) ≡ []
+      by_test true = no_rows run (shown_with t run (update_for of_runs run)) (places_of t run.trip) 0 (length (places_of t run.trip) - 1) none
       by_test false = refl
 
     -- ---- all days
@@ -102,12 +102,12 @@ module _ (t : Timetable) (asked : Asked) where
         ∙ ap (λ rows. rows ++ flat_map F (flat_map (λ day. map (run_on day) trips) days)) (flat_map-map F (run_on day) trips)
         ∙ ap (λ rows. flat_map (λ trip. F (run_on day trip)) trips ++ rows) (days_flat F trips days)
 
-    pub rows_are : rows_there t asked told ≡ filter within (flat_map (run_rows t asked.stop updates) (all_runs t))
+    pub rows_are : rows_there t asked of_runs ≡ filter within (flat_map (run_rows t asked.stop updates) (all_runs t))
     unfolding all_runs
     rows_are =
         let trips = range_with_len 0 (length t.trips) in
         let days = range_with_len 0 (length t.bases) in
-        flat_same (rows_on_day t asked told (filter (calls_at t asked.stop) trips)) (rows_on_day t asked told trips) days
-        (λ day. flat_filter (λ trip. rows_of_run t asked told (run_on day trip)) (calls_at t asked.stop) trips (λ trip none. no_calls (run_on day trip) none))
-        ∙ sym (days_flat (rows_of_run t asked told) trips days)
-        ∙ filter_flat within (is_run t) (run_rows t asked.stop updates) (rows_of_run t asked told) (flat_map (λ day. map (run_on day) trips) days) run_is
+        flat_same (rows_on_day t asked of_runs (filter (calls_at t asked.stop) trips)) (rows_on_day t asked of_runs trips) days
+        (λ day. flat_filter (λ trip. rows_of_run t asked of_runs (run_on day trip)) (calls_at t asked.stop) trips (λ trip none. no_calls (run_on day trip) none))
+        ∙ sym (days_flat (rows_of_run t asked of_runs) trips days)
+        ∙ filter_flat within (is_run t) (run_rows t asked.stop updates) (rows_of_run t asked of_runs) (flat_map (λ day. map (run_on day) trips) days) run_is

@@ -1,36 +1,37 @@
 -- The first rows in order are those of the board, and the board is that of the asked stop.
-use Rattle.std.proofs.Common.{◌≡◌, ℕ, zero, suc, ◌<◌, Bool, append-nil, Option, Some, None, List, [], ◌∷◌, ◌++◌, length, map, take, filter, get_or, refl, sym, ap, subst, ◌∙◌}
+use Rattle.std.proofs.Common.{◌≡◌, ℕ, zero, suc, Bool, append-nil, Option, Some, None, List, [], ◌∷◌, ◌++◌, length, map, take, filter, refl, sym, ap, subst, ◌∙◌}
 use Rattle.std.specs.Prelude.{Result, Ok, Err, IfOk}
 use Rattle.std.specs.List.{All, AllByRecursion, flat_map}
 use Rattle.std.specs.Option.{option_map}
 use Rattle.std.proofs.lemmas.List.{map-append}
 use Rattle.std.proofs.lemmas.List.Elements.{All-from_recursion, recursion_from_All, All-take, filter-append}
-use Rattle.std.proofs.lemmas.Option.{slice_get-get_or}
 use Rattle.feed_defs.specs.declared.history.Entry.{Entry}
-use Rattle.sched_types.specs.declared.plans.NamedFeed.{NamedFeed}
-use Rattle.sched_types.specs.declared.plans.NamedPlan.{NamedPlan}
 use Rattle.sched_types.specs.Schedules.{Schedules}
 use Rattle.sched_types.specs.Timetable.{Timetable, IsTimetable, number_of}
 use Rattle.order.specs.Order.{ordered}
 use Rattle.board_defs.specs.declared.query.BoardQuery.{BoardQuery}
 use Rattle.board_defs.specs.declared.row.Row.{Row}
-use Rattle.board_defs.specs.Choice.{Update, updates_at}
-use Rattle.board_defs.specs.Fold.{fold_of}
-use Rattle.board_defs.specs.Rows.{BoardRow, row_cmp, all_runs, run_rows, added_rows, is_within, board_at, board_in, board_of, board, timetable_in, rows}
-use Rattle.board_defs.specs.Views.{FeedKept, HubKept, StandsFor, folds_of}
+use Rattle.board_defs.specs.Choice.{Update, updates_at, added_updates, not_outdone}
+use Rattle.board_defs.specs.Fold.{FeedFold, fold_of}
+use Rattle.board_defs.specs.Rows.{BoardRow, row_cmp, all_runs, run_rows, added_rows, added_trip_rows, is_within, board_at, board_in, board_of, board, timetable_in, rows}
+use Rattle.board_defs.specs.Views.{HubKept, StandsFor, folds_of}
 use Rattle.alert_defs.specs.Alerts.{touched_as}
 use Rattle.alert_select.specs.declared.subject.Subject.{Subject}
 use Rattle.alert_select.specs.Subjects.{touched_by, IsWithin}
-use Rattle.board_core.specs.declared.departure.Departure.{Departure}
-use Rattle.board_core.specs.Answers.{AreAbout, AreOfBoard}
+use Rattle.board_parts.specs.Appended.{Become}
+use Rattle.board_parts.proofs.Lists.{map_twice}
 use Rattle.board_added.specs.declared.row.AddedRow.{AddedRow}
 use Rattle.board_added.specs.Added as others
+use Rattle.board_core.specs.declared.departure.Departure.{Departure}
 use Rattle.board_core.specs.declared.departure.Asked.{Asked}
 use Rattle.board_core.specs.declared.line.Line.{Line}
 use Rattle.board_core.specs.declared.line.Line.TheVariants as line
-use Rattle.board_core.specs.Departures.{as_row, IsThere, departure_cmp, rows_there, Adds}
-use Rattle.board_core.specs.Lines.{line_row, line_cmp, date_texts, subject_of, IsInPlan, Become}
-use Rattle.board_core.specs.Told.{Told, AreChoices}
+use Rattle.board_core.specs.declared.run_updates.Updates.{Updates}
+use Rattle.board_core.specs.Answers.{AreAbout, AreOfBoard}
+use Rattle.board_core.specs.Departures.{as_row, IsThere, departure_cmp, rows_there}
+use Rattle.board_core.specs.Found.{AreUpdates}
+use Rattle.board_core.specs.Lines.{line_row, line_cmp, date_texts, subject_of, IsInPlan}
+use Rattle.board_core.specs.RunUpdates.{UpdateOfRun}
 use Rattle.board_core.proofs.AllRows.{rows_are}
 use Rattle.board_core.proofs.OrderedMap.{each_ordered, map_ordered}
 use Rattle.board_core.proofs.RowOrder.{rows_order, lines_order}
@@ -40,28 +41,10 @@ pub if_ok_same : {X Y E : Type 0} (r : Result X E) (f : X → Y) (a b : Y) → a
 if_ok_same (Ok x) f a b e is = is ∙ e
 if_ok_same (Err x) f a b e is = tt
 
-map_twice : {X Y Z : Type 0} (f : X → Y) (g : Y → Z) (xs : List X) → map (λ x. g (f x)) xs ≡ map g (map f xs)
-map_twice f g [] = refl
-map_twice f g (x ∷ xs) = ap (λ ys. g (f x) ∷ ys) (map_twice f g xs)
-
 map_first : {X Y : Type 0} (f : X → Y) (n : ℕ) (xs : List X) → map f (take n xs) ≡ take n (map f xs)
 map_first f zero xs = refl
 map_first f (suc n) [] = refl
 map_first f (suc n) (x ∷ xs) = ap (λ ys. f x ∷ ys) (map_first f n xs)
-
-module _ (t : Timetable) (all : List Departure) (become : List BoardRow) (adds : Adds t [] all become) where
-  all_there : All (IsThere t) all
-  all_there = let P : List Departure → Type 0 = λ ds. All (IsThere t) ds in subst P (sym adds.whole) adds.there
-
-  all_become : map (as_row t) all ≡ become
-  all_become = ap (map (as_row t)) adds.whole ∙ adds.become
-
-  -- they are of the timetable, and become the rows that are there
-  pub runs_there : All (IsThere t) all
-  runs_there = all_there
-
-  pub runs_become : map (as_row t) all ≡ become
-  runs_become = all_become
 
 module _ (t : Timetable) (sound : IsTimetable t) (runs : List Departure) (limit : ℕ) (there : All (IsThere t) runs) where
   abbrev all_recursive : AllByRecursion (IsThere t) runs
@@ -75,7 +58,7 @@ module _ (t : Timetable) (sound : IsTimetable t) (runs : List Departure) (limit 
         (All-take (IsThere t) limit (ordered departure_cmp runs)
         (All-from_recursion (IsThere t) (ordered departure_cmp runs) (each_ordered (as_row t) departure_cmp row_cmp (IsThere t) runs all_recursive)))
 
-    pub runs_first : Become t lines (take limit (ordered row_cmp (map (as_row t) runs ++ map (others.as_row t) added)))
+    pub runs_first : Become (line_row t) (IsInPlan t) lines (take limit (ordered row_cmp (map (as_row t) runs ++ map (others.as_row t) added)))
     runs_first = record {
       become =
           ap (map (line_row t)) as_lines
@@ -115,7 +98,7 @@ module _ (t : Timetable) (sound : IsTimetable t) (runs : List Departure) (limit 
         ∙ ap (λ xs. xs ++ map (line_row t) (map line.Added added)) (sym (map_twice line.Run (line_row t) runs))
         ∙ ap (λ xs. map (as_row t) runs ++ xs) (sym (map_twice line.Added (line_row t) added))
 
-    both_first : (first : List Line) → first ≡ take limit (ordered (line_cmp t (date_texts t)) lines) → Become t first (take limit (ordered row_cmp (map (as_row t) runs ++ map (others.as_row t) added)))
+    both_first : (first : List Line) → first ≡ take limit (ordered (line_cmp t (date_texts t)) lines) → Become (line_row t) (IsInPlan t) first (take limit (ordered row_cmp (map (as_row t) runs ++ map (others.as_row t) added)))
     both_first first is = record {
       become =
           ap (map (line_row t)) is
@@ -132,21 +115,21 @@ module _ (t : Timetable) (sound : IsTimetable t) (runs : List Departure) (limit 
     }
 
     pub both_answered : {X E : Type 0} (r : Result X E) (f : X → List Line) → IfOk r (λ x. f x ≡ take limit (ordered (line_cmp t (date_texts t)) lines))
-        → IfOk r (λ x. Become t (f x) (take limit (ordered row_cmp (map (as_row t) runs ++ map (others.as_row t) added))))
+        → IfOk r (λ x. Become (line_row t) (IsInPlan t) (f x) (take limit (ordered row_cmp (map (as_row t) runs ++ map (others.as_row t) added))))
     both_answered (Ok x) f is = both_first (f x) is
     both_answered (Err e) f is = tt
 
   pub runs_answered : {X E : Type 0} (r : Result X E) (f : X → List Line) (first slice : List Departure) (added : List AddedRow) → added ≡ [] → first ≡ take limit (ordered departure_cmp runs) → slice ≡ first
-      → IfOk r (λ x. f x ≡ map line.Run slice) → IfOk r (λ x. Become t (f x) (take limit (ordered row_cmp (map (as_row t) runs ++ map (others.as_row t) added))))
+      → IfOk r (λ x. f x ≡ map line.Run slice) → IfOk r (λ x. Become (line_row t) (IsInPlan t) (f x) (take limit (ordered row_cmp (map (as_row t) runs ++ map (others.as_row t) added))))
   runs_answered (Ok x) f first slice added none is same as_lines = runs_first first slice (f x) added none is same as_lines
   runs_answered (Err e) f first slice added none is same as_lines = tt
 
 -- the same of rows that are equal
-pub become_same : {X E : Type 0} (r : Result X E) (f : X → List Line) (t : Timetable) (a b : List BoardRow) → a ≡ b → IfOk r (λ x. Become t (f x) a) → IfOk r (λ x. Become t (f x) b)
-become_same (Ok x) f t a b e is = record { become = is.become ∙ e; there = is.there }
-become_same (Err e) f t a b same is = tt
+pub rows_same : {X E : Type 0} (r : Result X E) (f : X → List Line) (t : Timetable) (a b : List BoardRow) → a ≡ b → IfOk r (λ x. Become (line_row t) (IsInPlan t) (f x) a) → IfOk r (λ x. Become (line_row t) (IsInPlan t) (f x) b)
+rows_same (Ok x) f t a b e is = record { become = is.become ∙ e; there = is.there }
+rows_same (Err e) f t a b same is = tt
 
-module _ (t : Timetable) (slice first : List Line) (rows : List BoardRow) (same : slice ≡ first) (are : Become t first rows) where
+module _ (t : Timetable) (slice first : List Line) (rows : List BoardRow) (same : slice ≡ first) (are : Become (line_row t) (IsInPlan t) first rows) where
   -- lines of the timetable are given on
   pub there_given : All (IsInPlan t) slice
   there_given = let P : List Line → Type 0 = λ ls. All (IsInPlan t) ls in subst P (sym same) are.there
@@ -176,81 +159,57 @@ module _ (t : Timetable) (slice first : List Line) (rows : List BoardRow) (same 
       }
 
 -- an answer that is what they are about
-pub subjects_answered : {X E : Type 0} (r : Result X E) (f : X → List Subject) (t : Timetable) (slice first : List Line) (rows : List BoardRow) → slice ≡ first → Become t first rows
+pub subjects_answered : {X E : Type 0} (r : Result X E) (f : X → List Subject) (t : Timetable) (slice first : List Line) (rows : List BoardRow) → slice ≡ first → Become (line_row t) (IsInPlan t) first rows
     → IfOk r (λ x. f x ≡ map subject_of slice) → IfOk r (λ x. AreAbout t rows (f x))
 subjects_answered (Ok x) f t slice first rows same are is = subjects_are t slice first rows same are (f x) is
 subjects_answered (Err e) f t slice first rows same are is = tt
 
--- rows of added trips are given on
-pub rows_same : (t : Timetable) (slice added : List AddedRow) (rows : List BoardRow) → slice ≡ added → others.AreRows t added rows → others.AreRows t slice rows
-rows_same t slice added rows same are = let P : List AddedRow → Type 0 = λ xs. others.AreRows t xs rows in subst P (sym same) are
-
 -- the first rows in order are those of the board
-pub board_is : (t : Timetable) (stop : ℕ) (query : BoardQuery) (updates : List Update) (slice told : List Told) (runs : List Departure) (added : List AddedRow) → slice ≡ told → AreChoices t updates told
-    → Adds t [] runs (rows_there t (record { stop = stop; at = query.at; span = query.span }) slice)
-    → others.AreRows t added (filter (is_within query.at query.span) (added_rows t stop updates))
+pub board_is : (t : Timetable) (stop : ℕ) (query : BoardQuery) (updates : List Update) (found : Updates) (slice : List UpdateOfRun) (others_slice : List Update) (runs : List Departure) (added : List AddedRow)
+    → AreUpdates t updates found → slice ≡ found.of_runs.items → others_slice ≡ found.added.items
+    → map (as_row t) runs ≡ rows_there t (record { stop = stop; at = query.at; span = query.span }) slice
+    → map (others.as_row t) added ≡ filter (is_within query.at query.span) (flat_map (added_trip_rows t stop) (not_outdone others_slice))
     → take query.limit (ordered row_cmp (map (as_row t) runs ++ map (others.as_row t) added)) ≡ board_at t stop updates query
-unfolding board_at
-board_is t stop query updates slice told runs added same choices adds are =
+unfolding board_at added_updates
+board_is t stop query updates found slice others_slice runs added are its its_added of_runs of_added =
     let asked : Asked = record { stop = stop; at = query.at; span = query.span } in
     let within : BoardRow → Bool = λ row. is_within query.at query.span row in
-    let its : map (as_row t) runs ≡ filter within (flat_map (run_rows t stop updates) (all_runs t)) =
-    runs_become t runs (rows_there t asked slice) adds ∙ ap (rows_there t asked) same ∙ rows_are t asked updates told choices in
-    ap (λ xs. take query.limit (ordered row_cmp (xs ++ map (others.as_row t) added))) its
-    ∙ ap (λ xs. take query.limit (ordered row_cmp (filter within (flat_map (run_rows t stop updates) (all_runs t)) ++ xs))) are.become
+    let by_runs : map (as_row t) runs ≡ filter within (flat_map (run_rows t stop updates) (all_runs t)) =
+    of_runs ∙ ap (rows_there t asked) its ∙ rows_are t asked updates found.of_runs.items are.runs in
+    let by_added : map (others.as_row t) added ≡ filter within (added_rows t stop updates) =
+    of_added ∙ ap (λ us. filter within (flat_map (added_trip_rows t stop) (not_outdone us))) (its_added ∙ are.added) in
+    ap (λ xs. take query.limit (ordered row_cmp (xs ++ map (others.as_row t) added))) by_runs
+    ∙ ap (λ xs. take query.limit (ordered row_cmp (filter within (flat_map (run_rows t stop updates) (all_runs t)) ++ xs))) by_added
     ∙ ap (λ xs. take query.limit (ordered row_cmp xs)) (sym (filter-append within (flat_map (run_rows t stop updates) (all_runs t)) (added_rows t stop updates)))
 
-module _ (kept : HubKept) (query : BoardQuery) (schedules : Schedules) (plans : List NamedPlan) (none : NamedPlan) (text : List ℕ)
-    (whole : schedules ≡ kept.plans) (its_plans : plans ≡ schedules.plans) (within : query.plan < length kept.plans.plans) (asked : text ≡ query.stop) where
-  -- the timetable of that number
-  abbrev named : NamedPlan
-  named = get_or plans query.plan none
-
-  timetable_is : timetable_in kept.plans query.plan ≡ Some named.plan
-  timetable_is =
-      ap (option_map (λ n. n.plan))
-      (slice_get-get_or kept.plans.plans query.plan none within
-      ∙ ap (λ xs. Some (get_or xs query.plan none)) (sym (its_plans ∙ ap (λ s. s.plans) whole)))
-
-  board_by : (found : Option ℕ) → found ≡ number_of (λ stop. stop.id) named.plan.stops text → board kept.plans (folds_of kept) query ≡ board_in named.plan (updates_at query.plan query.at kept.plans.feeds (folds_of kept)) query found
+module _ (schedules : Schedules) (folds : List FeedFold) (query : BoardQuery) (t : Timetable) (plan_is : timetable_in schedules query.plan ≡ Some t) where
+  -- the board of that timetable, at the stop of the asked id
+  pub board_by : (found : Option ℕ) → found ≡ number_of (λ row. row.id) t.stops query.stop → board schedules folds query ≡ board_in t (updates_at query.plan query.at schedules.feeds folds) query found
   unfolding board
   board_by found is =
-      ap (board_of kept.plans (folds_of kept) query) timetable_is
-      ∙ ap (board_in named.plan (updates_at query.plan query.at kept.plans.feeds (folds_of kept)) query)
-      (ap (number_of (λ stop. stop.id) named.plan.stops) (sym asked) ∙ sym is)
+      ap (board_of schedules folds query) plan_is
+      ∙ ap (board_in t (updates_at query.plan query.at schedules.feeds folds) query) (sym is)
 
   -- no row of stops.txt has the asked id
-  pub no_board : None ≡ number_of (λ stop. stop.id) named.plan.stops text → board kept.plans (folds_of kept) query ≡ None
-  no_board is = board_by None is
+  pub no_rows : None ≡ number_of (λ row. row.id) t.stops query.stop → rows schedules folds query ≡ None
+  no_rows is = ap (option_map (map (λ b. b.row))) (board_by None is)
 
-  pub no_rows : None ≡ number_of (λ stop. stop.id) named.plan.stops text → rows kept.plans (folds_of kept) query ≡ None
-  no_rows is = ap (option_map (map (λ b. b.row))) (no_board is)
-
-  module _ (stop : ℕ) (feeds : List NamedFeed) (views : List FeedKept) (is : Some stop ≡ number_of (λ stop. stop.id) named.plan.stops text)
-      (its_feeds : feeds ≡ schedules.feeds) (its_views : views ≡ kept.feeds) where
+  module _ (stop : ℕ) (is : Some stop ≡ number_of (λ row. row.id) t.stops query.stop) where
     abbrev board_there : List BoardRow
-    board_there = board_at named.plan stop (updates_at query.plan query.at feeds (map (λ feed. feed.fold) views)) query
-
-    -- the board at the stop with the asked id
-    board_found : board kept.plans (folds_of kept) query ≡ Some board_there
-    board_found =
-        board_by (Some stop) is
-        ∙ ap Some
-        (sym (ap (λ xs. board_at named.plan stop (updates_at query.plan query.at xs (map (λ feed. feed.fold) views)) query) (its_feeds ∙ ap (λ s. s.feeds) whole)
-        ∙ ap (λ xs. board_at named.plan stop (updates_at query.plan query.at kept.plans.feeds (map (λ feed. feed.fold) xs)) query) its_views))
+    board_there = board_at t stop (updates_at query.plan query.at schedules.feeds folds) query
 
     -- its rows
-    pub rows_found : (items : List Row) → items ≡ map (λ b. b.row) board_there → rows kept.plans (folds_of kept) query ≡ Some items
-    rows_found items told = ap (option_map (map (λ b. b.row))) board_found ∙ ap Some (sym told)
+    pub rows_found : (items : List Row) → items ≡ map (λ b. b.row) board_there → rows schedules folds query ≡ Some items
+    rows_found items shown = ap (option_map (map (λ b. b.row))) (board_by (Some stop) is) ∙ ap Some (sym shown)
 
     -- and what they are about
-    pub subjects_found : (subjects : List Subject) → AreAbout named.plan board_there subjects → AreOfBoard kept.plans (folds_of kept) query subjects
+    pub subjects_found : (subjects : List Subject) → AreAbout t board_there subjects → AreOfBoard schedules folds query subjects
     subjects_found subjects about = record {
       rows = board_there;
-      defined = board_found;
+      defined = board_by (Some stop) is;
       touched = about.touched;
-      within = λ t at.
-          let one : named.plan ≡ t = some_one (sym timetable_is ∙ at) in
+      within = λ other at.
+          let one : t ≡ other = some_one (sym plan_is ∙ at) in
           let P : Timetable → Type 0 = λ x. All (IsWithin x) subjects in
           subst P one about.within;
     } where

@@ -1,5 +1,5 @@
 -- The rows of a board before their texts are made.
-use Rattle.std.specs.Prelude.{◌≡◌, ℕ, ◌<◌, ◌&&◌, Bool, if◌then◌else◌, List, [], ◌++◌, length, map, filter, slice_get, Option, Some, None, unwrap_or, IfSome}
+use Rattle.std.specs.Prelude.{◌≡◌, ℕ, ◌<◌, ◌&&◌, Bool, if◌then◌else◌, List, [], length, filter, slice_get, Option, Some, None, unwrap_or, IfSome}
 use Rattle.std.specs.List.{All, filter_map, flat_map, list_any, range_with_len}
 use Rattle.std.specs.Option.{option_map, option_and_then}
 use Rattle.std.specs.Ordering.{int_cmp, nat_cmp, ordering_then}
@@ -12,7 +12,7 @@ use Rattle.delay_rule_defs.specs.Delays.{states}
 use Rattle.delay_rule.specs.Near.{IsNearState}
 use Rattle.trip_match_defs.specs.Matching.{relation_of}
 use Rattle.board_defs.specs.Rows.{BoardRow, RunOf, Shown, as_scheduled, by_relation, is_within, is_asked, may_board, stands_at, departures_of, row_of, route_text, stop_id_of, date_text}
-use Rattle.board_core.specs.Told.{Told, update_for}
+use Rattle.board_core.specs.RunUpdates.{UpdateOfRun, update_for}
 use Rattle.board_core.specs.declared.departure.Asked.{Asked}
 use Rattle.board_core.specs.declared.departure.Departure.{Departure}
 use Rattle.board_core.specs.declared.known.Known.{Known}
@@ -99,20 +99,20 @@ abbrev pub rows_at : Timetable → Asked → Run → (ℕ → Option Shown) → 
 rows_at t asked run shown places =
     filter_map (λ pair. row_by t asked run (shown pair.0) pair) places
 
--- the rows of a run, of the updates that are told; none where it is no run
-abbrev pub rows_of_run : Timetable → Asked → List Told → Run → List BoardRow
-rows_of_run t asked told run =
+-- the rows of a run, by the update that counts for it; none where it is no run
+abbrev pub rows_of_run : Timetable → Asked → List UpdateOfRun → Run → List BoardRow
+rows_of_run t asked updates run =
     if is_run t run
-    then rows_at t asked run (shown_with t run (update_for told run)) (departures_of t run.trip)
+    then rows_at t asked run (shown_with t run (update_for updates run)) (departures_of t run.trip)
     else []
 
 abbrev pub run_on : ℕ → ℕ → Run
 run_on day trip = record { trip = trip; day = day }
 
 -- the rows of some trips on a day
-abbrev pub rows_on_day : Timetable → Asked → List Told → List ℕ → ℕ → List BoardRow
-rows_on_day t asked told trips day =
-    flat_map (λ trip. rows_of_run t asked told (run_on day trip)) trips
+abbrev pub rows_on_day : Timetable → Asked → List UpdateOfRun → List ℕ → ℕ → List BoardRow
+rows_on_day t asked updates trips day =
+    flat_map (λ trip. rows_of_run t asked updates (run_on day trip)) trips
 
 -- a trip has a place at the asked stop at which passengers may board
 abbrev pub counts_at : Timetable → ℕ → Place → Bool
@@ -122,15 +122,8 @@ abbrev pub calls_at : Timetable → ℕ → ℕ → Bool
 calls_at t stop trip = list_any (counts_at t stop) (places_of t trip)
 
 -- all rows of the board, in no order
-abbrev pub rows_there : Timetable → Asked → List Told → List BoardRow
-rows_there t asked told =
-    flat_map (rows_on_day t asked told
+abbrev pub rows_there : Timetable → Asked → List UpdateOfRun → List BoardRow
+rows_there t asked updates =
+    flat_map (rows_on_day t asked updates
     (filter (calls_at t asked.stop) (range_with_len 0 (length t.trips)))) (range_with_len 0
     (length t.bases))
-
--- departures that were appended, and the rows that they become
-pub record Adds (t : Timetable) (old new : List Departure) (rows : List BoardRow) : Type 0 where
-  pub more : List Departure
-  pub whole : new ≡ old ++ more
-  pub become : map (as_row t) more ≡ rows
-  pub there : All (IsThere t) more

@@ -1,5 +1,5 @@
-pub mod Looks
-pub mod Told
+pub mod RunUpdates
+pub mod Found
 pub mod Departures
 pub mod Answers
 pub mod Lines

@@ -1,7 +1,7 @@
 -- Departures of either kind, of runs and of added trips, and the rows that they become.
-use Rattle.std.specs.Prelude.{◌≡◌, ℕ, Bool, true, false, List, [], map, length, slice_get, unwrap_or, ℤ}
+use Rattle.std.specs.Prelude.{ℕ, Bool, true, false, List, [], map, length, slice_get, unwrap_or, ℤ}
 use Rattle.std.specs.Cmp.Lexicographic.{slice_cmp}
-use Rattle.std.specs.List.{All, range_with_len}
+use Rattle.std.specs.List.{range_with_len}
 use Rattle.std.specs.Option.{option_map}
 use Rattle.std.specs.Ordering.{bool_cmp, int_cmp, nat_cmp, ordering_then}
 use Rattle.std.specs.declared.cmp.Ordering.{Ordering}
@@ -28,11 +28,6 @@ IsInPlan t (line.Added r) = added.IsThere t r
 abbrev pub subject_of : Line → Subject
 subject_of (line.Run d) = about.Row d.run d.stop
 subject_of (line.Added r) = about.AddedRow r.key r.stop
-
--- lines of the timetable that become some rows
-pub record Become (t : Timetable) (lines : List Line) (rows : List BoardRow) : Type 0 where
-  pub become : map (line_row t) lines ≡ rows
-  pub there : All (IsInPlan t) lines
 
 -- ---- their order
 

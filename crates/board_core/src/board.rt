@@ -1,7 +1,6 @@
 //! The rows of a board, and what they are about.
 
 ghost use Rattle.std.specs.Prelude.{◌≡◌, ◌<◌, ◌≤◌, ◌++◌, List, length, map, take, IfOk};
-ghost use Rattle.std.specs.Arc.{arc_value};
 ghost use Rattle.std.specs.List.{All};
 ghost use Rattle.text_defs.specs.Moments.{last_moment};
 ghost use Rattle.feed_defs.specs.declared.history.Entry.{Entry};
@@ -10,24 +9,23 @@ ghost use Rattle.board_defs.specs.Choice.{updates_at};
 ghost use Rattle.board_defs.specs.Fold.{fold_of};
 ghost use Rattle.board_defs.specs.Rows.{row_cmp, board_at};
 ghost use Rattle.board_defs.specs.Views.{StandsFor, folds_of};
+ghost use Rattle.board_parts.specs.Appended.{Become};
 ghost use Rattle.board_core.specs.Answers.{IsAnswer, AreAbout, AreSubjects};
 ghost use Rattle.board_core.specs.Departures.{as_row, IsThere};
-ghost use Rattle.board_core.specs.Lines.{Become};
+ghost use Rattle.board_core.specs.Lines.{line_row, IsInPlan};
 ghost use Rattle.board_added.specs.Added as others;
 
-use crate::candidates::choices;
 use crate::departure::{Asked, Departure};
 use crate::line::{Line, lines_of, push_added, rows_of, subjects_of};
+use crate::run_updates::updates_of;
 use crate::runs::departures;
 use crate::sorting::{first_lines, first_of};
 use crate::{HubView, NoMemory, RowsFault};
 use alert_select::Subject;
 use board_added::{AddedRow, added_rows};
 use board_defs::{BoardQuery, Row};
-use feed_view::FeedView;
-use sched_types::{NamedFeed, Plan};
+use sched_types::Plan;
 use std::alloc::Global;
-use std::sync::Arc;
 
 /// The first lines of a board, of departures of runs and of rows of added trips; or want of memory.
 fn first_of_both<'a>(
@@ -39,7 +37,7 @@ fn first_of_both<'a>(
 ) -> Result<Vec<Line<'a>>, NoMemory>
     requires runs { All (IsThere plan.now) runs.items }
     requires added { All (others.IsThere plan.now) added.now }
-    ensures { IfOk result (λ first. Become plan.now first.items
+    ensures { IfOk result (λ first. Become (line_row plan.now) (IsInPlan plan.now) first.items
         (take limit (ordered row_cmp
         (map (as_row plan.now) runs.items ++ map (others.as_row plan.now) added.entry.now)))) }
 {
@@ -56,71 +54,61 @@ fn first_of_both<'a>(
 /// The lines at the stop of that number; or want of memory.
 fn lines_at<'a>(
     alloc: Global,
+    view: &'a HubView,
     plan: &Plan,
-    feeds: &[NamedFeed],
-    views: &'a [Arc<FeedView>],
     query: &BoardQuery,
     stop: u32,
 ) -> Result<Vec<Line<'a>>, NoMemory>
-    requires each { length views.now ≡ length feeds.now }
-    requires few { length feeds.now ≤ 64 }
-    requires moment { query.now.at ≤ last_moment }
-    ensures { IfOk result (λ first. Become plan.now first.items
+    requires { query.now.at ≤ last_moment }
+    ensures { IfOk result (λ first. Become (line_row plan.now) (IsInPlan plan.now) first.items
         (board_at plan.now stop
-        (updates_at query.now.plan query.now.at feeds.now
-        (map (λ feed. feed.fold) (map arc_value views.entry.now))) query.now)) }
+        (updates_at query.now.plan query.now.at view.entry.now.plans.feeds (folds_of view.entry.now))
+        query.now)) }
 {
-    let choices = choices(alloc, query.plan, plan, feeds, views)?;
+    let updates = updates_of(alloc, plan, query.at, view.entities_of(query.plan))?;
     let asked = Asked {
         stop,
         at: query.at,
         span: query.span,
     };
-    let runs = departures(alloc, plan, asked, choices.as_slice())?;
-    let added = added_rows(alloc, plan, feeds, views, query, stop)?;
+    let runs = departures(alloc, plan, asked, updates.of_runs.as_slice())?;
+    let added = added_rows(alloc, plan, query, stop, updates.added.as_slice())?;
     first_of_both(alloc, plan, runs, added.as_slice(), query.limit)
 }
 
 /// The rows at the stop of that number; or want of memory.
 fn rows_at(
     alloc: Global,
+    view: &HubView,
     plan: &Plan,
-    feeds: &[NamedFeed],
-    views: &[Arc<FeedView>],
     query: &BoardQuery,
     stop: u32,
 ) -> Result<Vec<Row>, NoMemory>
-    requires each { length views.now ≡ length feeds.now }
-    requires few { length feeds.now ≤ 64 }
-    requires moment { query.now.at ≤ last_moment }
+    requires { query.now.at ≤ last_moment }
     ensures { IfOk result (λ rows. rows.items
         ≡ map (λ b. b.row)
         (board_at plan.now stop
-        (updates_at query.now.plan query.now.at feeds.now
-        (map (λ feed. feed.fold) (map arc_value views.now))) query.now)) }
+        (updates_at query.now.plan query.now.at view.now.plans.feeds (folds_of view.now)) query.now)) }
 {
-    let first = lines_at(alloc, plan, feeds, views, query, stop)?;
+    let first = lines_at(alloc, view, plan, query, stop)?;
     rows_of(alloc, plan, first.as_slice())
 }
 
 /// What the rows at the stop of that number are about; or want of memory.
 fn subjects_at<'a>(
     alloc: Global,
-    plan: &'a Plan,
-    feeds: &[NamedFeed],
-    views: &'a [Arc<FeedView>],
+    view: &'a HubView,
+    plan: &Plan,
     query: &BoardQuery,
     stop: u32,
 ) -> Result<Vec<Subject<'a>>, NoMemory>
-    requires each { length views.now ≡ length feeds.now }
-    requires few { length feeds.now ≤ 64 }
-    requires moment { query.now.at ≤ last_moment }
+    requires { query.now.at ≤ last_moment }
     ensures { IfOk result (λ subjects. AreAbout plan.now
         (board_at plan.now stop
-        (updates_at query.now.plan query.now.at feeds.now
-        (map (λ feed. feed.fold) (map arc_value views.now))) query.now) subjects.items) }
+        (updates_at query.now.plan query.now.at view.entry.now.plans.feeds (folds_of view.entry.now))
+        query.now) subjects.items) }
 {
-    let first = lines_at(alloc, plan, feeds, views, query, stop)?;
+    let first = lines_at(alloc, view, plan, query, stop)?;
     subjects_of(alloc, first.as_slice())
 }
 
@@ -129,10 +117,9 @@ fn subjects_at<'a>(
 /// timetable, and the calls there, but the last of a trip, of added trips, by the expected instant, the trip_id,
 /// the date, runs before added trips, and the place.
 ///
-/// It goes once over all places of the timetable, looks once for the run of each update, and goes, for each day
-/// of the window, over the trips with a place at the stop; a run whose update counts is walked once. It goes over
-/// the updates again for those whose relation is ADDED; where none is of an added trip, that takes no memory.
-/// Texts are made for the rows that are shown.
+/// It goes once over all places of the timetable, looks once for what each update is about, and goes, for each day
+/// of the window, over the trips with a place at the stop; a run whose update counts is walked once. Texts are made
+/// for the rows that are shown.
 pub fn rows(alloc: Global, view: &HubView, query: &BoardQuery) -> Result<Vec<Row>, RowsFault>
     requires plan { query.now.plan < length view.now.plans.plans }
     requires moment { query.now.at ≤ last_moment }
@@ -140,12 +127,10 @@ pub fn rows(alloc: Global, view: &HubView, query: &BoardQuery) -> Result<Vec<Row
     ensures stands { (h : List Entry) → StandsFor h view.now
         → IsAnswer view.now.plans (fold_of (length view.now.plans.feeds) h) query.now result }
 {
-    view.sound();
-    let plans = view.plans();
-    let plan = &plans.plans()[query.plan as usize].plan;
+    let plan = view.timetable(query.plan);
     match plan.stop_of(query.stop.as_str()) {
         Some(stop) => {
-            let rows = rows_at(alloc, plan, plans.feeds(), view.feeds(), query, stop)?;
+            let rows = rows_at(alloc, view, plan, query, stop)?;
             Ok(rows)
         }
         None => Err(RowsFault::NoStop),
@@ -162,12 +147,10 @@ pub fn subjects<'a>(
     requires moment { query.now.at ≤ last_moment }
     ensures subjects { AreSubjects view.now.plans (folds_of view.now) query.now result }
 {
-    view.sound();
-    let plans = view.plans();
-    let plan = &plans.plans()[query.plan as usize].plan;
+    let plan = view.timetable(query.plan);
     match plan.stop_of(query.stop.as_str()) {
         Some(stop) => {
-            let subjects = subjects_at(alloc, plan, plans.feeds(), view.feeds(), query, stop)?;
+            let subjects = subjects_at(alloc, view, plan, query, stop)?;
             Ok(subjects)
         }
         None => Err(RowsFault::NoStop),

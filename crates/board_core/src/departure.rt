@@ -1,18 +1,19 @@
 //! The departures of a run at the asked stop, before their texts are made.
 
-ghost use Rattle.std.specs.Prelude.{◌≡◌, ◌+◌, ◌<◌, ◌≤◌, ◌++◌, Some, length, map, drop, take, ℤ, pos, ◌+ℤ◌, unwrap_or, IfSome, OnOk, IsTrue};
-ghost use Rattle.std.specs.List.{All, cons_option};
+ghost use Rattle.std.specs.Prelude.{◌≡◌, ◌+◌, ◌<◌, ◌≤◌, ◌++◌, Some, length, ℤ, pos, ◌+ℤ◌, unwrap_or, IfSome, OnOk};
+ghost use Rattle.std.specs.List.{All};
 ghost use Rattle.std.specs.Option.{option_map, option_to_list};
 ghost use Rattle.text_defs.specs.Moments.{last_moment};
-ghost use Rattle.sched_types.specs.Timetable.{IsSmall, base_of, places_of, is_run};
+ghost use Rattle.sched_types.specs.Timetable.{IsSmall, places_of};
 ghost use Rattle.delay_rule.specs.Near.{IsNear, IsNearState};
 ghost use Rattle.board_defs.specs.Rows.{departures_of, row_of, RunOf};
-ghost use Rattle.board_core.specs.Departures.{as_row, as_shown, shown_by, in_window, row_by, rows_at, counts_at, IsThere, Adds};
+ghost use Rattle.board_parts.specs.Appended.{Adds};
+ghost use Rattle.board_core.specs.Departures.{as_row, as_shown, shown_by, in_window, row_by, rows_at, counts_at, IsThere};
 
 use crate::NoMemory;
 use crate::known::{Known, Sign, shown};
-use board_added::{is_asked, is_within};
 use board_defs::RowState;
+use board_parts::{is_asked, is_within};
 use sched_types::{Place, Plan, Run};
 
 /// A stop, by its number, and the window in which departures count: from a moment on, for so many seconds.
@@ -152,7 +153,7 @@ pub(crate) fn push_places(
     requires moment { asked.at ≤ last_moment }
     requires near { IfSome known.now (λ k. All IsNearState k.states.items) }
     ensures { OnOk result
-        (Adds plan.now out.old.items out.new.items
+        (Adds (as_row plan.now) (IsThere plan.now) out.old.items out.new.items
         (rows_at plan.now asked run (shown_by known.now) (departures_of plan.now run.trip))) }
 {
     plan.sound();

@@ -1,6 +1,6 @@
 //! Departures of either kind, of runs of the timetable and of added trips.
 
-ghost use Rattle.std.specs.Prelude.{◌≡◌, ◌<◌, ◌++◌, length, map, IfOk, OnOk, slice_get};
+ghost use Rattle.std.specs.Prelude.{◌≡◌, ◌<◌, ◌++◌, map, IfOk, OnOk};
 ghost use Rattle.std.specs.List.{All};
 ghost use Rattle.board_core.specs.declared.line.Line.TheVariants.{Run, Added};
 ghost use Rattle.board_core.specs.Lines as rule;

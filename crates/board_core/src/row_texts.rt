@@ -8,8 +8,8 @@ ghost use Rattle.board_core.specs.Departures.{as_row, IsThere};
 
 use crate::NoMemory;
 use crate::departure::Departure;
-use board_added::{route_name, stop_id};
 use board_defs::Row;
+use board_parts::{route_name, stop_id};
 use rt_types::Text;
 use sched_types::Plan;
 use std::alloc::Global;

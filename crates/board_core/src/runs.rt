@@ -1,17 +1,18 @@
 //! The departures of all runs.
 
-ghost use Rattle.std.specs.Prelude.{◌≡◌, ◌<◌, ◌≤◌, ◌++◌, [], ◌∷◌, length, filter, if◌then◌else◌, IfOk, OnOk, IfSome};
+ghost use Rattle.std.specs.Prelude.{◌≡◌, ◌<◌, ◌≤◌, ◌++◌, [], ◌∷◌, length, filter, if◌then◌else◌, IfOk, OnOk};
 ghost use Rattle.std.specs.List.{All, range_with_len};
 ghost use Rattle.std.specs.List.Sorted.{IsSortedByKey};
 ghost use Rattle.text_defs.specs.Moments.{last_moment};
-ghost use Rattle.board_core.specs.Told.{key_told, run_cmp};
-ghost use Rattle.board_core.specs.Departures.{Adds, calls_at, rows_of_run, rows_on_day, rows_there};
+ghost use Rattle.board_parts.specs.Appended.{Become, Adds};
+ghost use Rattle.board_core.specs.RunUpdates.{key_of_update, run_cmp};
+ghost use Rattle.board_core.specs.Departures.{as_row, IsThere, calls_at, rows_of_run, rows_on_day, rows_there};
 
 use crate::NoMemory;
-use crate::candidates::Candidate;
 use crate::choice::update_for;
 use crate::departure::{Asked, Departure, counts_at, push_places};
 use crate::known::known_of;
+use crate::run_updates::UpdateOfRun;
 use sched_types::{Plan, Run};
 use std::alloc::Global;
 
@@ -58,20 +59,20 @@ fn push_run(
     alloc: Global,
     plan: &Plan,
     asked: Asked,
-    choices: &[Candidate<'_>],
+    updates: &[UpdateOfRun<'_>],
     run: Run,
     out: &mut Vec<Departure>,
 ) -> Result<(), NoMemory>
-    requires sorted { IsSortedByKey key_told run_cmp choices.now }
+    requires sorted { IsSortedByKey key_of_update run_cmp updates.now }
     requires moment { asked.at ≤ last_moment }
     ensures { OnOk result
-        (Adds plan.now out.old.items out.new.items
-        (rows_of_run plan.now asked choices.entry.now run)) }
+        (Adds (as_row plan.now) (IsThere plan.now) out.old.items out.new.items
+        (rows_of_run plan.now asked updates.entry.now run)) }
 {
     if !plan.runs(run) {
         return Ok(());
     }
-    let known = known_of(alloc, plan, run, update_for(choices, run))?;
+    let known = known_of(alloc, plan, run, update_for(updates, run))?;
     push_places(plan, asked, run, &known, out)
 }
 
@@ -80,19 +81,19 @@ fn push_day(
     alloc: Global,
     plan: &Plan,
     asked: Asked,
-    choices: &[Candidate<'_>],
+    updates: &[UpdateOfRun<'_>],
     trips: &[u32],
     day: u32,
     out: &mut Vec<Departure>,
 ) -> Result<(), NoMemory>
-    requires sorted { IsSortedByKey key_told run_cmp choices.now }
+    requires sorted { IsSortedByKey key_of_update run_cmp updates.now }
     requires moment { asked.at ≤ last_moment }
     ensures { OnOk result
-        (Adds plan.now out.old.items out.new.items
-        (rows_on_day plan.now asked choices.entry.now trips.now day)) }
+        (Adds (as_row plan.now) (IsThere plan.now) out.old.items out.new.items
+        (rows_on_day plan.now asked updates.entry.now trips.now day)) }
 {
     for trip in trips {
-        push_run(alloc, plan, asked, choices, Run { trip: *trip, day }, out)?;
+        push_run(alloc, plan, asked, updates, Run { trip: *trip, day }, out)?;
     }
     Ok(())
 }
@@ -102,17 +103,18 @@ pub(crate) fn departures(
     alloc: Global,
     plan: &Plan,
     asked: Asked,
-    choices: &[Candidate<'_>],
+    updates: &[UpdateOfRun<'_>],
 ) -> Result<Vec<Departure>, NoMemory>
-    requires sorted { IsSortedByKey key_told run_cmp choices.now }
+    requires sorted { IsSortedByKey key_of_update run_cmp updates.now }
     requires moment { asked.at ≤ last_moment }
     ensures { IfOk result
-        (λ all. Adds plan.now [] all.items (rows_there plan.now asked choices.entry.now)) }
+        (λ all. Become (as_row plan.now) (IsThere plan.now) all.items
+        (rows_there plan.now asked updates.entry.now)) }
 {
     let trips = trips_at(alloc, plan, asked.stop)?;
     let mut all = Vec::new(alloc);
     for day in 0..plan.days() {
-        push_day(alloc, plan, asked, choices, trips.as_slice(), day, &mut all)?;
+        push_day(alloc, plan, asked, updates, trips.as_slice(), day, &mut all)?;
     }
     Ok(all)
 }

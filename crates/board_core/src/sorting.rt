@@ -1,6 +1,6 @@
 //! The order of departures, of runs alone by numbers, and with added trips by texts.
 
-ghost use Rattle.std.specs.Prelude.{◌≡◌, length, map, take, IfOk};
+ghost use Rattle.std.specs.Prelude.{◌≡◌, take, IfOk};
 ghost use Rattle.order.specs.Order.{ordered};
 ghost use Rattle.board_core.specs.Departures.{departure_cmp};
 ghost use Rattle.board_core.specs.Lines as rule;

@@ -17,7 +17,7 @@ use Rattle.delay_rule_defs.specs.Delays.{states}
 use Rattle.order.specs.Order.{inserted, ordered}
 use Rattle.board_defs.specs.declared.row.Row.{Row}
 use Rattle.board_defs.specs.declared.row.RowState.TheVariants as state
-use Rattle.board_defs.specs.Choice.{chosen, updates_from, added_updates}
+use Rattle.board_defs.specs.Choice.{chosen, added_updates}
 use Rattle.board_defs.specs.Fold.{fold_of}
 use Rattle.board_defs.specs.Rows.{all_runs, run_rows, added_trip_rows, board_at, board, rows}
 use Rattle.board_defs.proofs.Parts.{stop_update, trip_on, trip_update, entity_of, message_at, entry_of, hill_row}
@@ -26,7 +26,7 @@ use Rattle.board_defs.proofs.Parts.{stop_update, trip_on, trip_update, entity_of
 abbrev schedules : Schedules
 schedules = record {
   plans = record { name = codes "city"; prefix = []; plan = city } ∷ [];
-  feeds = record { name = codes "a"; plan = 0 } ∷ record { name = codes "b"; plan = 0 } ∷ [];
+  feeds = record { name = codes "a"; plan = 0; max_age = 0 } ∷ record { name = codes "b"; plan = 0; max_age = 0 } ∷ [];
 }
 
 -- a stop, for an hour from 07:53:20 on
@@ -74,32 +74,32 @@ first_row = hill_row 1743315000 1743315000 None state.Scheduled (codes "T1") (co
 
 -- it leaves the harbour as it is told, among the runs of the timetable
 shown : board_after (from_harbour 1743314500 ∷ []) (codes "S3") ≡ Some (row_at 1743314500 ∷ first_row ∷ [])
-unfolding fold_of messages_of since_full changes_by_id entities_of updates_from chosen added_updates match_of by_near date_in is_day date_plus next_day states all_runs run_rows added_trip_rows board_at board inserted ordered digits
+unfolding fold_of messages_of since_full changes_by_id entities_of chosen added_updates match_of by_near date_in is_day date_plus next_day states all_runs run_rows added_trip_rows board_at board inserted ordered digits
 shown = refl
 
 -- and behind one that leaves earlier
 shown_later : board_after (from_harbour 1743315060 ∷ []) (codes "S3") ≡ Some (first_row ∷ row_at 1743315060 ∷ [])
-unfolding fold_of messages_of since_full changes_by_id entities_of updates_from chosen added_updates match_of by_near date_in is_day date_plus next_day states all_runs run_rows added_trip_rows board_at board inserted ordered digits
+unfolding fold_of messages_of since_full changes_by_id entities_of chosen added_updates match_of by_near date_in is_day date_plus next_day states all_runs run_rows added_trip_rows board_at board inserted ordered digits
 shown_later = refl
 
 -- nobody boards at its last stop
 not_at_the_last : board_after (from_harbour 1743314500 ∷ []) (codes "S4") ≡ Some []
-unfolding fold_of messages_of since_full changes_by_id entities_of updates_from chosen added_updates match_of by_near date_in is_day date_plus next_day states all_runs run_rows added_trip_rows board_at board inserted ordered digits
+unfolding fold_of messages_of since_full changes_by_id entities_of chosen added_updates match_of by_near date_in is_day date_plus next_day states all_runs run_rows added_trip_rows board_at board inserted ordered digits
 not_at_the_last = refl
 
 -- of a stop without data nothing is shown
 no_data : board_after (added_by 0 (stop_at (codes "S3") (at 1743314500) (Some NoData)) ∷ []) (codes "S3") ≡ Some (first_row ∷ [])
-unfolding fold_of messages_of since_full changes_by_id entities_of updates_from chosen added_updates match_of by_near date_in is_day date_plus next_day states all_runs run_rows added_trip_rows board_at board inserted ordered digits
+unfolding fold_of messages_of since_full changes_by_id entities_of chosen added_updates match_of by_near date_in is_day date_plus next_day states all_runs run_rows added_trip_rows board_at board inserted ordered digits
 no_data = refl
 
 -- a departure that is no moment leaves the arrival's time
 by_arrival : board_after (added_by 0 (record (stop_at (codes "S3") (at 0) None) { arrival = at 1743314400 }) ∷ []) (codes "S3")
     ≡ Some (row_at 1743314400 ∷ first_row ∷ [])
-unfolding fold_of messages_of since_full changes_by_id entities_of updates_from chosen added_updates match_of by_near date_in is_day date_plus next_day states all_runs run_rows added_trip_rows board_at board inserted ordered digits
+unfolding fold_of messages_of since_full changes_by_id entities_of chosen added_updates match_of by_near date_in is_day date_plus next_day states all_runs run_rows added_trip_rows board_at board inserted ordered digits
 by_arrival = refl
 
 -- of two feeds with one stamp that of the lower number counts, and the trip is shown once
 once : board_after (from_harbour 1743314500 ∷ added_by 1 (stop_at (codes "S3") (at 1743314560) None) ∷ []) (codes "S3")
     ≡ Some (row_at 1743314500 ∷ first_row ∷ [])
-unfolding fold_of messages_of since_full changes_by_id entities_of updates_from chosen added_updates match_of by_near date_in is_day date_plus next_day states all_runs run_rows added_trip_rows board_at board inserted ordered digits
+unfolding fold_of messages_of since_full changes_by_id entities_of chosen added_updates match_of by_near date_in is_day date_plus next_day states all_runs run_rows added_trip_rows board_at board inserted ordered digits
 once = refl

@@ -16,7 +16,7 @@ use Rattle.order.specs.Order.{inserted, ordered}
 use Rattle.board_defs.specs.declared.query.BoardQuery.{BoardQuery}
 use Rattle.board_defs.specs.declared.row.Row.{Row}
 use Rattle.board_defs.specs.declared.row.RowState.TheVariants as state
-use Rattle.board_defs.specs.Choice.{chosen, updates_from, added_updates}
+use Rattle.board_defs.specs.Choice.{chosen, added_updates}
 use Rattle.board_defs.specs.Fold.{fold_of}
 use Rattle.board_defs.specs.Rows.{all_runs, run_rows, board_at, board, rows}
 use Rattle.board_defs.proofs.Parts.{late, stop_update, trip_update, entity_of, message_at, entry_of, first_trip, hill_row}
@@ -25,7 +25,7 @@ use Rattle.board_defs.proofs.Parts.{late, stop_update, trip_update, entity_of, m
 abbrev schedules : Schedules
 schedules = record {
   plans = record { name = codes "city"; prefix = []; plan = city } ∷ [];
-  feeds = record { name = codes "a"; plan = 0 } ∷ record { name = codes "b"; plan = 0 } ∷ [];
+  feeds = record { name = codes "a"; plan = 0; max_age = 0 } ∷ record { name = codes "b"; plan = 0; max_age = 0 } ∷ [];
 }
 
 -- the market, for an hour from 07:53:20 on
@@ -53,50 +53,73 @@ late_row scheduled seconds platform = hill_row (scheduled + seconds) scheduled (
 -- T1 goes before T2 at one instant; the third departure is beyond the limit
 as_scheduled : board_after [] 2
     ≡ Some (departure_of 1743314400 (codes "T1") (codes "S1") ∷ departure_of 1743315660 (codes "T1") (codes "S2") ∷ [])
-unfolding fold_of messages_of since_full changes_by_id entities_of updates_from chosen added_updates match_of by_near date_in is_day date_plus next_day states all_runs run_rows board_at board inserted ordered digits
+unfolding fold_of messages_of since_full changes_by_id entities_of chosen added_updates match_of by_near date_in is_day date_plus next_day states all_runs run_rows board_at board inserted ordered digits
 as_scheduled = refl
 
 -- a board of one row
 first_alone : board_after [] 1
     ≡ Some (departure_of 1743314400 (codes "T1") (codes "S1") ∷ [])
-unfolding fold_of messages_of since_full changes_by_id entities_of updates_from chosen added_updates match_of by_near date_in is_day date_plus next_day states all_runs run_rows board_at board inserted ordered digits
+unfolding fold_of messages_of since_full changes_by_id entities_of chosen added_updates match_of by_near date_in is_day date_plus next_day states all_runs run_rows board_at board inserted ordered digits
 first_alone = refl
 
 -- a delay of 300 seconds from the first place on moves both departures of T1
 delayed : board_after (updated 0 (codes "u") None (late_from_first 300) ∷ []) 50
     ≡ Some (late_row 1743314400 300 (codes "S1")
     ∷ departure_of 1743315660 (codes "T2") (codes "S2") ∷ late_row 1743315660 300 (codes "S2") ∷ [])
-unfolding fold_of messages_of since_full changes_by_id entities_of updates_from chosen added_updates match_of by_near date_in is_day date_plus next_day states all_runs run_rows board_at board inserted ordered digits
+unfolding fold_of messages_of since_full changes_by_id entities_of chosen added_updates match_of by_near date_in is_day date_plus next_day states all_runs run_rows board_at board inserted ordered digits
 delayed = refl
 
 -- of two updates with one stamp that of the lower feed number counts
 lower_feed : board_after (updated 0 (codes "u") None (late_from_first 60)
     ∷ updated 1 (codes "u") None (late_from_first 120) ∷ []) 1
     ≡ Some (late_row 1743314400 60 (codes "S1") ∷ [])
-unfolding fold_of messages_of since_full changes_by_id entities_of updates_from chosen added_updates match_of by_near date_in is_day date_plus next_day states all_runs run_rows board_at board inserted ordered digits
+unfolding fold_of messages_of since_full changes_by_id entities_of chosen added_updates match_of by_near date_in is_day date_plus next_day states all_runs run_rows board_at board inserted ordered digits
 lower_feed = refl
 
 -- a place that is skipped keeps its time, and passes on what is known
 skipped_first : board_after (updated 0 (codes "u") None (stop_update 1 None (Some Skipped) ∷ []) ∷ []) 1
     ≡ Some (hill_row 1743314400 1743314400 None state.Skipped (codes "T1") (codes "S1") ∷ [])
-unfolding fold_of messages_of since_full changes_by_id entities_of updates_from chosen added_updates match_of by_near date_in is_day date_plus next_day states all_runs run_rows board_at board inserted ordered digits
+unfolding fold_of messages_of since_full changes_by_id entities_of chosen added_updates match_of by_near date_in is_day date_plus next_day states all_runs run_rows board_at board inserted ordered digits
 skipped_first = refl
 
 -- a run that is canceled is shown at its times
 canceled : board_after (updated 0 (codes "u") (Some Canceled) (late_from_first 300) ∷ []) 2
     ≡ Some (hill_row 1743314400 1743314400 None state.Canceled (codes "T1") (codes "S1")
     ∷ hill_row 1743315660 1743315660 None state.Canceled (codes "T1") (codes "S2") ∷ [])
-unfolding fold_of messages_of since_full changes_by_id entities_of updates_from chosen added_updates match_of by_near date_in is_day date_plus next_day states all_runs run_rows board_at board inserted ordered digits
+unfolding fold_of messages_of since_full changes_by_id entities_of chosen added_updates match_of by_near date_in is_day date_plus next_day states all_runs run_rows board_at board inserted ordered digits
 canceled = refl
 
 -- one that is deleted isn't shown
 deleted : board_after (updated 0 (codes "u") (Some Deleted) [] ∷ []) 50
     ≡ Some (departure_of 1743315660 (codes "T2") (codes "S2") ∷ [])
-unfolding fold_of messages_of since_full changes_by_id entities_of updates_from chosen added_updates match_of by_near date_in is_day date_plus next_day states all_runs run_rows board_at board inserted ordered digits
+unfolding fold_of messages_of since_full changes_by_id entities_of chosen added_updates match_of by_near date_in is_day date_plus next_day states all_runs run_rows board_at board inserted ordered digits
 deleted = refl
 
 -- no row of stops.txt has that id
 no_stop : rows schedules (fold_of 2 []) (record (query 50) { stop = codes "NO" })
     ≡ None
-unfolding fold_of messages_of since_full changes_by_id entities_of updates_from chosen added_updates match_of by_near date_in is_day date_plus next_day states all_runs run_rows board_at board inserted ordered digits
+unfolding fold_of messages_of since_full changes_by_id entities_of chosen added_updates match_of by_near date_in is_day date_plus next_day states all_runs run_rows board_at board inserted ordered digits
 no_stop = refl
+
+-- ---- ageing
+
+-- T1 is told to be late by 300 seconds at 1743314000, by a feed of that max_age, and asked for at a moment
+abbrev told_with : ℕ → ℕ → Option (List Row)
+told_with max_age at =
+    rows (record schedules { feeds = record { name = codes "a"; plan = 0; max_age = max_age } ∷ [] }) (fold_of 1 (updated 0 (codes "u") None (late_from_first 300) ∷ []))
+    (record (query 1) { at = at })
+
+-- an update counts up to its max_age behind its stamp
+at_its_last_second : told_with 60 1743314060 ≡ Some (late_row 1743314400 300 (codes "S1") ∷ [])
+unfolding fold_of messages_of since_full changes_by_id entities_of chosen added_updates match_of by_near date_in is_day date_plus next_day states all_runs run_rows board_at board inserted ordered digits
+at_its_last_second = refl
+
+-- a second later the run is as scheduled
+too_old : told_with 60 1743314061 ≡ Some (departure_of 1743314400 (codes "T1") (codes "S1") ∷ [])
+unfolding fold_of messages_of since_full changes_by_id entities_of chosen added_updates match_of by_near date_in is_day date_plus next_day states all_runs run_rows board_at board inserted ordered digits
+too_old = refl
+
+-- 0 is no end
+never_too_old : told_with 0 1743314061 ≡ Some (late_row 1743314400 300 (codes "S1") ∷ [])
+unfolding fold_of messages_of since_full changes_by_id entities_of chosen added_updates match_of by_near date_in is_day date_plus next_day states all_runs run_rows board_at board inserted ordered digits
+never_too_old = refl

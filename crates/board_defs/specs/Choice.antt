@@ -1,5 +1,5 @@
 -- Which update counts for a run, where several feeds or several entities of one feed speak of it.
-use Rattle.std.specs.Prelude.{ℕ, ◌+◌, Bool, true, false, not, ◌&&◌, ◌==◌, if◌then◌else◌, List, [], ◌∷◌, ◌++◌, filter, Option, Some, None, unwrap_or}
+use Rattle.std.specs.Prelude.{ℕ, Bool, true, false, not, ◌&&◌, ◌==◌, if◌then◌else◌, List, [], filter, Option, Some, None, unwrap_or}
 use Rattle.std.specs.Cmp.Lexicographic.{slice_cmp}
 use Rattle.std.specs.List.{filter_map, list_any}
 use Rattle.std.specs.Ordering.{nat_cmp, is_gt, ordering_then}
@@ -7,7 +7,6 @@ use Rattle.std.specs.Str.{bytes_eq}
 use Rattle.std.specs.declared.cmp.Ordering.{Ordering}
 use Rattle.rt_types.specs.declared.descriptor.TripRef.{TripRef}
 use Rattle.rt_types.specs.declared.trip_update.TripUpdate.{TripUpdate}
-use Rattle.feed_defs.specs.History.{Change}
 use Rattle.sched_types.specs.declared.plans.NamedFeed.{NamedFeed}
 use Rattle.sched_types.specs.declared.rows.Run.{Run}
 use Rattle.sched_types.specs.Timetable.{Timetable}
@@ -16,6 +15,7 @@ use Rattle.trip_match_defs.specs.declared.found.Found.TheVariants as found
 use Rattle.trip_match_defs.specs.Matching.{match_of}
 use Rattle.order.specs.Order.{greatest}
 use Rattle.text_defs.specs.Moments.{is_stamp}
+use Rattle.board_defs.specs.Feeds.{HeldEntity, counts_at, schedule_entities}
 use Rattle.board_defs.specs.Fold.{FeedFold}
 
 -- a trip update, with the number of its feed, the id of its entity, and its stamp
@@ -31,30 +31,31 @@ abbrev pub stamp_or : ℕ → Option ℕ → ℕ
 stamp_or message None = message
 stamp_or message (Some own) = if is_stamp own then own else message
 
-abbrev pub update_of : ℕ → Change → Option TripUpdate → Option Update
-update_of feed change None = None
-update_of feed change (Some update) = Some (record {
-  stamp = stamp_or change.1.stamp update.timestamp;
-  feed = feed;
-  id = change.0;
+abbrev pub update_of : HeldEntity → Option TripUpdate → Option Update
+update_of held None = None
+update_of held (Some update) = Some (record {
+  stamp = stamp_or held.stored.stamp update.timestamp;
+  feed = held.number;
+  id = held.stored.entity.id;
   update = update;
 })
 
 -- the trip update of an entity, if it has one
-abbrev pub update_in : ℕ → Change → Option Update
-update_in feed change = update_of feed change change.1.entity.trip_update
+abbrev pub update_in : HeldEntity → Option Update
+update_in held = update_of held held.stored.entity.trip_update
 
--- The trip updates of a schedule's feeds, by feed and id; the feeds are numbered from `first` on. An
--- update counts at any moment, whatever its age, so `at` makes no difference.
-unfoldable pub updates_from : ℕ → ℕ → ℕ → List NamedFeed → List FeedFold → List Update
-updates_from plan at first (feed ∷ feeds) (fold ∷ folds) =
-    (if feed.plan == plan then filter_map (update_in first) fold.entities else [])
-    ++ updates_from plan at (first + 1) feeds folds
-updates_from plan at first [] folds = []
-updates_from plan at first (feed ∷ feeds) [] = []
+-- and where it counts at a moment, by its own stamp
+abbrev pub if_counting : ℕ → HeldEntity → Option Update → Option Update
+if_counting at held None = None
+if_counting at held (Some u) =
+    if counts_at held.feed.max_age u.stamp at then Some u else None
 
+abbrev pub update_at : ℕ → HeldEntity → Option Update
+update_at at held = if_counting at held (update_in held)
+
+-- the trip updates in the feeds of a schedule that count at a moment, by feed and id
 abbrev pub updates_at : ℕ → ℕ → List NamedFeed → List FeedFold → List Update
-updates_at plan at feeds folds = updates_from plan at 0 feeds folds
+updates_at plan at feeds folds = filter_map (update_at at) (schedule_entities plan feeds folds)
 
 -- whether what a trip descriptor is about is this run
 abbrev pub is_run_found : Run → Found → Bool
@@ -109,7 +110,10 @@ abbrev pub is_outdone : List Update → Update → Bool
 is_outdone updates u =
     list_any (λ other. is_same_trip u other && is_gt (choice_cmp other u)) updates
 
--- the updates that count for added trips, one for each, as they stood
+-- of updates of added trips those that count, one for each trip, as they stood
+abbrev pub not_outdone : List Update → List Update
+not_outdone added = filter (λ u. not (is_outdone added u)) added
+
+-- the updates that count for added trips
 unfoldable pub added_updates : Timetable → List Update → List Update
-added_updates t updates = let added = filter (is_added_update t) updates in
-    filter (λ u. not (is_outdone added u)) added
+added_updates t updates = not_outdone (filter (is_added_update t) updates)

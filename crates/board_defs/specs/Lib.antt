@@ -1,4 +1,5 @@
 pub mod Fold
+pub mod Feeds
 pub mod Choice
 pub mod Rows
 pub mod Feed

@@ -18,16 +18,15 @@ use Rattle.rt_types.specs.declared.trip_update.TripUpdate.{TripUpdate}
 use Rattle.sched_types.specs.declared.rows.Place.{Place}
 use Rattle.sched_types.specs.declared.rows.Route.{Route}
 use Rattle.sched_types.specs.declared.rows.Run.{Run}
-use Rattle.sched_types.specs.declared.rows.Stop.{Stop}
 use Rattle.sched_types.specs.declared.rows.Trip.{Trip}
 use Rattle.sched_types.specs.Schedules.{Schedules}
-use Rattle.sched_types.specs.Timetable.{Timetable, number_of, places_of, is_run, is_given, base_of, dates_of}
+use Rattle.sched_types.specs.Timetable.{Timetable, number_of, places_of, is_run, names_parent, base_of, dates_of}
 use Rattle.delay_rule_defs.specs.declared.state.StopState.{StopState}
 use Rattle.delay_rule_defs.specs.Delays.{states}
 use Rattle.delay_rule_defs.specs.Delays.{relation_of as served_as}
 use Rattle.trip_match_defs.specs.Matching.{relation_of}
 use Rattle.order.specs.Order.{ordered}
-use Rattle.text_defs.specs.Moments.{last_moment}
+use Rattle.text_defs.specs.Moments.{is_instant}
 use Rattle.board_defs.specs.declared.call.Call.{Call}
 use Rattle.board_defs.specs.declared.query.BoardQuery.{BoardQuery}
 use Rattle.board_defs.specs.declared.row.Row.{Row}
@@ -63,12 +62,8 @@ abbrev pub stands_at : Place → ℕ
 stands_at place = place.stop
 
 -- the stop is the asked one, or names it as its parent_station (GTFS Schedule, stops.txt)
-abbrev pub is_child : ℕ → Option Stop → Bool
-is_child asked None = false
-is_child asked (Some stop) = is_given asked stop.parent
-
 abbrev pub is_asked : Timetable → ℕ → ℕ → Bool
-is_asked t asked stop = (stop == asked) || is_child asked (slice_get t.stops stop)
+is_asked t asked stop = (stop == asked) || names_parent asked (slice_get t.stops stop)
 
 -- passengers may board there (GTFS Schedule, stop_times.txt, pickup_type: 1 is no pickup)
 abbrev pub may_board : Place → Bool
@@ -170,14 +165,10 @@ run_rows t asked updates run =
 
 -- ---- the rows of added trips (GTFS Realtime, TripDescriptor, ADDED)
 
--- an instant that is a moment
-abbrev pub is_moment : ℤ → Bool
-is_moment instant = int_le (pos 1) instant && int_le instant (pos last_moment)
-
 -- the time that an event tells, where it is a moment (StopTimeEvent, time)
 abbrev pub moment_of : Option Event → Option ℤ
 moment_of event =
-    option_and_then (λ time. if is_moment time then Some time else None)
+    option_and_then (λ time. if is_instant time then Some time else None)
     (option_and_then (λ e. e.time) event)
 
 -- when a call leaves: the time of its departure, or else of its arrival

@@ -1,2 +1,1 @@
-pub mod Entities
 pub mod Listing

@@ -2,41 +2,31 @@
 use Rattle.std.specs.Prelude.{ℕ, if◌then◌else◌, List, Option, Some, None}
 use Rattle.std.specs.List.{filter_map}
 use Rattle.rt_types.specs.declared.alert.Alert.{Alert}
-use Rattle.feed_defs.specs.History.{Change}
-use Rattle.sched_types.specs.declared.plans.NamedFeed.{NamedFeed}
 use Rattle.sched_types.specs.Timetable.{Timetable}
-use Rattle.board_defs.specs.Fold.{FeedFold}
+use Rattle.board_defs.specs.Feeds.{HeldEntity}
 use Rattle.alert_defs.specs.declared.rows.AlertRow.{AlertRow}
 use Rattle.alert_defs.specs.Touching.{Touched}
-use Rattle.alert_defs.specs.Alerts.{is_active, concerns, alert_row, listed, over_feeds}
+use Rattle.alert_defs.specs.Alerts.{is_current, concerns, alert_row}
 
--- an alert with the number of its feed, the id of its entity and the stamp of its message
+-- an alert with its entity
 pub record Active : Type 0 where
-  pub feed : ℕ
-  pub id : List ℕ
-  pub stamp : ℕ
+  pub held : HeldEntity
   pub alert : Alert
 
--- the alert of an entity, where it has one that is active
-abbrev pub active_if : ℕ → ℕ → Change → Option Alert → Option Active
-active_if at feed change None = None
-active_if at feed change (Some alert) =
-    if is_active alert at
-    then Some (record { feed = feed; id = change.0; stamp = change.1.stamp; alert = alert })
-    else None
+-- the alert of an entity, where it has one that counts and is active
+abbrev pub active_if : ℕ → HeldEntity → Option Alert → Option Active
+active_if at held None = None
+active_if at held (Some alert) =
+    if is_current at held alert then Some (record { held = held; alert = alert }) else None
 
-abbrev pub active_in : ℕ → ℕ → Change → List Active
-active_in at feed change = listed (active_if at feed change change.1.entity.alert)
-
--- of all feeds of a schedule, the first of which has that number
-abbrev pub active_from : ℕ → ℕ → ℕ → List NamedFeed → List FeedFold → List Active
-active_from at plan first feeds folds = over_feeds (active_in at) plan first feeds folds
+abbrev pub active_in : ℕ → HeldEntity → Option Active
+active_in at held = active_if at held held.stored.entity.alert
 
 -- the row of an alert that touches the stop or one of the rows
 abbrev pub row_if : Timetable → ℕ → List Touched → Active → Option AlertRow
 row_if t stop rows active =
-    if concerns t active.alert active.stamp stop rows
-    then Some (alert_row active.feed active.id active.alert) else None
+    if concerns t active.alert active.held.stored.stamp stop rows
+    then Some (alert_row active.held active.alert) else None
 
 abbrev pub rows_among : Timetable → ℕ → List Touched → List Active → List AlertRow
 rows_among t stop rows all = filter_map (row_if t stop rows) all

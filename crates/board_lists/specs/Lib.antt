@@ -1,3 +1,2 @@
 pub mod Active
-pub mod Strangers
 pub mod Answers

@@ -1,6 +1,6 @@
 //! The alerts that a query of a board lists.
 
-ghost use Rattle.std.specs.Prelude.{◌≡◌, ◌<◌, ◌≤◌, ◌++◌, Some, List, length, map, IfOk, OnOk};
+ghost use Rattle.std.specs.Prelude.{◌≡◌, ◌<◌, ◌≤◌, Some, List, length, map, IfOk};
 ghost use Rattle.std.specs.List.{All};
 ghost use Rattle.text_defs.specs.Moments.{last_moment};
 ghost use Rattle.feed_defs.specs.declared.history.Entry.{Entry};
@@ -8,12 +8,11 @@ ghost use Rattle.sched_types.specs.Timetable.{number_of};
 ghost use Rattle.board_defs.specs.Fold.{fold_of};
 ghost use Rattle.board_defs.specs.Rows.{timetable_in};
 ghost use Rattle.board_defs.specs.Views.{StandsFor, folds_of};
-ghost use Rattle.alert_defs.specs.Alerts.{listed};
 ghost use Rattle.alert_select.specs.Subjects.{touched_by, IsWithin};
 ghost use Rattle.board_lists.specs.Active.{row_if, rows_among};
 ghost use Rattle.board_lists.specs.Answers.{AreAlerts};
 
-use crate::feeds::{ActiveAlert, all_active};
+use crate::active_alerts::{ActiveAlert, all_active};
 use crate::heading::row_of;
 use crate::{NoMemory, RowsFault};
 use alert_defs::AlertRow;
@@ -23,7 +22,7 @@ use board_defs::BoardQuery;
 use sched_types::Plan;
 use std::alloc::Global;
 
-/// The alerts of the schedule's feeds that are active at the query's moment and touch its stop or one of the
+/// The alerts of the schedule's feeds that count and are active at the query's moment and touch its stop or one of the
 /// rows of its board, by feed and then by id.
 ///
 /// It looks at the alerts alone, and asks for the rows of the board only where one of them is active.
@@ -34,9 +33,7 @@ pub fn alerts(alloc: Global, view: &HubView, query: &BoardQuery) -> Result<Vec<A
     ensures stands { (h : List Entry) → StandsFor h view.now
         → AreAlerts view.now.plans (fold_of (length view.now.plans.feeds) h) query.now result }
 {
-    view.sound();
-    let plans = view.plans();
-    let plan = &plans.plans()[query.plan as usize].plan;
+    let plan = view.timetable(query.plan);
     match plan.stop_of(query.stop.as_str()) {
         Some(stop) => alerts_at(alloc, view, query, plan, stop),
         None => Err(RowsFault::NoStop),
@@ -58,9 +55,7 @@ fn alerts_at(
     requires known { stop < length plan.now.stops }
     ensures { AreAlerts view.now.plans (folds_of view.now) query.now result }
 {
-    view.sound();
-    let feeds = view.plans().feeds();
-    let active = all_active(alloc, query.at, query.plan, feeds, view.feeds())?;
+    let active = all_active(alloc, query.at, view.alerts_of(query.plan))?;
     let found = active.as_slice();
     if found.is_empty() {
         return Ok(Vec::new(alloc));
@@ -85,29 +80,30 @@ fn concerned(
 {
     let mut rows = Vec::new(alloc);
     for one in active {
-        push_concerned(alloc, plan, stop, subjects, one, &mut rows)?;
+        if let Some(row) = concerned_row(alloc, plan, stop, subjects, one)? {
+            rows.push(row)?;
+        }
     }
     Ok(rows)
 }
 
-/// Appends the row of the alert, where it touches the stop or one of the subjects.
-fn push_concerned(
+/// The row of the alert, where it touches the stop or one of the subjects; or want of memory.
+fn concerned_row(
     alloc: Global,
     plan: &Plan,
     stop: u32,
     subjects: &[Subject<'_>],
     active: &ActiveAlert<'_>,
-    out: &mut Vec<AlertRow>,
-) -> Result<(), NoMemory>
+) -> Result<Option<AlertRow>, NoMemory>
     requires stop { stop < length plan.now.stops }
     requires subjects { All (IsWithin plan.now) subjects.now }
-    ensures { OnOk result (out.new.items ≡ out.old.items
-        ++ listed (row_if plan.now stop (map touched_by subjects.now) active.now)) }
+    ensures { IfOk result (λ row. row
+        ≡ row_if plan.now stop (map touched_by subjects.now) active.now) }
 {
-    if !concerns(plan, active.alert(), active.stamp(), stop, subjects) {
-        return Ok(());
+    let stamp = active.held().stored().stamp;
+    if !concerns(plan, active.alert(), stamp, stop, subjects) {
+        return Ok(None);
     }
     let row = row_of(alloc, active)?;
-    out.push(row)?;
-    Ok(())
+    Ok(Some(row))
 }

@@ -6,19 +6,19 @@ ghost use Rattle.feed_defs.specs.Enums as enums;
 ghost use Rattle.alert_defs.specs.Alerts as rule;
 
 use crate::NoMemory;
-use crate::feeds::ActiveAlert;
+use crate::active_alerts::ActiveAlert;
 use alert_defs::AlertRow;
 use rt_types::{Cause, Effect, Text, Translated, Translation};
 use std::alloc::Global;
 
 /// The row of an alert, with its heading; or want of memory.
 pub(crate) fn row_of(alloc: Global, active: &ActiveAlert<'_>) -> Result<AlertRow, NoMemory>
-    ensures { IfOk result (λ row. row ≡ rule.alert_row active.now.feed active.now.id active.now.alert) }
+    ensures { IfOk result (λ row. row ≡ rule.alert_row active.now.held active.now.alert) }
 {
-    let alert = active.alert();
+    let (held, alert) = (active.held(), active.alert());
     Ok(AlertRow {
-        feed: active.feed(),
-        id: Text::new(alloc, active.id())?,
+        feed: held.number(),
+        id: Text::new(alloc, held.stored().entity.id.as_str())?,
         cause: cause_of(alert.cause),
         effect: effect_of(alert.effect),
         header: Text::new(alloc, header_of(&alert.header_text))?,

@@ -9,7 +9,7 @@ use crate::NoMemory;
 use crate::cells::{feed_name, number_text, signed};
 use crate::lines::push_line;
 use alert_defs::AlertRow;
-use board_core::HubView;
+use board_parts::HubView;
 use itoa::Buffer;
 use sched_types::NamedFeed;
 

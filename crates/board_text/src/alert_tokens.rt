@@ -9,7 +9,7 @@ use crate::NoMemory;
 use crate::as_json::{put_number, put_text};
 use crate::cells::{feed_name, signed};
 use alert_defs::AlertRow;
-use board_core::HubView;
+use board_parts::HubView;
 use json::Writer;
 use sched_types::NamedFeed;
 use std::mem;

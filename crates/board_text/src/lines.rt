@@ -10,7 +10,7 @@ use texts::push_cleaned;
 
 /// Appends a line: the fields with a tab between any two, each with a space in place of a control character, and
 /// a line feed; or as much of it as memory allows.
-pub fn push_line(fields: &[&str], out: &mut Vec<u8>) -> Result<(), NoMemory>
+pub(crate) fn push_line(fields: &[&str], out: &mut Vec<u8>) -> Result<(), NoMemory>
     ensures { OnOk result
         (out.new.items ≡ out.old.items ++ line_of_fields (map (λ field. field.now) fields.now)) }
 {

@@ -1,19 +1,16 @@
 //! The status of a hub as text.
 
-ghost use Rattle.std.specs.Prelude.{◌≡◌, ◌≤◌, [], ◌∷◌, ◌++◌, length, map, codes, OnOk, OnErr};
-ghost use Rattle.std.specs.Arc.{arc_value};
+ghost use Rattle.std.specs.Prelude.{◌≡◌, [], ◌∷◌, ◌++◌, codes, OnOk, OnErr};
 ghost use Rattle.std.specs.Fmt.{decimal};
+ghost use Rattle.std.specs.List.{flat_map};
 ghost use Rattle.board_defs.specs.Views.{folds_of};
 ghost use Rattle.board_text_defs.specs.Lines.{line_of_fields};
-ghost use Rattle.board_text_defs.specs.Status.{status_columns, status_line, status_lines, status_text};
+ghost use Rattle.board_text_defs.specs.Status.{status_columns, status_line, status_text};
 
 use crate::NoMemory;
 use crate::lines::push_line;
-use board_core::HubView;
-use feed_view::FeedView;
+use board_parts::{HubFeed, HubFeeds, HubView};
 use itoa::Buffer;
-use sched_types::NamedFeed;
-use std::sync::Arc;
 
 /// Appends the status of a hub: a line with how many messages it accepted, a line with the names of the columns,
 /// and a line for each feed with its name, how many of its messages were accepted, the stamp of the last, in
@@ -38,7 +35,7 @@ fn push_status(view: &HubView, out: &mut Vec<u8>) -> Result<(), NoMemory>
     view.sound();
     push_entries(view.entries(), out)?;
     push_columns(out)?;
-    push_feeds(view.plans().feeds(), view.feeds(), out)
+    push_feeds(view.hub_feeds(), out)
 }
 
 /// Appends the line with how many messages were accepted.
@@ -66,30 +63,23 @@ fn push_columns(out: &mut Vec<u8>) -> Result<(), NoMemory>
 }
 
 /// Appends a line for each feed.
-#[tactic(auto, unfolding(board_text_defs::specs::Status::status_lines))]
-fn push_feeds(
-    feeds: &[NamedFeed],
-    views: &[Arc<FeedView>],
-    out: &mut Vec<u8>,
-) -> Result<(), NoMemory>
-    requires each { length views.now ≡ length feeds.now }
-    ensures { OnOk result (out.new.items ≡ out.old.items
-        ++ status_lines feeds.now (map (λ feed. feed.fold) (map arc_value views.now))) }
+fn push_feeds(feeds: HubFeeds<'_>, out: &mut Vec<u8>) -> Result<(), NoMemory>
+    ensures { OnOk result (out.new.items ≡ out.old.items ++ flat_map status_line feeds.entry) }
 {
-    for (i, feed) in feeds.iter().enumerate() {
-        push_feed(feed, &views[i], out)?;
+    for feed in feeds {
+        push_feed(&feed, out)?;
     }
     Ok(())
 }
 
 /// Appends the line of a feed.
-fn push_feed(feed: &NamedFeed, view: &FeedView, out: &mut Vec<u8>) -> Result<(), NoMemory>
-    ensures { OnOk result
-        (out.new.items ≡ out.old.items ++ status_line feed.now view.now.fold) }
+fn push_feed(feed: &HubFeed<'_>, out: &mut Vec<u8>) -> Result<(), NoMemory>
+    ensures { OnOk result (out.new.items ≡ out.old.items ++ status_line feed.now) }
 {
+    let view = feed.view();
     let (mut count, mut stamp, mut entities) = (Buffer::new(), Buffer::new(), Buffer::new());
     push_cells(
-        feed.name.as_str(),
+        feed.feed().name.as_str(),
         count.format(view.count()),
         stamp.format(view.stamp()),
         entities.format(view.table().len()),

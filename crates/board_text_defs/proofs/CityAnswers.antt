@@ -4,7 +4,6 @@ use Rattle.std.specs.Fmt.{digits}
 use Rattle.json.specs.Print.{escape_byte, print_from}
 use Rattle.text_defs.specs.Cleaned.{line_feed}
 use Rattle.text_defs.specs.Dates.{is_day, date_plus, next_day, date_in}
-use Rattle.feed_defs.specs.declared.history.Entry.{Entry}
 use Rattle.feed_defs.specs.History.{messages_of, since_full, changes_by_id, entities_of}
 use Rattle.sched_types.specs.City.{city}
 use Rattle.sched_types.specs.Schedules.{Schedules}
@@ -13,7 +12,7 @@ use Rattle.delay_rule_defs.specs.Delays.{states}
 use Rattle.order.specs.Order.{inserted, ordered}
 use Rattle.board_defs.specs.declared.row.Row.{Row}
 use Rattle.board_defs.specs.declared.row.RowState.TheVariants as state
-use Rattle.board_defs.specs.Choice.{chosen, updates_from, added_updates}
+use Rattle.board_defs.specs.Choice.{chosen, added_updates}
 use Rattle.board_defs.specs.Fold.{fold_of}
 use Rattle.board_defs.specs.Rows.{all_runs, run_rows, board_at, board}
 use Rattle.board_text_defs.specs.Lines.{tab, between_tabs}
@@ -25,7 +24,7 @@ use Rattle.board_text_defs.specs.Answers.{BoardAsked, board_answer, feed_answer,
 abbrev schedules : Schedules
 schedules = record {
   plans = record { name = codes "city"; prefix = []; plan = city } ∷ [];
-  feeds = record { name = codes "a"; plan = 0 } ∷ record { name = codes "b"; plan = 0 } ∷ [];
+  feeds = record { name = codes "a"; plan = 0; max_age = 0 } ∷ record { name = codes "b"; plan = 0; max_age = 0 } ∷ [];
 }
 
 -- the market, for an hour from 07:53:20 on
@@ -60,13 +59,13 @@ as_text : answered (asked (codes "city") (codes "ST") 2 false)
     ∷ codes "headsign" ∷ codes "trip" ∷ codes "date" ∷ codes "platform" ∷ [])
     ++ (departure (codes "1743314400") (codes "T1") (codes "S1")
     ++ (departure (codes "1743315660") (codes "T1") (codes "S2") ++ []))))
-unfolding fold_of messages_of since_full changes_by_id entities_of updates_from chosen added_updates match_of by_near date_in is_day date_plus next_day states all_runs run_rows board_at board inserted ordered digits between_tabs board_text schedule_number board_answer
+unfolding fold_of messages_of since_full changes_by_id entities_of chosen added_updates match_of by_near date_in is_day date_plus next_day states all_runs run_rows board_at board inserted ordered digits between_tabs board_text schedule_number board_answer
 as_text = refl
 
 -- one row as JSON
 as_json : answered (asked (codes "city") (codes "ST") 1 true)
     ≡ Some (codes "{\"name\":\"Market\",\"rows\":[{\"date\":\"20250330\",\"delay\":null,\"expected\":1743314400,\"headsign\":\"Hill\",\"platform\":\"S1\",\"route\":\"7\",\"scheduled\":1743314400,\"state\":\"scheduled\",\"trip\":\"T1\"}],\"stop\":\"ST\"}")
-unfolding fold_of messages_of since_full changes_by_id entities_of updates_from chosen added_updates match_of by_near date_in is_day date_plus next_day states all_runs run_rows board_at board inserted ordered digits print_from escape_byte board_json schedule_number board_answer
+unfolding fold_of messages_of since_full changes_by_id entities_of chosen added_updates match_of by_near date_in is_day date_plus next_day states all_runs run_rows board_at board inserted ordered digits print_from escape_byte board_json schedule_number board_answer
 as_json = refl
 
 -- a stop and a schedule that aren't there
@@ -74,7 +73,7 @@ not_there : (answered (asked (codes "city") (codes "NO") 2 false) ≡ None)
     × (answered (asked (codes "town") (codes "ST") 2 false) ≡ None)
     × (feed_answer schedules (fold_of 2 []) (codes "town") ≡ None)
     × (feed_number schedules (codes "b") ≡ Some 1) × (feed_number schedules (codes "c") ≡ None)
-unfolding fold_of messages_of since_full changes_by_id entities_of updates_from chosen added_updates match_of by_near date_in is_day date_plus next_day states all_runs run_rows board_at board inserted ordered digits schedule_number feed_number feed_answer board_answer
+unfolding fold_of messages_of since_full changes_by_id entities_of chosen added_updates match_of by_near date_in is_day date_plus next_day states all_runs run_rows board_at board inserted ordered digits schedule_number feed_number feed_answer board_answer
 not_there = (refl, refl, refl, refl, refl)
 
 -- a row with a delay, one before 1970, and texts with control characters: a line of text keeps none, a

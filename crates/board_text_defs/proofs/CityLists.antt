@@ -11,15 +11,15 @@ use Rattle.sched_types.specs.Schedules.{Schedules}
 use Rattle.trip_match_defs.specs.Matching.{match_of, by_near}
 use Rattle.delay_rule_defs.specs.Delays.{states}
 use Rattle.order.specs.Order.{inserted, ordered}
-use Rattle.board_defs.specs.Choice.{chosen, updates_from, added_updates}
+use Rattle.board_defs.specs.Choice.{chosen, added_updates}
 use Rattle.board_defs.specs.Fold.{fold_of}
 use Rattle.board_defs.specs.Rows.{all_runs, run_rows, board_at, board}
-use Rattle.alert_defs.specs.Alerts.{is_active, concerns, over_feeds, alerts}
+use Rattle.alert_defs.specs.Alerts.{is_active, concerns, alerts}
 use Rattle.alert_defs.specs.Touching.{touches}
 use Rattle.alert_defs.specs.Unmatched.{unmatched}
 use Rattle.board_text_defs.specs.Lines.{between_tabs}
 use Rattle.board_text_defs.specs.Alerts.{alerts_text, alerts_json}
-use Rattle.board_text_defs.specs.Status.{status_text, status_lines}
+use Rattle.board_text_defs.specs.Status.{status_text}
 use Rattle.board_text_defs.specs.UnmatchedText.{unmatched_text}
 use Rattle.board_text_defs.specs.Answers.{Question, answer_to, alerts_answer, unmatched_answer, schedule_number}
 use Rattle.board_text_defs.specs.Answers.Question.{AlertsOf, UnmatchedOf, StatusOf}
@@ -28,7 +28,7 @@ use Rattle.board_text_defs.specs.Answers.Question.{AlertsOf, UnmatchedOf, Status
 abbrev schedules : Schedules
 schedules = record {
   plans = record { name = codes "city"; prefix = []; plan = city } ∷ [];
-  feeds = record { name = codes "a"; plan = 0 } ∷ [];
+  feeds = record { name = codes "a"; plan = 0; max_age = 0 } ∷ [];
 }
 
 -- one message of the feed a
@@ -73,8 +73,8 @@ lift_out = record {
 }
 
 -- the update of a trip that isn't there
-abbrev stranger : Entity
-stranger = record {
+abbrev about_no_run : Entity
+about_no_run = record {
   id = codes "u";
   is_deleted = None;
   trip_update = Some (record {
@@ -117,7 +117,7 @@ alerts_told :
     ≡ Some (codes "feed\tid\tcause\teffect\theader\na\tw\t-\t-\tLift out\n"))
     × (told (lift_out ∷ []) (harbour (codes "city") 1743315000) ≡ Some (codes "feed\tid\tcause\teffect\theader\n"))
     × (told (lift_out ∷ []) (harbour (codes "town") 1743314999) ≡ None)
-unfolding alerts_answer alerts_text alerts over_feeds is_active concerns touches fold_of messages_of since_full changes_by_id entities_of updates_from chosen added_updates match_of by_near date_in is_day date_plus next_day states all_runs run_rows board_at board inserted ordered digits between_tabs schedule_number
+unfolding alerts_answer alerts_text alerts is_active concerns touches fold_of messages_of since_full changes_by_id entities_of chosen added_updates match_of by_near date_in is_day date_plus next_day states all_runs run_rows board_at board inserted ordered digits between_tabs schedule_number
 alerts_told = (refl, refl, refl)
 
 -- one alert as JSON
@@ -128,9 +128,9 @@ alerts_spelled = refl
 
 -- one message of no entity was accepted
 status_told : told [] StatusOf ≡ Some (codes "entries\t1\nfeed\taccepted\tlast\tentities\na\t1\t5\t0\n")
-unfolding status_text status_lines fold_of messages_of since_full changes_by_id entities_of digits between_tabs
+unfolding status_text fold_of messages_of since_full changes_by_id entities_of digits between_tabs
 status_told = refl
 
-strangers_told : told (stranger ∷ []) (UnmatchedOf (codes "city")) ≡ Some (codes "feed\tid\tkind\treason\na\tu\ttrip\tnotrip\n")
-unfolding unmatched_answer unmatched_text unmatched over_feeds fold_of messages_of since_full changes_by_id entities_of match_of by_near date_in is_day date_plus next_day digits between_tabs schedule_number
-strangers_told = refl
+unmatched_told : told (about_no_run ∷ []) (UnmatchedOf (codes "city")) ≡ Some (codes "feed\tid\tkind\treason\na\tu\ttrip\tnotrip\n")
+unfolding unmatched_answer unmatched_text unmatched fold_of messages_of since_full changes_by_id entities_of match_of by_near date_in is_day date_plus next_day digits between_tabs schedule_number
+unmatched_told = refl

@@ -7,7 +7,8 @@ use Rattle.std.proofs.lemmas.Int.{ints}
 use Rattle.std.proofs.lemmas.List.Elements.{All-nil, All-append, All-push, All-replicate, All-same}
 use Rattle.sched_types.specs.Timetable.{IsSmall}
 use Rattle.delay_rule_defs.specs.declared.state.StopState.{StopState}
-use Rattle.delay_rule_defs.specs.Delays.{is_instant, plain}
+use Rattle.text_defs.specs.Moments.{is_instant}
+use Rattle.delay_rule_defs.specs.Delays.{plain}
 use Rattle.delay_rule.specs.Near.{IsNear, IsNearState, AddsNear}
 
 -- a time that counts is near to a small instant and a time of day behind it

@@ -1,25 +1,16 @@
 // What an update tells of the place that it takes.
 ghost use Rattle.std.specs.Prelude.{◌≡◌, true, pos, ◌+ℤ◌, ◌-ℤ◌, IfSome};
+ghost use Rattle.text_defs.specs.Moments.{is_instant};
 ghost use Rattle.sched_types.specs.Timetable.{IsSmall};
 ghost use Rattle.delay_rule_defs.specs.Delays as rule;
-ghost use Rattle.delay_rule_defs.specs.Delays.{is_instant, relation_of, state_by};
+ghost use Rattle.delay_rule_defs.specs.Delays.{relation_of, state_by};
 ghost use Rattle.delay_rule.specs.Near.{IsNear, IsNearState};
 ghost use Rattle.delay_rule.specs.Pass.{told_by};
 
 use delay_rule_defs::StopState;
 use rt_types::{Event, StopRelation, StopUpdate};
 use sched_types::Place;
-use texts::LAST_MOMENT;
-
-/// The last moment, as a time of an event.
-const LAST_INSTANT: i64 = LAST_MOMENT as i64;
-
-/// Whether a time counts: from the first second of 1970 on, up to the end of the year 9999.
-fn is_instant(time: i64) -> bool
-    ensures { result ≡ is_instant time }
-{
-    1 <= time && time <= LAST_INSTANT
-}
+use texts::is_instant;
 
 /// How far a time that counts lies behind what is scheduled so many seconds after `base`.
 fn seconds_behind(time: i64, base: i64, seconds: u32) -> i64

@@ -1,6 +1,6 @@
 -- The states of a run's places under a trip update (GTFS Realtime, TripUpdate; Trip Updates, "Stop Time
 -- Updates"). Delays are seconds behind the timetable; None is an unknown one.
-use Rattle.std.specs.Prelude.{ℕ, ◌+◌, Bool, true, false, ◌==◌, nat_lt, if◌then◌else◌, Option, Some, None, unwrap_or, List, [], ◌∷◌, length, map, filter, filter_map, drop, ℤ, pos, negsuc, ◌-ℤ◌}
+use Rattle.std.specs.Prelude.{ℕ, ◌+◌, Bool, true, false, ◌==◌, nat_lt, if◌then◌else◌, Option, Some, None, unwrap_or, List, [], ◌∷◌, length, map, filter, filter_map, drop, ℤ, pos, ◌-ℤ◌}
 use Rattle.std.specs.List.{find, last_or, position_from, range_with_len}
 use Rattle.std.specs.Option.{option_or, option_map}
 use Rattle.rt_types.specs.declared.enums.StopRelation.{StopRelation}
@@ -8,7 +8,7 @@ use Rattle.rt_types.specs.declared.enums.StopRelation.TheVariants.{Scheduled, Sk
 use Rattle.rt_types.specs.declared.trip_update.Event.{Event}
 use Rattle.rt_types.specs.declared.trip_update.StopUpdate.{StopUpdate}
 use Rattle.rt_types.specs.declared.trip_update.TripUpdate.{TripUpdate}
-use Rattle.text_defs.specs.Moments.{is_stamp}
+use Rattle.text_defs.specs.Moments.{is_instant}
 use Rattle.sched_types.specs.declared.rows.Place.{Place}
 use Rattle.sched_types.specs.declared.rows.Run.{Run}
 use Rattle.sched_types.specs.Timetable.{Timetable, number_of, places_of, arrival_at, departure_at, is_given}
@@ -48,12 +48,8 @@ placements_of t trip (update ∷ updates) from =
 
 -- ---- what its events tell
 
--- a time that counts: from the first second of 1970 on, up to the end of the year 9999
-abbrev pub is_instant : ℤ → Bool
-is_instant (pos n) = is_stamp n
-is_instant (negsuc n) = false
-
--- the delay that a time tells, of something scheduled
+-- the delay that a time tells, of something scheduled: a time counts from the first second of 1970 on, up to the
+-- end of the year 9999
 abbrev pub by_time : ℤ → Option ℤ → Option ℤ
 by_time scheduled None = None
 by_time scheduled (Some time) = if is_instant time then Some (time -ℤ scheduled) else None

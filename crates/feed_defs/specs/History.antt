@@ -1,5 +1,5 @@
 -- Which messages a hub accepts, and what it holds of the messages that it accepted.
-use Rattle.std.specs.Prelude.{◌≡◌, ℕ, ◌+◌, List, [], ◌∷◌, ◌++◌, length, map, reverse, filter, Option, Some, None, Result, Ok, Err, Bool, true, false, not, unwrap_or, fold, nat_lt, nat_le, codes, ◌==◌, ◌&&◌, ◌||◌, if◌then◌else◌}
+use Rattle.std.specs.Prelude.{◌≡◌, ℕ, ◌+◌, List, [], ◌∷◌, ◌++◌, length, map, reverse, filter, Option, Some, None, Result, Ok, Err, Bool, true, false, not, unwrap_or, fold, nat_lt, codes, ◌==◌, ◌&&◌, ◌||◌, if◌then◌else◌}
 use Rattle.std.specs.List.{filter_map, flat_map, last_or, list_any, list_all, AllByRecursion}
 use Rattle.std.specs.Str.{bytes_eq}
 use Rattle.std.specs.Ordering.{nat_cmp}
@@ -11,7 +11,7 @@ use Rattle.rt_types.specs.declared.enums.Incrementality.TheVariants.{FullDataset
 use Rattle.rt_types.specs.declared.message.FeedMessage.{FeedMessage}
 use Rattle.feed_defs.specs.declared.history.Entry.{Entry}
 use Rattle.feed_defs.specs.declared.history.Stored.{Stored}
-use Rattle.text_defs.specs.Moments.{last_moment}
+use Rattle.text_defs.specs.Moments.{is_stamp}
 use Rattle.pb_wire_defs.specs.Spelling.{AreBytes}
 use Rattle.feed_defs.specs.Rows.{Fault}
 use Rattle.feed_defs.specs.Table.{read}
@@ -29,7 +29,7 @@ abbrev pub has_version : FeedMessage → Bool
 has_version m = bytes_eq m.header.version (codes "1.0") || bytes_eq m.header.version (codes "2.0")
 
 abbrev pub has_moment : FeedMessage → Bool
-has_moment m = nat_le 1 (stamp_of m) && nat_le (stamp_of m) last_moment
+has_moment m = is_stamp (stamp_of m)
 
 -- a message that may stand in a history
 abbrev pub is_sound : FeedMessage → Bool

@@ -4,7 +4,7 @@
 //! and the entities of the schedule's feeds by feed and then by id. Each has its own id under its feed's name,
 //! as `<feed>:<id>`, and the ids of the timetable in it under the schedule's prefix.
 //!
-//! It stands on `board_core` for what the feeds hold, and on `feed_write` for the bytes.
+//! It stands on `board_parts` for what the feeds hold, and on `feed_write` for the bytes.
 #![tactic(auto)]
 
 mod entities;

@@ -1,25 +1,21 @@
 //! The message, and its bytes.
 
-ghost use Rattle.std.specs.Prelude.{◌≡◌, ◌<◌, ◌^◌, ◌++◌, List, length, map, true, Ok, IfOk, OnOk};
+ghost use Rattle.std.specs.Prelude.{◌≡◌, ◌<◌, ◌++◌, List, length, true, Ok, IfOk, OnOk};
 ghost use Rattle.std.specs.Str.{is_utf8};
-ghost use Rattle.std.specs.Arc.{arc_value};
 ghost use Rattle.feed_defs.specs.declared.history.Entry.{Entry};
 ghost use Rattle.feed_defs.specs.History.{WereRead};
 ghost use Rattle.feed_defs.specs.Table.{read, write};
 ghost use Rattle.board_defs.specs.Feed.{newest_of, combined_feed};
 ghost use Rattle.board_defs.specs.Fold.{fold_of};
 ghost use Rattle.board_defs.specs.Views.{StandsFor, folds_of};
-ghost use Rattle.feed_out.specs.Feeds.{told_of, later_of, schedule_message, header_of};
+ghost use Rattle.feed_out.specs.Fields.{schedule_message, header_of};
 
 use crate::NoMemory;
 use crate::entities::push_entities;
-use board_core::HubView;
-use feed_view::FeedView;
+use board_parts::{HubView, ScheduleFeeds};
 use feed_write::write_message;
 use rt_types::{Bytes, Entities, FeedMessage, Header, Incrementality, Text};
-use sched_types::NamedFeed;
 use std::alloc::Global;
-use std::sync::Arc;
 
 /// The bytes of the combined feed of the schedule of that number (GTFS Realtime 2.0, FeedMessage), of what the
 /// hub's feeds hold; or want of memory. Where the hub's messages were read, they read as the message that they
@@ -33,14 +29,11 @@ pub fn combined(alloc: Global, view: &HubView, plan: u32) -> Result<Vec<u8>, NoM
         ≡ Ok (schedule_message view.now.plans plan (folds_of view.now))) }
 {
     view.sound();
-    let plans = view.plans();
-    let prefix = plans.plans()[plan as usize].prefix.as_str();
+    let prefix = view.plans().plans()[plan as usize].prefix.as_str();
     is_text(prefix);
-    let feeds = plans.feeds();
-    let views = view.feeds();
     let mut bytes = Vec::new(alloc);
-    push_header(alloc, newest(plan, feeds, views), &mut bytes)?;
-    push_entities(prefix, plan, feeds, views, &mut bytes)?;
+    push_header(alloc, newest(view.feeds_of(plan)), &mut bytes)?;
+    push_entities(prefix, view.entities_of(plan), &mut bytes)?;
     Ok(bytes)
 }
 
@@ -67,25 +60,13 @@ fn push_header(alloc: Global, newest: u64, out: &mut Vec<u8>) -> Result<(), NoMe
     write_message(&message, out)
 }
 
-/// The greatest last stamp of the schedule's feeds, 0 if it has none.
-fn newest(plan: u32, feeds: &[NamedFeed], views: &[Arc<FeedView>]) -> u64
-    requires { length views.now ≡ length feeds.now }
-    ensures { result ≡ newest_of (told_of plan feeds.now (map arc_value views.now)) }
+/// The greatest last stamp of some feeds, 0 if there are none.
+fn newest(feeds: ScheduleFeeds<'_>) -> u64
+    ensures { result ≡ newest_of feeds.entry }
 {
     let mut newest = 0;
-    for (i, feed) in feeds.iter().enumerate() {
-        newest = later(newest, plan, feed, &views[i]);
+    for feed in feeds {
+        newest = newest.max(feed.view().stamp());
     }
     newest
-}
-
-/// The later of the stamp and the feed's last one, where the feed is one of the schedule.
-fn later(newest: u64, plan: u32, feed: &NamedFeed, view: &FeedView) -> u64
-    ensures { result ≡ later_of plan newest feed.now view.now.fold }
-{
-    if feed.plan == plan {
-        newest.max(view.stamp())
-    } else {
-        newest
-    }
 }

@@ -5,7 +5,7 @@ ghost use Rattle.http_door.specs.Doors.{ServesDoor};
 ghost use Rattle.http_door.specs.Visits.{ends, hub};
 
 use crate::report::{DoorEnd, DoorReport};
-use board_core::Oracle;
+use board_parts::Oracle;
 use http_serve::ConnectionServer;
 use hub_outside::{Clock, Door, DoorAnswer, Gate, GatePoint, Sink, Source};
 use std::alloc::Global;

@@ -8,7 +8,7 @@ use Rattle.std.proofs.Math.Seq.{take-length}
 use Rattle.feed_defs.specs.declared.history.Entry.{Entry}
 use Rattle.sched_types.specs.Schedules.{Schedules}
 use Rattle.hub_outside.specs.Clock.{after_reading}
-use Rattle.board_core.specs.Looks.{GoesOn}
+use Rattle.board_parts.specs.Looks.{GoesOn}
 use Rattle.board_defs.specs.Fold.{fold_of}
 use Rattle.http_defs.specs.declared.request.Item.{Item}
 use Rattle.http_defs.specs.Requests.{last_place}

@@ -8,7 +8,7 @@ use Rattle.feed_defs.specs.declared.history.Entry.{Entry}
 use Rattle.sched_types.specs.Schedules.{Schedules}
 use Rattle.board_defs.specs.Fold.{FeedFold, fold_of}
 use Rattle.board_defs.specs.Views.{HubKept, StandsFor, folds_of}
-use Rattle.board_core.specs.Looks.{Looked}
+use Rattle.board_parts.specs.Looks.{Looked}
 use Rattle.hub_outside.specs.Clock.{ShowsFirst, after_reading}
 use Rattle.hub_outside.specs.Count.{Rose}
 use Rattle.http_defs.specs.declared.request.Item.{Item}

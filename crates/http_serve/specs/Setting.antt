@@ -4,7 +4,7 @@ use Rattle.std.specs.Option.{option_map}
 use Rattle.feed_defs.specs.declared.history.Entry.{Entry}
 use Rattle.sched_types.specs.Schedules.{Schedules}
 use Rattle.hub_outside.specs.Clock.{ShowsFirst, after_reading}
-use Rattle.board_core.specs.Looks.{GoesOn}
+use Rattle.board_parts.specs.Looks.{GoesOn}
 
 -- the bytes written and the faults of the sink, the readings ahead of the clock, and of the oracle
 -- its timetables, its history, how often it was looked at, and whether its history stands still

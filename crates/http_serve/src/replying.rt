@@ -5,7 +5,7 @@ ghost use Rattle.http_serve.specs.Turns.{Replies};
 
 use crate::notes::Notes;
 use crate::responses::Responder;
-use board_core::Oracle;
+use board_parts::Oracle;
 use http_defs::Item;
 use hub_outside::{Clock, Sink, write_all};
 

@@ -8,7 +8,7 @@ ghost use Rattle.http_serve.specs.Headings.{answered_by};
 
 use crate::NoMemory;
 use crate::questions::{kind_of, question_of, refusal_code};
-use board_core::HubView;
+use board_parts::HubView;
 use http_defs::{BodyKind, Item, Query};
 use http_routes::{Routes, refusal_body, response_bytes};
 use std::alloc::Global;

@@ -9,7 +9,7 @@ use crate::notes::Notes;
 use crate::serving::Service;
 use crate::transcript::finish_of;
 use crate::{End, NoMemory, Session, Transcript};
-use board_core::Oracle;
+use board_parts::Oracle;
 use hub_outside::{Clock, FixedClock, MemorySink, MemorySource, Sink, Source};
 use std::alloc::Global;
 use std::marker::Model;

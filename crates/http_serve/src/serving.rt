@@ -9,7 +9,7 @@ use crate::notes::Notes;
 use crate::replying::{LAST_PLACE, Unwritten, reply};
 use crate::responses::{Responder, closes_behind};
 use crate::{End, NoMemory, Session};
-use board_core::Oracle;
+use board_parts::Oracle;
 use http_defs::Item;
 use http_req::{RequestReader, Taken};
 use hub_outside::{Clock, Sink, Source};

@@ -5,7 +5,7 @@ ghost use Rattle.http_serve.specs.Transcript.{IsTranscript, Finishes};
 
 use crate::server::ConnectionServer;
 use crate::{End, NoMemory};
-use board_core::Oracle;
+use board_parts::Oracle;
 use hub_outside::MemorySink;
 use std::alloc::Global;
 

@@ -9,16 +9,16 @@ use Rattle.sched_types.specs.Schedules.{Schedules}
 use Rattle.trip_match_defs.specs.Matching.{match_of, by_near}
 use Rattle.delay_rule_defs.specs.Delays.{states}
 use Rattle.order.specs.Order.{inserted, ordered}
-use Rattle.board_defs.specs.Choice.{chosen, updates_from, added_updates}
+use Rattle.board_defs.specs.Choice.{chosen, added_updates}
 use Rattle.board_defs.specs.Fold.{fold_of}
 use Rattle.board_defs.specs.Rows.{all_runs, run_rows, board_at, board}
 use Rattle.board_text_defs.specs.Lines.{tab, between_tabs}
 use Rattle.board_text_defs.specs.BoardText.{board_text}
 use Rattle.board_text_defs.specs.Alerts.{alerts_text}
-use Rattle.board_text_defs.specs.Status.{status_text, status_lines}
+use Rattle.board_text_defs.specs.Status.{status_text}
 use Rattle.board_text_defs.specs.UnmatchedText.{unmatched_text}
 use Rattle.board_text_defs.specs.Answers.{board_answer, feed_answer, alerts_answer, unmatched_answer, schedule_number}
-use Rattle.alert_defs.specs.Alerts.{over_feeds, alerts}
+use Rattle.alert_defs.specs.Alerts.{alerts}
 use Rattle.alert_defs.specs.Unmatched.{unmatched}
 use Rattle.http_defs.specs.declared.request.Item.{Item}
 use Rattle.http_defs.specs.declared.request.Item.TheVariants.{Asked, Malformed}
@@ -30,7 +30,7 @@ use Rattle.http_serve_defs.specs.Answers.{answer, closes_behind}
 abbrev schedules : Schedules
 schedules = record {
   plans = record { name = codes "city"; prefix = []; plan = city } ∷ [];
-  feeds = record { name = codes "a"; plan = 0 } ∷ record { name = codes "b"; plan = 0 } ∷ [];
+  feeds = record { name = codes "a"; plan = 0; max_age = 0 } ∷ record { name = codes "b"; plan = 0; max_age = 0 } ∷ [];
 }
 
 -- a GET of that target that has no body and doesn't ask to close
@@ -73,7 +73,7 @@ board_is_answered :
     ≡ head (codes "200 OK") 137 (codes "keep-alive") ++ harbour)
     × (answered (get (codes "/board/city/S3?limit=1")) true
     ≡ head (codes "200 OK") 137 (codes "close") ++ harbour)
-unfolding http_on_literals fold_of messages_of since_full changes_by_id entities_of updates_from chosen added_updates match_of by_near date_in is_day date_plus next_day states all_runs run_rows board_at board inserted ordered digits between_tabs board_text schedule_number board_answer answer closes_behind
+unfolding http_on_literals fold_of messages_of since_full changes_by_id entities_of chosen added_updates match_of by_near date_in is_day date_plus next_day states all_runs run_rows board_at board inserted ordered digits between_tabs board_text schedule_number board_answer answer closes_behind
 board_is_answered = (refl, refl)
 
 -- what isn't there: a stop, a schedule
@@ -84,7 +84,7 @@ nothing_is_found :
     × (answered (get (codes "/feed/town")) false ≡ refusal 404 0 1743314000 false)
     × (answered (get (codes "/unmatched/town")) true ≡ refusal 404 0 1743314000 true)
     × (answered (get (codes "/alerts/city/NO")) false ≡ refusal 404 0 1743314000 false)
-unfolding http_on_literals fold_of messages_of since_full changes_by_id entities_of updates_from chosen added_updates match_of by_near date_in is_day date_plus next_day states all_runs run_rows board_at board inserted ordered digits schedule_number board_answer feed_answer unmatched_answer alerts_answer alerts answer closes_behind
+unfolding http_on_literals fold_of messages_of since_full changes_by_id entities_of chosen added_updates match_of by_near date_in is_day date_plus next_day states all_runs run_rows board_at board inserted ordered digits schedule_number board_answer feed_answer unmatched_answer alerts_answer alerts answer closes_behind
 nothing_is_found = (refl, refl, refl, refl, refl)
 
 -- the lists beside a board, of feeds that said nothing
@@ -96,7 +96,7 @@ lists_are_answered :
     ≡ head (codes "200 OK") 20 (codes "keep-alive") ++ codes "feed\tid\tkind\treason\n")
     × (answered (get (codes "/alerts/city/S3")) false
     ≡ head (codes "200 OK") 28 (codes "keep-alive") ++ codes "feed\tid\tcause\teffect\theader\n")
-unfolding http_on_literals fold_of messages_of since_full changes_by_id entities_of updates_from chosen added_updates match_of by_near date_in is_day date_plus next_day states all_runs run_rows board_at board inserted ordered digits between_tabs schedule_number status_text status_lines unmatched_answer unmatched_text unmatched over_feeds alerts_answer alerts_text alerts answer closes_behind
+unfolding http_on_literals fold_of messages_of since_full changes_by_id entities_of chosen added_updates match_of by_near date_in is_day date_plus next_day states all_runs run_rows board_at board inserted ordered digits between_tabs schedule_number status_text unmatched_answer unmatched_text unmatched alerts_answer alerts_text alerts answer closes_behind
 lists_are_answered = (refl, refl, refl)
 
 -- refusals, by the rule that applies first

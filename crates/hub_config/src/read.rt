@@ -99,6 +99,7 @@ fn feed_of(alloc: Global, table: &Table, schedules: &[ScheduleConf]) -> Result<F
         schedule: index_of(text_at(table, Key::FeedSchedule), schedules),
         kind: port_of(text_at(table, Key::Kind)).unwrap_or(PortKind::Nothing),
         place: Text::new(alloc, text_at(table, Key::Place))?,
+        max_age: u64::from(number_at(table, Key::MaxAge)),
     })
 }
 

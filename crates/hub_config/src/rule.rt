@@ -68,6 +68,7 @@ pub fn rule_for(key: Key) -> Rule
         Key::FeedSchedule => Rule::new("schedule", Holds::KnownSchedule, Absent::Refused),
         Key::Kind => Rule::new("kind", Holds::Port, Absent::Text("none")),
         Key::Place => Rule::new("place", Holds::AnyText, Absent::Text("")),
+        Key::MaxAge => Rule::new("max_age", Holds::Number(0, 31_622_400), Absent::Number(0)),
     }
 }
 
@@ -88,7 +89,13 @@ static SCHEDULE_KEYS: [Key; 6] = [
     Key::Prefix,
 ];
 
-static FEED_KEYS: [Key; 4] = [Key::FeedName, Key::FeedSchedule, Key::Kind, Key::Place];
+static FEED_KEYS: [Key; 5] = [
+    Key::FeedName,
+    Key::FeedSchedule,
+    Key::Kind,
+    Key::Place,
+    Key::MaxAge,
+];
 
 /// The keys of such a table, in the order in which they are judged.
 #[tactic(auto, unfolding(hub_config_defs::specs::Rules::keys_of))]

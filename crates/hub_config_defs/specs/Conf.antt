@@ -49,6 +49,7 @@ feed_of schedules ms = record {
   schedule = index_of (text_at key.FeedSchedule ms) schedules;
   kind = unwrap_or (port_of (text_at key.Kind ms)) Nothing;
   place = text_at key.Place ms;
+  max_age = number_at key.MaxAge ms;
 }
 
 -- a row of `schedule`, behind those before it

@@ -42,6 +42,9 @@ pub struct FeedConf {
     pub kind: PortKind,
     /// The folder that they come in, or the TCP address that they come from.
     pub place: Text,
+    /// For how many seconds from its stamp on an update or an alert counts, up to 31622400; 0 for no
+    /// end.
+    pub max_age: u64,
 }
 
 /// The configuration of a hub.

@@ -24,6 +24,7 @@ impl Copied for FeedConf {
             schedule: self.schedule,
             kind: self.kind,
             place: self.place.copy()?,
+            max_age: self.max_age,
         })
     }
 }

@@ -18,6 +18,7 @@ pub enum Key {
     FeedSchedule,
     Kind,
     Place,
+    MaxAge,
 }
 
 /// What a value may be.

@@ -10,7 +10,7 @@ use feed_defs::LONGEST_MESSAGE;
 use feed_read::{ReadFault, read_message};
 use rt_types::{FeedMessage, Header};
 use std::alloc::Global;
-use texts::LAST_MOMENT;
+use texts::is_stamp;
 
 /// The message of the bytes, where it is well-formed and its stamp is above `last`, which is in seconds
 /// since 1970; else why it is refused.
@@ -89,8 +89,7 @@ fn has_version(message: &FeedMessage) -> bool
 fn has_moment(message: &FeedMessage) -> bool
     ensures { result ≡ has_moment message.now }
 {
-    let stamp = stamp(message);
-    1 <= stamp && stamp <= LAST_MOMENT
+    is_stamp(stamp(message))
 }
 
 /// When the message was made, in seconds since 1970; 0 where it doesn't say.

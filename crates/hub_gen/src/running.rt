@@ -110,11 +110,12 @@ fn plans_of(alloc: Global, plan: Plan) -> Result<Arc<Plans>, NoMemory>
 
 /// A feed of the timetable.
 fn feed(alloc: Global, name: &str) -> Result<NamedFeed, NoMemory>
-    ensures { IfOk result (λ feed. feed ≡ record { name = name.now; plan = 0 }) }
+    ensures { IfOk result (λ feed. feed ≡ record { name = name.now; plan = 0; max_age = 0 }) }
 {
     Ok(NamedFeed {
         name: Text::new(alloc, name)?,
         plan: 0,
+        max_age: 0,
     })
 }
 

@@ -144,6 +144,7 @@ fn named_feeds(alloc: Global, feeds: Vec<FeedConf>) -> Result<Vec<NamedFeed>, Al
         named.push(NamedFeed {
             name: feed.name,
             plan: feed.schedule,
+            max_age: feed.max_age,
         })?;
     }
     Ok(named)

@@ -12,7 +12,7 @@ ghost use Rattle.hub_words.specs.Answer.{asked_seen};
 ghost use Rattle.view_answers.specs.Questions.{MayAsk};
 
 use crate::NoMemory;
-use board_core::HubView;
+use board_parts::HubView;
 use hub_load::{HubFault, load_plans};
 use hub_outside::Files;
 use hub_words::BoardAsked;

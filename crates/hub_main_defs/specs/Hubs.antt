@@ -20,7 +20,7 @@ named_plans (schedule ∷ schedules) [] = []
 
 -- a feed, of the schedule of its number
 abbrev pub named_feed : FeedConf → NamedFeed
-named_feed feed = record { name = feed.name; plan = feed.schedule }
+named_feed feed = record { name = feed.name; plan = feed.schedule; max_age = feed.max_age }
 
 -- the schedules and feeds of a configuration, in its order
 abbrev pub schedules_of : HubConf → List Timetable → Schedules

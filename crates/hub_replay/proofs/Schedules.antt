@@ -56,7 +56,7 @@ abbrev named : List ℕ → NamedFeed → Bool
 named name feed = bytes_eq name feed.name
 
 abbrev feed_named_so : List ℕ → NamedFeed
-feed_named_so name = record { name = name; plan = 0 }
+feed_named_so name = record { name = name; plan = 0; max_age = 0 }
 
 -- none of the feeds has the name
 differs : (name : List ℕ) (feeds : List NamedFeed) → list_any (named name) feeds ≡ false → (i : ℕ) (feed : NamedFeed) → slice_get feeds i ≡ Some feed → name ≡ feed.name → ⊥

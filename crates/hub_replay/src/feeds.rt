@@ -15,7 +15,7 @@ ghost use Rattle.hub_replay_defs.specs.Record.{start, configured, most_feeds, pl
 ghost use Rattle.hub_replay.specs.Feeds.{declaring, running, hub_given, shown_hub, Answers, Declares, Serves, Tells};
 
 use crate::NoMemory;
-use board_core::Oracle;
+use board_parts::Oracle;
 use http_serve::{ConnectionServer, Transcript};
 use hub_core::Refusal;
 use hub_state::ReplayHub;
@@ -216,7 +216,11 @@ fn declare_feed(alloc: Global, feeds: &mut Vec<NamedFeed>, name: &str) -> Result
         return Ok(false);
     }
     let name = Text::new(alloc, name)?;
-    feeds.push(NamedFeed { name, plan: 0 })?;
+    feeds.push(NamedFeed {
+        name,
+        plan: 0,
+        max_age: 0,
+    })?;
     Ok(true)
 }
 

@@ -101,10 +101,10 @@ may_declare hub name =
     && not (list_any (λ feed. bytes_eq name feed.name) hub.plans.feeds)
     && nat_lt (length hub.plans.feeds) most_feeds
 
--- one more feed, of the first schedule
+-- one more feed, of the first schedule, without an age
 abbrev pub with_feed : Schedules → List ℕ → Schedules
 with_feed plans name =
-    record plans { feeds = plans.feeds ++ record { name = name; plan = 0 } ∷ [] }
+    record plans { feeds = plans.feeds ++ record { name = name; plan = 0; max_age = 0 } ∷ [] }
 
 abbrev pub declaration_turn : Hub → List ℕ → List ℕ → Option Turn
 declaration_turn hub name rest =

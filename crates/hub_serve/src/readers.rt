@@ -6,7 +6,7 @@ ghost use Rattle.hub_history.specs.Told.{history_of};
 ghost use Rattle.hub_shared.specs.Seats.{IsOf};
 
 use crate::naming::{OfHub, number_of};
-use board_core::{HubView, Oracle};
+use board_parts::{HubView, Oracle};
 use http_door::{DoorReport, serve_door};
 use hub_outside::{Clock, Door, Gate};
 use place_jobs::PlaceJob;

@@ -9,7 +9,7 @@ use crate::NoMemory;
 use crate::publishing::publish;
 use crate::seat::FeedSeat;
 use crate::tag::Tag;
-use board_core::HubView;
+use board_parts::HubView;
 use feed_permits::Desk;
 use hub_state::HubCore;
 use keyed_lock::Keyed;

@@ -14,7 +14,7 @@ use crate::locked::Locked;
 use crate::opened::Opened;
 use crate::seat::FeedSeat;
 use crate::tag::Tag;
-use board_core::HubView;
+use board_parts::HubView;
 use feed_permits::{Key, Permits, permits};
 use hub_state::HubCore;
 use keyed_lock::KeyedLock;

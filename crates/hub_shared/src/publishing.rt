@@ -8,7 +8,7 @@ ghost use Rattle.board_defs.specs.Views.{StandsFor};
 ghost use Rattle.hub_history.specs.Told.{history_of, AreOne};
 
 use crate::NoMemory;
-use board_core::HubView;
+use board_parts::HubView;
 use rt_types::FeedMessage;
 use snapshot_cell::{Publisher, Receipt};
 use std::alloc::Global;

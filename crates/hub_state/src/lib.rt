@@ -7,7 +7,7 @@
 //! view stands. `offer` judges a message, and adds it at the end or leaves everything as it was. It is an
 //! `Oracle` whose looks always answer, and whose history changes by `offer` alone.
 //!
-//! It stands on `board_core`, on `hub_core` for the judgement of messages, and on `boxcar` for a token that has
+//! It stands on `board_parts`, on `hub_core` for the judgement of messages, and on `boxcar` for a token that has
 //! no bytes.
 #![tactic(auto)]
 

@@ -5,13 +5,13 @@ ghost use Rattle.std.specs.Arc.{arc_value};
 ghost use Rattle.feed_defs.specs.History.{IsLegal, WereRead};
 ghost use Rattle.sched_types.specs.Schedules.{AreSchedules};
 ghost use Rattle.board_defs.specs.Views.{StandsFor, feed_at, hub_first};
-ghost use Rattle.board_core.specs.Looks.{Looked};
+ghost use Rattle.board_parts.specs.Looks.{Looked};
 ghost use Rattle.hub_state.specs.Replay.{Offers};
 
 use crate::NoMemory;
 use crate::looks::Looks;
 use crate::state::HubCore;
-use board_core::{HubView, Oracle};
+use board_parts::{HubView, Oracle};
 use feed_defs::Entry;
 use hub_core::{Refusal, check};
 use rt_types::Copied;

@@ -8,7 +8,7 @@ ghost use Rattle.text_defs.specs.Moments.{is_stamp};
 ghost use Rattle.board_defs.specs.Views.{StandsFor, feed_at, hub_first, hub_after};
 
 use crate::NoMemory;
-use board_core::HubView;
+use board_parts::HubView;
 use feed_view::FeedView;
 use rt_types::FeedMessage;
 use sched_types::Plans;

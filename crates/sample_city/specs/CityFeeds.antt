@@ -11,7 +11,7 @@ named_city = record { name = codes "city"; prefix = []; plan = city }
 
 -- a feed of the first timetable
 abbrev pub first_feed : List ℕ → NamedFeed
-first_feed name = record { name = name; plan = 0 }
+first_feed name = record { name = name; plan = 0; max_age = 0 }
 
 -- the city with feeds of those names
 abbrev pub city_with : List (List ℕ) → Schedules

@@ -24,11 +24,12 @@ pub fn named_city(alloc: Global) -> Result<NamedPlan, NoMemory>
 
 /// A feed of that name, of the first timetable.
 pub fn feed(alloc: Global, name: &str) -> Result<NamedFeed, NoMemory>
-    ensures { IfOk result (λ feed. feed ≡ record { name = name.now; plan = 0 }) }
+    ensures { IfOk result (λ feed. feed ≡ record { name = name.now; plan = 0; max_age = 0 }) }
 {
     Ok(NamedFeed {
         name: PlanName::new(alloc, name)?,
         plan: 0,
+        max_age: 0,
     })
 }
 

@@ -6,7 +6,7 @@ ghost use Rattle.feed_defs.specs.History.{stamp_of};
 ghost use Rattle.board_defs.specs.Views.{feed_at, hub_after};
 
 use crate::NoMemory;
-use board_core::HubView;
+use board_parts::HubView;
 use feed_view::FeedView;
 use rt_types::FeedMessage;
 use std::alloc::Global;

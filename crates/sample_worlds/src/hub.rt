@@ -5,7 +5,7 @@ ghost use Rattle.std.specs.Prelude.{◌≡◌, IfOk};
 use crate::entities::entities;
 use crate::files::folder;
 use crate::world::World;
-use board_core::HubView;
+use board_parts::HubView;
 use rt_types::Text;
 use sample_city::{dataset_of, feed, last_stamp, view_after};
 use sched_load::{LoadFault, PlanConf, load};

@@ -1,5 +1,6 @@
 //! The timetables and the feeds of one hub.
-ghost use Rattle.std.specs.Prelude.{◌≡◌};
+ghost use Rattle.std.specs.Prelude.{◌≡◌, ◌<◌, Some, length, slice_get};
+ghost use Rattle.std.specs.Option.{option_map};
 ghost use Rattle.sched_types.specs.Schedules.{Schedules, AreSchedules};
 
 use crate::plan::Plan;
@@ -24,6 +25,8 @@ pub struct NamedFeed {
     pub name: PlanName,
     /// The number of its timetable, from 0 in the order in which they were given.
     pub plan: u32,
+    /// How many seconds after its stamp an update or an alert of the feed still counts, 0 to 31622400; 0 for no end.
+    pub max_age: u64,
 }
 
 /// The timetables and the feeds of one hub. They are numbered from 0 in the order in which they were
@@ -67,6 +70,14 @@ impl Plans {
         ensures { result.now ≡ self.now.feeds }
     {
         self.feeds.as_slice()
+    }
+
+    /// How many seconds after its stamp an update or an alert of the feed of that number still counts; 0 for no end.
+    pub fn max_age(&self, feed: u32) -> u64
+        requires { feed < length self.now.feeds }
+        ensures { option_map (λ named. named.max_age) (slice_get self.now.feeds feed) ≡ Some result }
+    {
+        self.feeds()[feed as usize].max_age
     }
 
     /// Does nothing; its contract tells what is true of all timetables and feeds of a hub.

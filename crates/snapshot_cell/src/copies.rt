@@ -9,7 +9,7 @@ ghost use Rattle.snapshot_cell.specs.Rule.{knowing};
 
 use crate::rule::{Puts, Rule};
 use crate::shown::{Shown, View};
-use board_core::HubView;
+use board_parts::HubView;
 use hub_history::Line;
 use left_right::reader::Reader;
 use left_right::writer::Writer;

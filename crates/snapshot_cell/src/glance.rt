@@ -9,7 +9,7 @@ ghost use Rattle.snapshot_cell.specs.Seen.{Copies, Glances};
 use crate::copies::SnapReader;
 use crate::rule::{Behind, Looks, Rule};
 use crate::shown::{Shown, View};
-use board_core::HubView;
+use board_parts::HubView;
 use hub_history::Line;
 use left_right::reader::Reading;
 use std::alloc::Global;

@@ -13,7 +13,7 @@
 //!   a pass know the ended history.
 //!
 //! What holds a publisher is not dropped: it ends by [`Ending::end`], or within a call that finds no
-//! memory. The crate stands on `hub_history` for what is known of the history, and on `board_core`
+//! memory. The crate stands on `hub_history` for what is known of the history, and on `board_parts`
 //! for views.
 #![tactic(auto)]
 

@@ -2,7 +2,7 @@
 
 ghost use Rattle.std.specs.Prelude.{◌≡◌, ◌⊎◌, false};
 ghost use mathlib.Core.List.{IsPrefix};
-ghost use Rattle.board_core.specs.Looks.{Looked};
+ghost use Rattle.board_parts.specs.Looks.{Looked};
 ghost use Rattle.hub_history.specs.Told.{history_of, AreOne};
 
 use crate::NoMemory;
@@ -10,7 +10,7 @@ use crate::copies::SnapReader;
 use crate::ending::Ending;
 use crate::glance::{Glance, look_on};
 use crate::receipt::Receipt;
-use board_core::{HubView, Oracle};
+use board_parts::{HubView, Oracle};
 use hub_history::Line;
 use std::alloc::Global;
 use std::marker::Model;

@@ -14,7 +14,7 @@ use crate::copies::{SnapWriter, show_to_all};
 use crate::ending::Ending;
 use crate::pass::Pass;
 use crate::receipt::Receipt;
-use board_core::HubView;
+use board_parts::HubView;
 use hub_history::Author;
 use std::alloc::Global;
 use std::marker::{Brand, Model};

@@ -16,7 +16,7 @@ use crate::pass::Pass;
 use crate::publisher::Publisher;
 use crate::rule::Tells;
 use crate::shown::Shown;
-use board_core::HubView;
+use board_parts::HubView;
 use hub_history::{Author, Line};
 use left_right::writer::Writer;
 use std::alloc::Global;

@@ -1,6 +1,6 @@
 //! What the copies hold.
 
-use board_core::HubView;
+use board_parts::HubView;
 use hub_history::Line;
 use sched_types::Plans;
 use std::alloc::Global;

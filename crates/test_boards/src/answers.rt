@@ -66,8 +66,8 @@ fn a_board_of_no_stop(rt: HostRuntime) -> Result<(), Fail> {
 #[test]
 fn lists_of_a_bare_hub(rt: HostRuntime) -> Result<(), Fail> {
     let alloc = rt.alloc();
-    let strangers = b"feed\tid\tkind\treason\n";
-    assert!(rt; answers(alloc, &Question::Unmatched { schedule: "city" }, strangers)?);
+    let unmatched = b"feed\tid\tkind\treason\n";
+    assert!(rt; answers(alloc, &Question::Unmatched { schedule: "city" }, unmatched)?);
     assert!(rt; is_absent(alloc, &Question::Unmatched { schedule: "town" })?);
     let status = b"entries\t0\nfeed\taccepted\tlast\tentities\na\t0\t0\t0\n";
     assert!(rt; answers(alloc, &Question::Status, status)?);

@@ -2,7 +2,7 @@
 
 ghost use Rattle.std.specs.Prelude.{◌≡◌, length, IfOk};
 
-use board_core::HubView;
+use board_parts::HubView;
 use rt_types::Text;
 use sample_city::{NoMemory, feed};
 use sched_types::{NamedPlan, Plan, Plans};

@@ -4,7 +4,7 @@ ghost use Rattle.std.specs.Prelude.{◌≡◌, ◌<◌, length, IfOk};
 ghost use Rattle.std.specs.Arc.{arc_value};
 ghost use Rattle.board_defs.specs.Views.{hub_first};
 
-use board_core::HubView;
+use board_parts::HubView;
 use feed_out::{NoMemory, combined};
 use feed_view::FeedView;
 use rt_types::{Entity, Shared, Text, Vehicle};
@@ -27,11 +27,12 @@ fn plan(alloc: Global, name: &str, prefix: &str) -> Result<NamedPlan, NoMemory>
 
 /// A feed of the timetable of that number.
 fn feed(alloc: Global, name: &str, plan: u32) -> Result<NamedFeed, NoMemory>
-    ensures { IfOk result (λ feed. feed ≡ record { name = name.now; plan = plan }) }
+    ensures { IfOk result (λ feed. feed ≡ record { name = name.now; plan = plan; max_age = 0 }) }
 {
     Ok(NamedFeed {
         name: PlanName::new(alloc, name)?,
         plan,
+        max_age: 0,
     })
 }
 

@@ -10,7 +10,7 @@ use std::test::Fail;
 /// Whether nothing is unmatched, and no alert is listed at a stop that isn't there.
 fn is_bare(alloc: Global) -> Result<bool, NoMemory> {
     let view = bare_hub(alloc)?;
-    let strangers = unmatched(alloc, &view, 0)?;
+    let listed = unmatched(alloc, &view, 0)?;
     let query = BoardQuery {
         plan: 0,
         stop: Text::new(alloc, "S3")?,
@@ -19,7 +19,7 @@ fn is_bare(alloc: Global) -> Result<bool, NoMemory> {
         limit: 50,
     };
     let refused = alerts(alloc, &view, &query);
-    Ok(strangers.is_empty() && matches!(refused, Err(RowsFault::NoStop)))
+    Ok(listed.is_empty() && matches!(refused, Err(RowsFault::NoStop)))
 }
 
 #[test]

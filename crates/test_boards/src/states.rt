@@ -1,6 +1,6 @@
 //! A hub of two feeds, offered messages and looked at.
 
-use board_core::Oracle;
+use board_parts::Oracle;
 use hub_core::Refusal;
 use hub_state::{HubCore, NoMemory, ReplayHub};
 use sample_city::{FIVE, full_dataset, two_feeds};

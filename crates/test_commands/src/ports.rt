@@ -18,6 +18,7 @@ fn feed(alloc: Global, kind: PortKind, place: &str) -> Result<FeedConf, NoMemory
         schedule: 0,
         kind,
         place: Text::new(alloc, place)?,
+        max_age: 0,
     })
 }
 

@@ -24,7 +24,7 @@ const THOUSANDTH: &[u8] =
 const STATUS: &[u8] =
     b"HTTP/1.1 200 OK\r\nContent-Type: text/plain; charset=utf-8\r\nContent-Length: 46\r\nX-Hub-Sequence: 0\r\nX-Hub-Moment: 7\r\nConnection: keep-alive\r\n\r\nentries\t0\nfeed\taccepted\tlast\tentities\na\t0\t0\t0\n";
 
-const STRANGERS: &[u8] =
+const UNMATCHED: &[u8] =
     b"HTTP/1.1 200 OK\r\nContent-Type: text/plain; charset=utf-8\r\nContent-Length: 20\r\nX-Hub-Sequence: 0\r\nX-Hub-Moment: 7\r\nConnection: keep-alive\r\n\r\nfeed\tid\tkind\treason\n";
 
 /// Refusals.
@@ -102,8 +102,8 @@ fn lists_are_answered(rt: HostRuntime) -> Result<(), Fail> {
     let alloc = rt.alloc();
     let status = b"GET /status HTTP/1.1\r\n\r\n".to_vec(alloc)?;
     assert!(rt; is_served(alloc, status, End::Ended, 0, STATUS)?);
-    let strangers = b"GET /unmatched/city HTTP/1.1\r\n\r\n".to_vec(alloc)?;
-    assert!(rt; is_served(alloc, strangers, End::Ended, 0, STRANGERS)?);
+    let unmatched = b"GET /unmatched/city HTTP/1.1\r\n\r\n".to_vec(alloc)?;
+    assert!(rt; is_served(alloc, unmatched, End::Ended, 0, UNMATCHED)?);
     Ok(())
 }
 

@@ -23,6 +23,7 @@ pub(crate) fn hub(alloc: Global) -> Result<ReplayHub, NoMemory> {
         NamedFeed {
             name: Text::new(alloc, "a")?,
             plan: 0,
+            max_age: 0,
         },
     ]?;
     ReplayHub::new(alloc, Arc::new(alloc, Plans::new(plans, feeds))?)

@@ -7,7 +7,7 @@ ghost use Rattle.feed_defs.specs.History.{longest_message};
 ghost use Rattle.hub_outside.specs.Buffer.{room_of};
 ghost use Rattle.feed_port.specs.Ports.{Answers, GoesOnToTell, HasPortCause};
 
-use board_core::Oracle;
+use board_parts::Oracle;
 use feed_port::{FeedPort, MemoryPort, PortAnswer};
 use hub_outside::Buf;
 use hub_shared::{FeedSeat, Hub, IngestReport, Opened, PortEnd, close_hub, ingest_all, open_hub};

@@ -5,7 +5,7 @@ ghost use Rattle.std.specs.List.{All};
 ghost use denote.Param.Send.{IsSync};
 ghost use Rattle.hub_shared.specs.Seats.{IsOf};
 
-use board_core::Oracle;
+use board_parts::Oracle;
 use hub_shared::{FeedSeat, Hub, Opened, Refusal, close_hub, ingest, open_hub};
 use sample_city::four_feeds;
 use snapshot_cell::Pass;

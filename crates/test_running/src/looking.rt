@@ -11,7 +11,7 @@ ghost use denote.Param.Send.{IsSync};
 ghost use Rattle.hub_history.specs.Told.{AreOne};
 
 use crate::showing::{Shower, opened};
-use board_core::{HubView, Oracle};
+use board_parts::{HubView, Oracle};
 use snapshot_cell::{Pass, Receipt};
 use std::alloc::Global;
 use std::marker::{Brand, Model, PhantomData};

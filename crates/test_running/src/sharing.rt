@@ -6,7 +6,7 @@ ghost use denote.Param.Send.{IsSync};
 ghost use Rattle.hub_shared.specs.Seats.{IsOf};
 
 use crate::ingesting::message;
-use board_core::Oracle;
+use board_parts::Oracle;
 use hub_shared::{FeedSeat, Hub, NoMemory, Opened, Refusal, close_hub, ingest, open_hub};
 use sample_city::two_feeds;
 use snapshot_cell::Pass;

@@ -8,7 +8,7 @@ ghost use Rattle.feed_defs.specs.History.{IsLegal};
 ghost use Rattle.board_defs.specs.Views.{StandsFor, feed_at};
 ghost use Rattle.hub_history.specs.Told.{history_of, AreOne};
 
-use board_core::{HubView, Oracle};
+use board_parts::{HubView, Oracle};
 use hub_state::HubCore;
 use rt_types::{Copied, FeedMessage};
 use sample_city::{full_dataset, one_feed};

@@ -7,7 +7,7 @@ ghost use Rattle.feed_port.specs.Memory.{message_faults};
 ghost use Rattle.feed_port.specs.Ports.{Answers, GoesOnToTell, HasPortCause};
 
 use crate::gates::Patience;
-use board_core::Oracle;
+use board_parts::Oracle;
 use feed_port::{FeedPort, MemoryPort, PortAnswer};
 use http_serve::serve_bytes;
 use hub_outside::{Buf, Gate, GatePoint, MemoryDoor, MemorySink, NoMemory};

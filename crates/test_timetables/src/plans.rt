@@ -92,11 +92,13 @@ fn timetables_and_feeds_stand_in_their_order(rt: HostRuntime) -> Result<(), Fail
         NamedFeed {
             name: PlanName::new(alloc, "a")?,
             plan: 0,
+            max_age: 60,
         },
     ]?;
     let all = Plans::new(plans, feeds);
     is_shared(&all);
     assert_eq!(rt; all.plans().len(), 1);
     assert_eq!(rt; all.feeds()[0].name.as_str(), "a");
+    assert_eq!(rt; all.max_age(0), 60);
     Ok(())
 }

@@ -1,7 +1,7 @@
 //! The lists beside the boards of two hundred worlds.
 
 use crate::board_tests::question;
-use crate::lists::{AlertKey, Fate, Stranger, fate_of, listed, strangers};
+use crate::lists::{AlertKey, Fate, MadeUnmatched, fate_of, listed, made_unmatched};
 use crate::meaning::meant;
 use crate::scan::{Question, Seen, scan, stamp_of};
 use board_core::{BoardQuery, HubView};
@@ -95,7 +95,7 @@ fn alerts_agree(
 }
 
 /// Whether an unmatched trip is that one, for the same reason.
-fn is_stranger(row: &Unmatched, one: &Stranger) -> bool {
+fn is_same_unmatched(row: &Unmatched, one: &MadeUnmatched) -> bool {
     row.feed == one.feed
         && row.id.as_str() == one.id
         && row.vehicle == one.vehicle
@@ -103,21 +103,21 @@ fn is_stranger(row: &Unmatched, one: &Stranger) -> bool {
 }
 
 /// Whether what is unmatched is what a scan of the world finds so.
-fn strangers_agree(
+fn unmatched_agree(
     alloc: Global,
     view: &HubView,
-    strangers: &[Stranger],
+    made: &[MadeUnmatched],
 ) -> Result<bool, RowsFault> {
     if view.plans().plans().is_empty() {
         return Err(RowsFault::NoMemory);
     }
     let rows = unmatched(alloc, view, 0)?;
     Ok(
-        rows.len() == strangers.len()
+        rows.len() == made.len()
             && rows
                 .iter()
-                .zip(strangers)
-                .all(|(row, one)| is_stranger(row, one)),
+                .zip(made)
+                .all(|(row, one)| is_same_unmatched(row, one)),
     )
 }
 
@@ -160,7 +160,7 @@ impl AlertCount {
 /// How many were unmatched for each reason, how many of them were vehicles, and how many runs were deleted, which
 /// leaves them matched.
 #[derive(Clone, Copy, Debug)]
-struct StrangerCount {
+struct UnmatchedCount {
     no_trip: u32,
     no_day: u32,
     not_active: u32,
@@ -171,30 +171,30 @@ struct StrangerCount {
     deleted: u32,
 }
 
-impl StrangerCount {
-    fn with_reason(self, why: Why) -> StrangerCount {
+impl UnmatchedCount {
+    fn with_reason(self, why: Why) -> UnmatchedCount {
         match why {
-            Why::NoTrip => StrangerCount {
+            Why::NoTrip => UnmatchedCount {
                 no_trip: self.no_trip.saturating_add(1),
                 ..self
             },
-            Why::NoDay => StrangerCount {
+            Why::NoDay => UnmatchedCount {
                 no_day: self.no_day.saturating_add(1),
                 ..self
             },
-            Why::NotActive => StrangerCount {
+            Why::NotActive => UnmatchedCount {
                 not_active: self.not_active.saturating_add(1),
                 ..self
             },
-            Why::Several => StrangerCount {
+            Why::Several => UnmatchedCount {
                 several: self.several.saturating_add(1),
                 ..self
             },
-            Why::Relation => StrangerCount {
+            Why::Relation => UnmatchedCount {
                 relation: self.relation.saturating_add(1),
                 ..self
             },
-            Why::BadText => StrangerCount {
+            Why::BadText => UnmatchedCount {
                 bad_text: self.bad_text.saturating_add(1),
                 ..self
             },
@@ -202,9 +202,9 @@ impl StrangerCount {
     }
 
     /// The count with those of a world.
-    fn with_all(self, strangers: &[Stranger]) -> StrangerCount {
+    fn with_all(self, made: &[MadeUnmatched]) -> UnmatchedCount {
         let mut count = self;
-        for one in strangers {
+        for one in made {
             count = count.with_reason(one.why);
             if one.vehicle {
                 count.vehicles = count.vehicles.saturating_add(1);
@@ -214,7 +214,7 @@ impl StrangerCount {
     }
 
     /// The count with the runs of a world that are deleted.
-    fn with_deleted(self, world: &World) -> StrangerCount {
+    fn with_deleted(self, world: &World) -> UnmatchedCount {
         let mut deleted = self.deleted;
         for update in &world.updates {
             let found = meant(world, named_by(update), stamp_of(world, update));
@@ -223,7 +223,7 @@ impl StrangerCount {
                 deleted = deleted.saturating_add(1);
             }
         }
-        StrangerCount { deleted, ..self }
+        UnmatchedCount { deleted, ..self }
     }
 }
 
@@ -275,7 +275,7 @@ fn alerts_are_what_a_scan_lists(rt: HostRuntime) -> Result<(), Fail> {
 fn what_is_unmatched_is_what_a_scan_finds(rt: HostRuntime) -> Result<(), Fail> {
     let alloc = rt.alloc();
     let mut dice = Dice::new(13);
-    let mut count = StrangerCount {
+    let mut count = UnmatchedCount {
         no_trip: 0,
         no_day: 0,
         not_active: 0,
@@ -288,8 +288,8 @@ fn what_is_unmatched_is_what_a_scan_finds(rt: HostRuntime) -> Result<(), Fail> {
     for number in 0..200u32 {
         let world = made_world(alloc, &mut dice)?;
         let view = hub_of(alloc, &world)?;
-        let found = strangers(alloc, &world)?;
-        let agrees = strangers_agree(alloc, &view, found.as_slice())?;
+        let found = made_unmatched(alloc, &world)?;
+        let agrees = unmatched_agree(alloc, &view, found.as_slice())?;
         assert!(rt; agrees, "others are unmatched in world {number}");
         count = count.with_all(found.as_slice()).with_deleted(&world);
     }

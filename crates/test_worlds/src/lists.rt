@@ -204,7 +204,7 @@ pub(crate) fn listed(
 
 /// An update or a vehicle that is about no run, and why.
 #[derive(Clone, Copy)]
-pub(crate) struct Stranger {
+pub(crate) struct MadeUnmatched {
     pub(crate) feed: u32,
     pub(crate) id: &'static str,
     pub(crate) vehicle: bool,
@@ -239,15 +239,15 @@ fn vehicle_meant(world: &World, feed: u32, id: &str) -> Option<Found> {
 }
 
 /// Appends an update or a vehicle that means nothing.
-fn push_stranger(
+fn push_unmatched(
     feed: u32,
     id: &'static str,
     vehicle: bool,
     found: Option<Found>,
-    all: &mut Vec<Stranger>,
+    all: &mut Vec<MadeUnmatched>,
 ) -> Result<(), AllocError> {
     if let Some(Found::NoMatch(why)) = found {
-        all.push(Stranger {
+        all.push(MadeUnmatched {
             feed,
             id,
             vehicle,
@@ -258,19 +258,26 @@ fn push_stranger(
 }
 
 /// Appends the updates and vehicles of a feed that mean nothing.
-fn push_strangers(world: &World, feed: u32, all: &mut Vec<Stranger>) -> Result<(), AllocError> {
+fn push_all_unmatched(
+    world: &World,
+    feed: u32,
+    all: &mut Vec<MadeUnmatched>,
+) -> Result<(), AllocError> {
     for id in ENTITY_IDS {
-        push_stranger(feed, id, false, update_meant(world, feed, id), all)?;
-        push_stranger(feed, id, true, vehicle_meant(world, feed, id), all)?;
+        push_unmatched(feed, id, false, update_meant(world, feed, id), all)?;
+        push_unmatched(feed, id, true, vehicle_meant(world, feed, id), all)?;
     }
     Ok(())
 }
 
 /// The updates and vehicles that mean nothing, by feed and then by id, an update before its vehicle.
-pub(crate) fn strangers(alloc: Global, world: &World) -> Result<Vec<Stranger>, AllocError> {
+pub(crate) fn made_unmatched(
+    alloc: Global,
+    world: &World,
+) -> Result<Vec<MadeUnmatched>, AllocError> {
     let mut all = Vec::new(alloc);
     for feed in 0..2u32 {
-        push_strangers(world, feed, &mut all)?;
+        push_all_unmatched(world, feed, &mut all)?;
     }
     Ok(all)
 }

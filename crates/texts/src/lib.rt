@@ -9,6 +9,7 @@
 
 mod cleaned;
 mod dates;
+mod moments;
 mod names;
 mod numbers;
 mod short_text;
@@ -18,6 +19,7 @@ pub use cleaned::push_cleaned;
 pub use dates::{
     Parts, date_plus, day_after, day_number, is_valid_date, parts_of, read_date, weekday,
 };
+pub use moments::{is_instant, is_stamp};
 pub use names::is_name;
 pub use numbers::read_number;
 pub use short_text::ShortText;

@@ -8,7 +8,7 @@ use Rattle.board_added.proofs.choice.is_outdone.Goals as goal
 pub returns-in-Some : goal.returns-in-Some
 returns-in-Some c =
     let sorted = c.args.sorted.now in
-    let u = c.args.candidate.now in
+    let u = c.args.update.now in
     let count = c.partition_point-count.result in
     let part = IsPartitionPoint-from_clause (goes_up_to u sorted c.requires) sorted count c.partition_point-count.ensures.partitioned (partitioned u sorted c.requires) (λ a r f called. search rules) in
     c.is_gt.ensures ∙ ap is_gt c.order.ensures ∙ last_tells u sorted c.requires count part _ c.in-Some.ensures.value
@@ -16,7 +16,7 @@ returns-in-Some c =
 pub returns-in-None : goal.returns-in-None
 returns-in-None c =
     let sorted = c.args.sorted.now in
-    let u = c.args.candidate.now in
+    let u = c.args.update.now in
     let count = c.partition_point-count.result in
     let part = IsPartitionPoint-from_clause (goes_up_to u sorted c.requires) sorted count c.partition_point-count.ensures.partitioned (partitioned u sorted c.requires) (λ a r f called. search rules) in
     last_tells u sorted c.requires count part _ c.in-None.ensures.value

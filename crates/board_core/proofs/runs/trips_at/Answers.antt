@@ -1,7 +1,7 @@
 -- One trip more.
 use Rattle.std.proofs.Common.{length, arith}
 use Rattle.board_core.specs.Departures.{calls_at}
-use Rattle.board_core.proofs.Added.{more_trips}
+use Rattle.board_core.proofs.Days.{more_trips}
 use Rattle.board_core.proofs.runs.trips_at.Goals as goal
 
 pub loop-trip-preserved : goal.loop-trip-preserved

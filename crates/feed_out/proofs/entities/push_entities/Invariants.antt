@@ -1,11 +1,9 @@
--- The entities of the feeds that were gone over, and those of the feeds that are left, are all.
-use Rattle.std.proofs.Common.{◌≡◌, ◌++◌, map, drop}
-use Rattle.std.specs.Arc.{arc_value}
+-- What was appended of the entities that were gone over, and what is left to append, are all.
+use Rattle.std.proofs.Common.{◌≡◌, ◌++◌}
 use Rattle.std.specs.List.{flat_map}
-use Rattle.feed_out.specs.Feeds.{told_of, entity_fields}
+use Rattle.feed_out.specs.Fields.{combined_field}
 use Rattle.feed_out.proofs.entities.push_entities.Given as goal
 
-abbrev pub invariant-loop-i : goal.invariant-loop-i
-invariant-loop-i l =
-    l.out.items ++ flat_map (entity_fields l.prefix) (told_of l.plan (drop l.i l.feeds) (map arc_value (drop l.i l.views)))
-    ≡ l.initial.out.items ++ flat_map (entity_fields l.prefix) (told_of l.plan l.feeds (map arc_value l.views))
+abbrev pub invariant-loop-held : goal.invariant-loop-held
+invariant-loop-held l =
+    l.out.items ++ flat_map (combined_field l.prefix) l.held-iterator ≡ l.initial.out.items ++ flat_map (combined_field l.prefix) l.initial.held-iterator

@@ -1,0 +1,172 @@
+//! The view of a hub.
+
+ghost use Rattle.std.specs.Prelude.{◌≡◌, ◌+◌, ◌<◌, Some, true, false, length, map, replicate, IfOk};
+ghost use Rattle.std.specs.Arc.{arc_value};
+ghost use Rattle.sched_types.specs.Schedules.{AreSchedules};
+ghost use Rattle.board_defs.specs.Feeds as rule;
+ghost use Rattle.board_defs.specs.Rows.{timetable_in};
+ghost use Rattle.board_defs.specs.Views.{IsHub, nothing_kept, feed_at, folds_of, hub_first, hub_with};
+ghost use Rattle.board_parts.specs.Walks.{walked_in};
+
+use crate::NoMemory;
+use crate::entities::HeldEntities;
+use crate::feeds::{HubFeeds, ScheduleFeeds};
+use feed_view::FeedView;
+use sched_types::{Plan, Plans};
+use std::alloc::Global;
+use std::marker::Model;
+use std::sync::Arc;
+
+/// What is kept of a hub. A contract sees it as `HubKept`, and it never changes.
+#[derive(Drop)]
+pub struct HubView {
+    plans: Arc<Plans>,
+    // One for each feed of the plans.
+    feeds: Vec<Arc<FeedView>>,
+    // How many messages of all feeds were accepted.
+    entries: u64,
+}
+
+impl Model for HubView {
+    ghost use Rattle.std.specs.Prelude.{map};
+    ghost use Rattle.board_defs.specs.Views.{HubKept, IsHub};
+
+    ghost Value = { HubKept };
+
+    ghost view = { λ v. record {
+      plans = v.plans.value;
+      feeds = map (λ feed. feed.value) v.feeds.items;
+      entries = v.entries;
+    } };
+
+    ghost invariant = { λ v. IsHub (record {
+      plans = v.plans.value;
+      feeds = map (λ feed. feed.value) v.feeds.items;
+      entries = v.entries;
+    }) };
+}
+
+impl HubView {
+    /// The view of a hub with those timetables and feeds that accepted nothing; or want of memory.
+    pub fn first(alloc: Global, plans: Arc<Plans>) -> Result<HubView, NoMemory>
+        ensures { IfOk result (λ view. view ≡ hub_first (arc_value plans)) }
+    {
+        let feeds = empty_feeds(alloc, plans.feeds().len())?;
+        Ok(HubView {
+            plans,
+            feeds,
+            entries: 0,
+        })
+    }
+
+    /// The view after one message more of the feed of that number, whose view with it is given; or want of
+    /// memory. All else is shared with this one.
+    pub fn with_feed(&self, alloc: Global, feed: u32, view: FeedView) -> Result<HubView, NoMemory>
+        requires feed { feed < length self.now.feeds }
+        requires more { view.fold.count ≡ (feed_at self.now feed).fold.count + 1 }
+        ensures { IfOk result (λ next. next ≡ hub_with feed view self.now) }
+    {
+        self.plans.sound();
+        let _count = view.count();
+        let mut feeds = shares(alloc, self.feeds.as_slice())?;
+        feeds[feed as usize] = Arc::new(alloc, view)?;
+        Ok(HubView {
+            plans: Arc::try_clone(&self.plans)?,
+            feeds,
+            entries: self.entries + 1,
+        })
+    }
+
+    /// The timetables and feeds.
+    pub fn plans(&self) -> &Plans
+        ensures { result.now ≡ self.now.plans }
+    {
+        &self.plans
+    }
+
+    /// The view of each feed, by its number.
+    pub fn feeds(&self) -> &[Arc<FeedView>]
+        ensures { map arc_value result.now ≡ self.now.feeds }
+    {
+        self.feeds.as_slice()
+    }
+
+    /// The timetable of the schedule of that number.
+    pub fn timetable(&self, schedule: u32) -> &Plan
+        requires { schedule < length self.now.plans.plans }
+        ensures { timetable_in self.entry.now.plans schedule ≡ Some result.now }
+    {
+        &self.plans().plans()[schedule as usize].plan
+    }
+
+    /// All feeds with what they say, by their numbers.
+    pub fn hub_feeds(&self) -> HubFeeds<'_>
+        ensures { result ≡ rule.hub_feeds self.entry.now.plans.feeds (folds_of self.entry.now) }
+    {
+        self.sound();
+        HubFeeds::over(self.plans().feeds(), self.feeds())
+    }
+
+    /// The feeds of the schedule of that number.
+    pub fn feeds_of(&self, schedule: u32) -> ScheduleFeeds<'_>
+        ensures { result
+            ≡ rule.schedule_feeds schedule self.entry.now.plans.feeds (folds_of self.entry.now) }
+    {
+        ScheduleFeeds::among(schedule, self.hub_feeds())
+    }
+
+    /// What these feeds hold, by feed and then by id.
+    pub fn entities_of(&self, schedule: u32) -> HeldEntities<'_>
+        ensures { result
+            ≡ rule.schedule_entities schedule self.entry.now.plans.feeds (folds_of self.entry.now) }
+    {
+        HeldEntities::over(self.feeds_of(schedule), false)
+    }
+
+    /// What of it has an alert.
+    pub fn alerts_of(&self, schedule: u32) -> HeldEntities<'_>
+        ensures { result
+            ≡ walked_in true
+            (rule.schedule_feeds schedule self.entry.now.plans.feeds (folds_of self.entry.now)) }
+    {
+        HeldEntities::over(self.feeds_of(schedule), true)
+    }
+
+    /// How many messages of all feeds were accepted.
+    pub fn entries(&self) -> u64
+        ensures { result ≡ self.now.entries }
+    {
+        self.entries
+    }
+
+    /// Does nothing; its contract tells what is true of every view of a hub.
+    pub fn sound(&self)
+        ensures hub { IsHub self.now }
+        ensures plans { AreSchedules self.now.plans }
+    {
+        self.plans.sound();
+    }
+}
+
+/// The views of so many feeds that sent nothing, all one.
+fn empty_feeds(alloc: Global, count: usize) -> Result<Vec<Arc<FeedView>>, NoMemory>
+    ensures { IfOk result (λ feeds. map arc_value feeds.items ≡ replicate count nothing_kept) }
+{
+    let empty = Arc::new(alloc, FeedView::empty(alloc))?;
+    let mut feeds = Vec::with_capacity(alloc, count)?;
+    for _ in 0..count {
+        feeds.push(Arc::try_clone(&empty)?)?;
+    }
+    Ok(feeds)
+}
+
+/// The same views with one owner more each.
+fn shares(alloc: Global, feeds: &[Arc<FeedView>]) -> Result<Vec<Arc<FeedView>>, NoMemory>
+    ensures { IfOk result (λ same. map arc_value same.items ≡ map arc_value feeds.now) }
+{
+    let mut same = Vec::with_capacity(alloc, feeds.len())?;
+    for feed in feeds {
+        same.push(Arc::try_clone(feed)?)?;
+    }
+    Ok(same)
+}
