@@ -1,7 +1,8 @@
 -- What is answered to somebody who asks by the name of a schedule: the bytes, or that it isn't there.
-use Rattle.std.specs.Prelude.{ℕ, Bool, true, false, List, [], position, slice_get, Option, Some, None, unwrap_or}
+use Rattle.std.specs.Prelude.{ℕ, ◌≤◌, Bool, true, false, List, [], position, slice_get, Option, Some, None, unwrap_or, ⊤}
 use Rattle.std.specs.Option.{option_map, option_and_then}
 use Rattle.std.specs.Str.{bytes_eq}
+use Rattle.text_defs.specs.Moments.{last_moment}
 use Rattle.sched_types.specs.Schedules.{Schedules}
 use Rattle.sched_types.specs.Timetable.{Timetable, number_of}
 use Rattle.board_defs.specs.declared.query.BoardQuery.{BoardQuery}
@@ -119,6 +120,22 @@ pub data Question : Type 0 where
   AlertsOf : BoardAsked → Question
   UnmatchedOf : List ℕ → Question
   StatusOf : Question
+
+-- which boards may be asked for: up to the end of the year 9999, of up to a day and up to 1000 rows
+pub record MayAsk (asked : BoardAsked) : Type 0 where
+  pub moment : asked.at ≤ last_moment
+  pub some_span : 1 ≤ asked.span
+  pub day_at_most : asked.span ≤ 86400
+  pub some_rows : 1 ≤ asked.limit
+  pub thousand_at_most : asked.limit ≤ 1000
+
+-- a question of those; any feed, any list of unmatched trips and the status may be asked for
+abbrev pub IsAsked : Question → Type 0
+IsAsked (FeedOf schedule) = ⊤
+IsAsked (BoardOf asked) = MayAsk asked
+IsAsked (AlertsOf asked) = MayAsk asked
+IsAsked (UnmatchedOf schedule) = ⊤
+IsAsked StatusOf = ⊤
 
 -- the bytes of the answer, of what all feeds say; none where what is asked for isn't there
 abbrev pub answer_to : Schedules → List FeedFold → Question → Option (List ℕ)

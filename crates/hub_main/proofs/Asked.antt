@@ -8,10 +8,9 @@ use Rattle.std.proofs.lemmas.Bool.{and_parts, leb-true}
 use Rattle.std.proofs.lemmas.Option.{same_Some}
 use Rattle.text_defs.specs.Moments.{last_moment}
 use Rattle.text_defs.specs.Numbers.{digits, number, within}
-use Rattle.board_text_defs.specs.Answers.{BoardAsked}
+use Rattle.board_text_defs.specs.Answers.{BoardAsked, MayAsk}
 use Rattle.hub_replay_defs.specs.Lines.{board_in_words, is_json_in}
 use Rattle.hub_replay_defs.proofs.Options.{bind_some}
-use Rattle.view_answers.specs.Questions.{MayAsk}
 use Rattle.hub_main.specs.Offline.{MayMake}
 use Rattle.hub_main_defs.specs.Words.{Command, board_command, check_command, command_of, command_with, gen_command, is_option, last_seed, most_messages, most_trips, replay_command, word_digits}
 use Rattle.hub_main_defs.specs.Words.Command.{Replay, ReplayWith, Check, Board, Gen}

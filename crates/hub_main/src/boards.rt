@@ -3,13 +3,12 @@ ghost use Rattle.std.specs.Prelude.{◌≡◌, [], length, IfOk, IfSome};
 ghost use Rattle.std.specs.Arc.{arc_value};
 ghost use Rattle.std.specs.Option.{option_map};
 ghost use Rattle.board_defs.specs.Fold.{fold_of};
-ghost use Rattle.board_text_defs.specs.Answers.{board_answer};
+ghost use Rattle.board_text_defs.specs.Answers.{board_answer, MayAsk};
 ghost use Rattle.hub_main_defs.specs.Hubs.{schedules_at};
 ghost use Rattle.hub_load.specs.Stops.{LoadingStopped, StopsWith};
 ghost use Rattle.hub_load.specs.Told.{HasCause, IsAsTold};
 ghost use Rattle.hub_main.specs.Offline.{IsShare};
 ghost use Rattle.hub_words.specs.Answer.{asked_seen};
-ghost use Rattle.view_answers.specs.Questions.{MayAsk};
 
 use crate::NoMemory;
 use board_parts::HubView;

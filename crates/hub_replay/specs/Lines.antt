@@ -5,7 +5,7 @@ use Rattle.hub_replay_defs.specs.Lines.{Head as ScriptHead}
 use Rattle.hub_replay_defs.specs.Lines.Head.{Feed as FeedLine, Message as MessageLine, Ask as AskLine, Connection as ConnectionLine, End as EndLine}
 use Rattle.board_text_defs.specs.Answers.Question.{FeedOf, BoardOf, AlertsOf, UnmatchedOf, StatusOf}
 use Rattle.text_defs.specs.Moments.{last_moment}
-use Rattle.view_answers.specs.Questions.{IsAsked}
+use Rattle.board_text_defs.specs.Answers.{IsAsked}
 use Rattle.hub_replay.specs.declared.lines.Line.{Line}
 use Rattle.hub_replay.specs.declared.lines.Line.TheVariants.{Feed, Message, Combined, Board, Alerts, Unmatched, Status, Connection, End}
 use Rattle.hub_replay.specs.declared.lines.LineFault.{LineFault}

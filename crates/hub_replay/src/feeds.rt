@@ -9,8 +9,8 @@ ghost use Rattle.text_defs.specs.Names.{is_name};
 ghost use Rattle.sched_types.specs.Schedules.{AreSchedules};
 ghost use Rattle.board_defs.specs.Fold.{fold_of};
 ghost use Rattle.board_defs.specs.Views.{hub_first};
-ghost use Rattle.board_text_defs.specs.Answers.{feed_number};
-ghost use Rattle.view_answers.specs.Questions.{question_seen, IsAsked};
+ghost use Rattle.board_text_defs.specs.Answers.{feed_number, IsAsked};
+ghost use Rattle.view_answers.specs.Questions.{question_seen};
 ghost use Rattle.hub_replay_defs.specs.Record.{start, configured, most_feeds, plain_schedules};
 ghost use Rattle.hub_replay.specs.Feeds.{declaring, running, hub_given, shown_hub, Answers, Declares, Serves, Tells};
 

@@ -1,6 +1,7 @@
 //! One whole record: what it prints, and what it does to the hub.
 ghost use Rattle.std.specs.Prelude.{◌≡◌, ◌<◌, ◌≤◌, ◌+◌, ◌++◌, length, Some, None, slice_get};
-ghost use Rattle.view_answers.specs.Questions.{question_seen, IsAsked};
+ghost use Rattle.view_answers.specs.Questions.{question_seen};
+ghost use Rattle.board_text_defs.specs.Answers.{IsAsked};
 ghost use Rattle.hub_replay_defs.specs.Lines.Head.{Feed, Message, Ask};
 ghost use Rattle.hub_replay_defs.specs.Record.{answer_reply, question_word};
 ghost use Rattle.hub_replay.specs.Lines.{head_seen, MayAsk};

@@ -1,7 +1,8 @@
 //! Questions to a hub of one schedule without stops and of one feed, which sent nothing. Commands
 //! ask for boards with rows.
 
-ghost use Rattle.view_answers.specs.Questions.{question_seen, IsAsked};
+ghost use Rattle.view_answers.specs.Questions.{question_seen};
+ghost use Rattle.board_text_defs.specs.Answers.{IsAsked};
 
 use crate::bare::bare_hub;
 use std::alloc::Global;

@@ -1,7 +1,5 @@
--- Questions as the definitions have them, and what may be asked.
-use Rattle.std.specs.Prelude.{ℕ, ◌≤◌, Bool, true, false, List, [], ⊤}
-use Rattle.text_defs.specs.Moments.{last_moment}
-use Rattle.board_text_defs.specs.Answers.{BoardAsked}
+-- Questions as the definitions have them.
+use Rattle.std.specs.Prelude.{ℕ, Bool, true, false, List, []}
 use Rattle.board_text_defs.specs.Answers.{Question as Defined}
 use Rattle.board_text_defs.specs.Answers.Question.{FeedOf, BoardOf, AlertsOf, UnmatchedOf, StatusOf}
 use Rattle.view_answers.specs.declared.question.Question.{Question}
@@ -45,19 +43,3 @@ schedule_of (BoardOf asked) = asked.schedule
 schedule_of (AlertsOf asked) = asked.schedule
 schedule_of (UnmatchedOf schedule) = schedule
 schedule_of StatusOf = []
-
--- which boards may be asked for: up to the end of the year 9999, of up to a day and up to 1000 rows
-pub record MayAsk (asked : BoardAsked) : Type 0 where
-  pub moment : asked.at ≤ last_moment
-  pub some_span : 1 ≤ asked.span
-  pub day_at_most : asked.span ≤ 86400
-  pub some_rows : 1 ≤ asked.limit
-  pub thousand_at_most : asked.limit ≤ 1000
-
--- a question of those; any feed, any list of unmatched trips and the status may be asked for
-abbrev pub IsAsked : Defined → Type 0
-IsAsked (FeedOf schedule) = ⊤
-IsAsked (BoardOf asked) = MayAsk asked
-IsAsked (AlertsOf asked) = MayAsk asked
-IsAsked (UnmatchedOf schedule) = ⊤
-IsAsked StatusOf = ⊤

@@ -6,8 +6,8 @@ ghost use Rattle.feed_defs.specs.declared.history.Entry.{Entry};
 ghost use Rattle.board_defs.specs.Feed.{combined_feed};
 ghost use Rattle.board_defs.specs.Fold.{fold_of};
 ghost use Rattle.board_defs.specs.Views.{StandsFor, folds_of};
-ghost use Rattle.board_text_defs.specs.Answers.{board_bytes, alert_bytes, unmatched_bytes};
-ghost use Rattle.view_answers.specs.Questions.{question_seen, schedule_of, IsAsked};
+ghost use Rattle.board_text_defs.specs.Answers.{board_bytes, alert_bytes, unmatched_bytes, IsAsked};
+ghost use Rattle.view_answers.specs.Questions.{question_seen, schedule_of};
 ghost use Rattle.view_answers.specs.Replies.{Replies, Answers, answer_in, board_in, alerts_in, status_in};
 
 use crate::lookup::{name_of, number_of};
