@@ -19,7 +19,7 @@ use Rattle.hub_replay_defs.proofs.Runs.{run_none, run_step, run_end, behind_behi
 use Rattle.hub_replay.specs.declared.steps.Ending.{Ending as HowEnded}
 use Rattle.hub_replay.specs.declared.steps.Ending.TheVariants.{Ended, Refused, InputFault, OutputFault, NoMemory}
 use Rattle.hub_replay.specs.Records.{Did, Ended as IsEnded, long_turn, is_fed}
-use Rattle.hub_replay.specs.Window.{Windowed, remaining}
+use Rattle.script_lines.specs.Window.{Windowed, remaining}
 use Rattle.hub_replay.specs.Steps.{At, at_serving, place_sum, Goes, Leaves, Advances, EndsAs, Keeps, Passes, RefusesLong}
 
 -- an ending where nothing was printed since

@@ -1,6 +1,3 @@
-pub mod Texts
-pub mod Places
-pub mod Windows
 pub mod Names
 pub mod Doing
 pub mod Offering
@@ -9,5 +6,4 @@ pub mod Skipping
 pub mod Going
 pub mod Outcomes
 pub mod Schedules
-pub mod Numbers
 pub mod Telling

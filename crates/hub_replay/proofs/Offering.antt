@@ -20,7 +20,8 @@ use Rattle.rt_types.specs.declared.message.FeedMessage.{FeedMessage}
 use Rattle.hub_core.specs.Answers.{cause_of}
 use Rattle.hub_core.specs.declared.refusal.Refusal.{Refusal as Answer}
 use Rattle.hub_replay.specs.Feeds.{Answers, RefusesFor}
-use Rattle.hub_replay.specs.Records.{Did, numbered_turn, long_turn, is_fed, IsRefusalLine, IsReplyLine}
+use Rattle.hub_replay.specs.Records.{Did, numbered_turn, long_turn, is_fed}
+use Rattle.script_lines.specs.Replies.{IsRefusalLine, IsReplyLine}
 
 fed_same : (o : Option ℕ) → is_line_end o ≡ is_fed o
 fed_same None = refl

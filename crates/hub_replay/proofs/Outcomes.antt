@@ -12,7 +12,7 @@ use Rattle.hub_replay_defs.specs.Record.{Hub}
 use Rattle.hub_replay_defs.specs.Output.{Run, Output, run, output_of, replayed, longest_script, refused_line, fault_line}
 use Rattle.hub_replay.specs.declared.steps.Ending.{Ending}
 use Rattle.hub_replay.specs.declared.steps.Ending.TheVariants.{Ended, Refused, InputFault, OutputFault, NoMemory}
-use Rattle.hub_replay.specs.Window.{remaining}
+use Rattle.script_lines.specs.Window.{remaining}
 use Rattle.hub_replay.specs.Steps.{At, at_first, at_serving, EndsAs, HasCause, Keeps, Leaves}
 use Rattle.hub_replay.specs.Outcome.{IsScript, IsUnfinished, IsCut, Outcome, Finishes, fault_output, output_of_script, IsWhole}
 

@@ -3,7 +3,7 @@ use Rattle.std.proofs.Common.{◌≡◌, ℕ, ◌+◌, ◌-◌, ◌≤◌, ◌<�
 use Rattle.std.specs.Io.KnownBytes.{Consumes}
 use Rattle.std.proofs.KnownBytes.{Consumes-nil, Consumes-trans}
 use Rattle.std.proofs.lemmas.List.{length-take-le, drop_all}
-use Rattle.hub_replay.specs.Window.{Windowed, Grows, Stays}
+use Rattle.script_lines.specs.Window.{Windowed, Grows, Stays}
 use Rattle.hub_replay.specs.Steps.{Passes, Lacks}
 
 -- some bytes were let go, and so many are still to be

@@ -1,5 +1,3 @@
-pub mod Lines
-pub mod Window
 pub mod Feeds
 pub mod Records
 pub mod Steps

@@ -1,9 +1,7 @@
 -- What doing a record comes to.
 use Rattle.std.specs.Prelude.{◌≡◌, ℕ, ◌+◌, ◌<◌, ◌≤◌, ◌==◌, List, [], ◌++◌, All, length, drop, Option, Some, None, Result, Ok, Err, Bool, true, false, slice_get}
-use Rattle.feed_defs.specs.History.{Refusal as Cause, offer_outcome}
+use Rattle.feed_defs.specs.History.{offer_outcome}
 use Rattle.feed_defs.specs.History.Refusal.{TooLong as LongCause}
-use Rattle.hub_core.specs.Answers.{cause_of}
-use Rattle.hub_core.specs.declared.refusal.Refusal.{Refusal}
 use Rattle.board_text_defs.specs.Answers.{Question, answer_to}
 use Rattle.http_serve_defs.specs.Connections.{Served, IsServed, connection_bytes}
 use Rattle.hub_replay_defs.specs.Lines.{Head, longest_line}
@@ -104,16 +102,6 @@ LacksLine count (Whole size) = ⊥
 LacksLine count Ends = ⊥
 LacksLine count (Long end size) = ⊥
 LacksLine count NoMemory = ⊥
-
--- the line of a refusal with that cause
-abbrev pub IsRefusalLine : Option Cause → List ℕ → Type 0
-IsRefusalLine None text = ⊥
-IsRefusalLine (Some cause) text = text ≡ reply_line (Err cause)
-
--- the line of an answer
-abbrev pub IsReplyLine : Result ℕ Refusal → List ℕ → Type 0
-IsReplyLine (Ok count) text = text ≡ reply_line (Ok count)
-IsReplyLine (Err refusal) text = IsRefusalLine (cause_of refusal) text
 
 -- what is to be printed grew by a text, or by something where memory ran out
 abbrev pub Says : {A E : Type 0} → Result A E → List ℕ → List ℕ → List ℕ → Type 0

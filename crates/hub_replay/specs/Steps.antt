@@ -10,9 +10,9 @@ use Rattle.hub_replay_defs.specs.Output.{run, is_open, behind, longest_script}
 use Rattle.hub_replay.specs.declared.steps.Replay.{Replay}
 use Rattle.hub_replay.specs.declared.steps.Ending.{Ending as HowEnded}
 use Rattle.hub_replay.specs.declared.steps.Ending.TheVariants.{Ended, Refused, InputFault, OutputFault, NoMemory}
-use Rattle.hub_replay.specs.declared.window.Refill.{Refill}
-use Rattle.hub_replay.specs.declared.window.Refill.TheVariants.{More, End, Failed, NoMemory as NoRoom}
-use Rattle.hub_replay.specs.Window.{Windowed, remaining}
+use Rattle.script_lines.specs.declared.window.Refill.{Refill}
+use Rattle.script_lines.specs.declared.window.Refill.TheVariants.{More, End, Failed, NoMemory as NoRoom}
+use Rattle.script_lines.specs.Window.{Windowed, remaining}
 
 -- a replay between two records: the bytes in hand and those allowed, the hub, what waits to be
 -- written, and the place

@@ -6,27 +6,23 @@
 //! hub of a configuration that is given, or declares its feeds itself. [`parse_line`] says which
 //! record a line is.
 //!
-//! The parts by job: `lines` (what a record's line says), `feeds` (the hub that a script works on),
-//! `records` (one whole record), `connections` (the one that serves a connection), `replies` (the
-//! lines that answer an offered message), `window` (the bytes that were read and not yet used),
-//! `steps` (one step of a replay), `running` (all of them) and `ending` (the last bytes, and the
-//! status).
+//! The parts by job: `feeds` (the hub that a script works on), `records` (one whole record),
+//! `connections` (the one that serves a connection), `steps` (one step of a replay), `running` (all
+//! of them) and `ending` (the last bytes, and the status).
 //!
-//! The crate stands on `hub_state` for the hub, on `view_answers` for the answers to questions, on
-//! `http_serve` for connections, and on `hub_outside` for input and output.
+//! The crate stands on `script_lines` for the lines of a script, on `hub_state` for the hub, on
+//! `view_answers` for the answers to questions, on `http_serve` for connections, and on
+//! `hub_outside` for input and output.
 #![tactic(auto)]
 
 mod connections;
 mod ending;
 mod feeds;
-mod lines;
 mod records;
-mod replies;
 mod running;
 pub mod statuses;
 mod steps;
-mod window;
 
 pub use ending::replay;
-pub use lines::{Line, LineFault, parse_line};
+pub use script_lines::{Line, LineFault, parse_line};
 pub use std::alloc::AllocError as NoMemory;

@@ -4,15 +4,14 @@ ghost use Rattle.view_answers.specs.Questions.{question_seen};
 ghost use Rattle.board_text_defs.specs.Answers.{IsAsked};
 ghost use Rattle.hub_replay_defs.specs.Lines.Head.{Feed, Message, Ask};
 ghost use Rattle.hub_replay_defs.specs.Record.{answer_reply, question_word};
-ghost use Rattle.hub_replay.specs.Lines.{head_seen, MayAsk};
+ghost use Rattle.script_lines.specs.Lines.{head_seen, MayAsk};
 ghost use Rattle.hub_replay.specs.Records.{Turns, Acts, LacksLine, Says, OffersTo, Asks};
 
 use crate::NoMemory;
 use crate::connections::do_connection;
 use crate::feeds::ScriptHub;
-use crate::lines::{LONGEST_LINE, Line, LineFault, line_end, parse_line};
-use crate::replies::reply_line;
 use feed_defs::LONGEST_MESSAGE;
+use script_lines::{LONGEST_LINE, Line, LineFault, line_end, parse_line, reply_line};
 use std::alloc::Global;
 use view_answers::Question;
 

@@ -5,16 +5,15 @@ ghost use Rattle.http_serve_defs.specs.Connections.{Served};
 ghost use Rattle.hub_replay_defs.specs.Record.{turn, waits, reply_line, serving};
 ghost use Rattle.hub_replay_defs.specs.Output.{longest_script};
 ghost use Rattle.hub_outside.specs.Writing.{WritesAll, HasWritingCause};
-ghost use Rattle.hub_replay.specs.Window.{HasRefillCause};
+ghost use Rattle.script_lines.specs.Window.{HasRefillCause};
 ghost use Rattle.hub_replay.specs.Records.{long_turn, Says};
 ghost use Rattle.hub_replay.specs.Steps.{at, at_first, place_sum, Advances, HasCause, Skips, Flushes, RefusesLong};
 
 use crate::NoMemory;
 use crate::feeds::ScriptHub;
 use crate::records::{Step, byte_at, do_record, say};
-use crate::replies::too_long_line;
-use crate::window::{Refill, Window};
 use hub_outside::{OutputFault, Sink, Source, write_all};
+use script_lines::{Refill, Window, too_long_line};
 use std::alloc::Global;
 
 /// So many bytes are written at once where more wait.

@@ -1,5 +1,0 @@
-use Rattle.hub_replay.proofs.Numbers.{number_within}
-use Rattle.hub_replay.proofs.lines.number_in.Goals as goal
-
-pub returns-clause-range : goal.returns-clause-range
-returns-clause-range c = number_within 12 c.args.low c.args.high _ _ c.read_number.ensures.value

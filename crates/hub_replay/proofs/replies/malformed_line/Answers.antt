@@ -1,5 +1,0 @@
--- The words are those of what is wrong and where.
-use Rattle.hub_replay.proofs.replies.malformed_line.Goals as goal
-
-pub returns : goal.returns
-returns c = rw (c.what_word.ensures, c.kind_name.ensures) at c.fault_line.ensures
