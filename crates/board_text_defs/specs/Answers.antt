@@ -121,13 +121,21 @@ pub data Question : Type 0 where
   UnmatchedOf : List ℕ → Question
   StatusOf : Question
 
+-- the longest span of a board, in seconds: a day
+abbrev pub longest_span : ℕ
+longest_span = 86_400
+
+-- the most rows of a board
+abbrev pub most_rows : ℕ
+most_rows = 1000
+
 -- which boards may be asked for: up to the end of the year 9999, of up to a day and up to 1000 rows
 pub record MayAsk (asked : BoardAsked) : Type 0 where
   pub moment : asked.at ≤ last_moment
   pub some_span : 1 ≤ asked.span
-  pub day_at_most : asked.span ≤ 86400
+  pub day_at_most : asked.span ≤ longest_span
   pub some_rows : 1 ≤ asked.limit
-  pub thousand_at_most : asked.limit ≤ 1000
+  pub thousand_at_most : asked.limit ≤ most_rows
 
 -- a question of those; any feed, any list of unmatched trips and the status may be asked for
 abbrev pub IsAsked : Question → Type 0

@@ -5,3 +5,4 @@ pub mod Alerts
 pub mod Status
 pub mod UnmatchedText
 pub mod Answers
+pub mod Asked

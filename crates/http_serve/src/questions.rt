@@ -6,7 +6,7 @@ ghost use Rattle.http_serve_defs.specs.Questions.{question_of};
 ghost use Rattle.http_serve_defs.specs.Answers.{kind_of, refusal_code};
 
 use http_defs::{BodyKind, Query};
-use view_answers::Question;
+use view_answers::{BoardAsked, Question};
 
 /// The question of a query at a moment; none where it is refused.
 pub(crate) fn question_of<'a>(query: &'a Query, moment: u64) -> Option<Question<'a>>
@@ -19,14 +19,14 @@ pub(crate) fn question_of<'a>(query: &'a Query, moment: u64) -> Option<Question<
             span,
             limit,
             json,
-        } => Some(Question::Board {
+        } => Some(Question::Board(BoardAsked {
             schedule: schedule.as_str(),
             stop: stop.as_str(),
             at: moment,
             span: *span,
             limit: *limit,
             json: *json,
-        }),
+        })),
         Query::Feed { schedule } => Some(Question::Feed {
             schedule: schedule.as_str(),
         }),
@@ -36,14 +36,14 @@ pub(crate) fn question_of<'a>(query: &'a Query, moment: u64) -> Option<Question<
             span,
             limit,
             json,
-        } => Some(Question::Alerts {
+        } => Some(Question::Alerts(BoardAsked {
             schedule: schedule.as_str(),
             stop: stop.as_str(),
             at: moment,
             span: *span,
             limit: *limit,
             json: *json,
-        }),
+        })),
         Query::Unmatched { schedule } => Some(Question::Unmatched {
             schedule: schedule.as_str(),
         }),
@@ -72,10 +72,8 @@ pub(crate) fn kind_of(question: &Question<'_>) -> BodyKind
 {
     match *question {
         Question::Feed { .. } => BodyKind::Feed,
-        Question::Board { json: true, .. } | Question::Alerts { json: true, .. } => BodyKind::Json,
-        Question::Board { json: false, .. }
-        | Question::Alerts { json: false, .. }
-        | Question::Unmatched { .. }
-        | Question::Status => BodyKind::Text,
+        Question::Board(asked) | Question::Alerts(asked) if asked.json => BodyKind::Json,
+        Question::Board(_) | Question::Alerts(_) | Question::Unmatched { .. } | Question::Status =>
+            { BodyKind::Text }
     }
 }

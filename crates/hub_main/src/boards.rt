@@ -8,17 +8,16 @@ ghost use Rattle.hub_main_defs.specs.Hubs.{schedules_at};
 ghost use Rattle.hub_load.specs.Stops.{LoadingStopped, StopsWith};
 ghost use Rattle.hub_load.specs.Told.{HasCause, IsAsTold};
 ghost use Rattle.hub_main.specs.Offline.{IsShare};
-ghost use Rattle.hub_words.specs.Answer.{asked_seen};
+ghost use Rattle.board_text_defs.specs.Asked.{asked_seen};
 
 use crate::NoMemory;
 use board_parts::HubView;
 use hub_load::{HubFault, load_plans};
 use hub_outside::Files;
-use hub_words::BoardAsked;
 use sched_types::Plans;
 use std::alloc::Global;
 use std::sync::Arc;
-use view_answers::{Question, answer};
+use view_answers::{BoardAsked, Question, answer};
 
 /// The schedules and feeds of the configuration at the path, with their timetables, to be shared.
 pub(crate) fn load_shared<F: Files>(
@@ -62,14 +61,7 @@ pub(crate) fn board_of(
         (asked_seen asked.now)) }
 {
     let view = HubView::first(alloc, plans)?;
-    let question = Question::Board {
-        schedule: asked.schedule,
-        stop: asked.stop,
-        at: asked.at,
-        span: asked.span,
-        limit: asked.limit,
-        json: asked.json,
-    };
+    let question = Question::Board(*asked);
     let mut bytes = Vec::new(alloc);
     match answer(alloc, &view, &question, &mut bytes) {
         Ok(true) => Ok(Some(bytes)),

@@ -2,7 +2,7 @@
 ghost use Rattle.std.specs.Prelude.{◌≡◌, ◌≤◌, ◌⊎◌, None};
 ghost use Rattle.std.specs.Arc.{arc_value};
 ghost use Rattle.hub_outside.specs.Outside.{file_store, outside, stream};
-ghost use Rattle.hub_words.specs.Answer.{asked_seen};
+ghost use Rattle.board_text_defs.specs.Asked.{asked_seen};
 ghost use Rattle.board_text_defs.specs.Answers.{MayAsk};
 ghost use Rattle.hub_main_defs.specs.Words.{command_of};
 ghost use Rattle.hub_main_defs.specs.Commands.{board_output, output_where_told};

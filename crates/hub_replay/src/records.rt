@@ -13,7 +13,7 @@ use crate::feeds::ScriptHub;
 use feed_defs::LONGEST_MESSAGE;
 use script_lines::{LONGEST_LINE, Line, LineFault, line_end, parse_line, reply_line};
 use std::alloc::Global;
-use view_answers::Question;
+use view_answers::{BoardAsked, Question};
 
 /// What stands in front of some bytes of a script.
 pub(crate) enum Step {
@@ -85,7 +85,7 @@ fn do_line(
             limit,
             json,
         } => {
-            let question = Question::Board {
+            let asked = BoardAsked {
                 schedule: schedule.as_str(),
                 stop: stop.as_str(),
                 at: *moment,
@@ -93,7 +93,7 @@ fn do_line(
                 limit: *limit,
                 json: *json,
             };
-            do_question(alloc, hub, &question, bytes, behind, said)
+            do_question(alloc, hub, &Question::Board(asked), bytes, behind, said)
         }
         Line::Alerts {
             schedule,
@@ -102,7 +102,7 @@ fn do_line(
             span,
             limit,
         } => {
-            let question = Question::Alerts {
+            let asked = BoardAsked {
                 schedule: schedule.as_str(),
                 stop: stop.as_str(),
                 at: *moment,
@@ -110,7 +110,7 @@ fn do_line(
                 limit: *limit,
                 json: false,
             };
-            do_question(alloc, hub, &question, bytes, behind, said)
+            do_question(alloc, hub, &Question::Alerts(asked), bytes, behind, said)
         }
         Line::Unmatched { schedule } => {
             let question = Question::Unmatched {
@@ -242,8 +242,8 @@ fn question_word(question: &Question<'_>) -> &'static str
 {
     match question {
         Question::Feed { .. } => "feed",
-        Question::Board { .. } => "board",
-        Question::Alerts { .. } => "alerts",
+        Question::Board(_) => "board",
+        Question::Alerts(_) => "alerts",
         Question::Unmatched { .. } => "unmatched",
         Question::Status => "status",
     }

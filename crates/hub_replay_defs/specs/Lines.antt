@@ -6,7 +6,7 @@ use Rattle.percent_encoding.specs.Percent.{percent_decode}
 use Rattle.answer_defs.specs.Choices.{only_if}
 use Rattle.text_defs.specs.Moments.{last_moment}
 use Rattle.text_defs.specs.Numbers.{number}
-use Rattle.board_text_defs.specs.Answers.{BoardAsked, Question}
+use Rattle.board_text_defs.specs.Answers.{BoardAsked, Question, longest_span, most_rows}
 use Rattle.board_text_defs.specs.Answers.Question.{FeedOf, BoardOf, AlertsOf, UnmatchedOf, StatusOf}
 use Rattle.hub_replay_defs.specs.Optional.{◌>>=◌}
 
@@ -68,8 +68,8 @@ is_json_in word =
 abbrev pub board_in_words : ℕ → List (List ℕ) → Option BoardAsked
 board_in_words digits (schedule ∷ stop ∷ moment ∷ span ∷ limit ∷ form ∷ []) =
     number digits 0 last_moment moment >>= λ at.
-    number digits 1 86400 span >>= λ seconds.
-    number digits 1 1000 limit >>= λ rows.
+    number digits 1 longest_span span >>= λ seconds.
+    number digits 1 most_rows limit >>= λ rows.
     is_json_in form >>= λ json.
     Some (record {
       schedule = schedule;
@@ -109,8 +109,8 @@ board_head words = board_in_words script_digits words >>= λ asked. Some (Ask (B
 abbrev pub alerts_in_words : List (List ℕ) → Option BoardAsked
 alerts_in_words (schedule ∷ stop ∷ moment ∷ span ∷ limit ∷ []) =
     number script_digits 0 last_moment moment >>= λ at.
-    number script_digits 1 86400 span >>= λ seconds.
-    number script_digits 1 1000 limit >>= λ rows.
+    number script_digits 1 longest_span span >>= λ seconds.
+    number script_digits 1 most_rows limit >>= λ rows.
     Some (record {
       schedule = schedule;
       stop = stop;

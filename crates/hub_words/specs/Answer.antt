@@ -4,27 +4,16 @@ use Rattle.clap.specs.Words.{subcommand_rows_of}
 use Rattle.clap.specs.declared.parser.matches.ArgMatches.{ArgMatches}
 use Rattle.clap.specs.declared.error.kind.ErrorKind.{ErrorKind}
 use Rattle.clap.specs.declared.error.kind.ErrorKind.TheVariants.{OutOfMemory}
-use Rattle.board_text_defs.specs.Answers.{BoardAsked}
+use Rattle.board_text_defs.specs.Asked.{asked_seen}
 use Rattle.hub_main_defs.specs.Words.{Command, command_of}
 use Rattle.hub_main_defs.specs.Words.Command.{Replay, ReplayWith, Check, Board, Gen}
 use Rattle.hub_words.specs.Forms.{command_in}
-use Rattle.hub_words.specs.declared.board.BoardAsked.{BoardAsked as AskedRead}
 use Rattle.hub_words.specs.declared.read.Command.{Command as Read}
 use Rattle.hub_words.specs.declared.read.Command.TheVariants as read
 use Rattle.hub_words.specs.declared.read.WordsFault.{WordsFault}
 use Rattle.hub_words.specs.declared.read.WordsFault.TheVariants.{Usage, NoMemory}
 
--- what contracts see of the board that is asked for, and of a command
-abbrev pub asked_seen : AskedRead → BoardAsked
-asked_seen asked = record {
-  schedule = asked.schedule.now;
-  stop = asked.stop.now;
-  at = asked.at;
-  span = asked.span;
-  limit = asked.limit;
-  json = asked.json;
-}
-
+-- what contracts see of a command
 abbrev pub seen : Read → Command
 seen read.Replay = Replay
 seen (read.ReplayWith path) = ReplayWith path.now

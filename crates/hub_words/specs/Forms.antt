@@ -13,7 +13,7 @@ use Rattle.clap.specs.declared.builder.command.Command.{Command as Parser}
 use Rattle.clap.specs.declared.builder.command.Command.TheViews.{out-Command}
 use Rattle.clap.specs.declared.builder.value_parser.ValueParser.TheVariants as vp
 use Rattle.clap.specs.declared.parser.matches.ValueSource.TheVariants.{CommandLine}
-use Rattle.board_text_defs.specs.Answers.{BoardAsked}
+use Rattle.board_text_defs.specs.Answers.{BoardAsked, longest_span, most_rows}
 use Rattle.hub_main_defs.specs.Words.{Command, last_seed, most_messages, most_trips, word_digits}
 use Rattle.hub_main_defs.specs.Words.Command.{Replay, ReplayWith, Check, Board, Gen}
 use Rattle.hub_replay_defs.specs.Lines.{is_json_in}
@@ -148,8 +148,8 @@ asked_in rows =
     word_under (codes "schedule") rows >>= λ schedule.
     word_under (codes "stop") rows >>= λ stop.
     number_under (codes "moment") 0 last_moment rows >>= λ at.
-    number_under (codes "span") 1 86400 rows >>= λ span.
-    number_under (codes "limit") 1 1000 rows >>= λ limit.
+    number_under (codes "span") 1 longest_span rows >>= λ span.
+    number_under (codes "limit") 1 most_rows rows >>= λ limit.
     word_under (codes "format") rows >>= λ form.
     is_json_in form >>= λ json.
     Some (record {

@@ -23,7 +23,7 @@ mod parser;
 mod read;
 mod serve;
 
-pub use board::BoardAsked;
+pub use board_text_defs::BoardAsked;
 pub use read::{Command, WordsFault, read_words};
 pub use serve::serve_path;
 pub use std::alloc::AllocError as NoMemory;

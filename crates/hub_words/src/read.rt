@@ -8,9 +8,10 @@ ghost use Rattle.hub_main_defs.specs.Words.Command.{Check};
 ghost use Rattle.hub_words.specs.Forms.{board_in, command_in, gen_in, named, replay_in, word_under};
 ghost use Rattle.hub_words.specs.Answer.{IsCommandOf, IsFaultOf, Parses, seen};
 
-use crate::board::{BoardAsked, asked_in};
+use crate::board::asked_in;
 use crate::given::{number_under, seed_under, word_under};
 use crate::parser::parser;
+use board_text_defs::BoardAsked;
 use clap::error::ErrorKind;
 use clap::{ArgMatches, Error};
 use rt_types::Text;

@@ -5,6 +5,7 @@ ghost use Rattle.hub_replay_defs.specs.Lines.{longest_line, line_within, words_o
 ghost use Rattle.script_lines.specs.Lines.{TextIs, TextsAre, SaysHead};
 
 use crate::NoMemory;
+use board_text_defs::{LONGEST_SPAN, MOST_ROWS};
 use percent_encoding::{DecodeError, percent_decode};
 use rt_types::{Copied, Text};
 use std::alloc::{AllocError, AllocFailed, Global};
@@ -22,12 +23,6 @@ const LONGEST_INPUT: u64 = 16_777_216;
 
 /// The most digits of a number.
 const MOST_DIGITS: usize = 12;
-
-/// The longest span of a board, in seconds.
-const LONGEST_SPAN: u64 = 86_400;
-
-/// The most rows of a board.
-const MOST_ROWS: u64 = 1000;
 
 /// What a record's line says.
 #[derive(Debug, Drop)]
@@ -262,10 +257,10 @@ fn board_line(words: &[Text]) -> Result<Line, LineFault>
             let Some(moment) = number_in(moment, 0, LAST_MOMENT) else {
                 return Err(LineFault::NotALine);
             };
-            let Some(span) = number_in(span, 1, LONGEST_SPAN) else {
+            let Some(span) = number_in(span, 1, u64::from(LONGEST_SPAN)) else {
                 return Err(LineFault::NotALine);
             };
-            let Some(limit) = number_in(limit, 1, MOST_ROWS) else {
+            let Some(limit) = number_in(limit, 1, u64::from(MOST_ROWS)) else {
                 return Err(LineFault::NotALine);
             };
             let Some(json) = is_json(form.as_str()) else {
@@ -292,10 +287,10 @@ fn alerts_line(words: &[Text]) -> Result<Line, LineFault>
             let Some(moment) = number_in(moment, 0, LAST_MOMENT) else {
                 return Err(LineFault::NotALine);
             };
-            let Some(span) = number_in(span, 1, LONGEST_SPAN) else {
+            let Some(span) = number_in(span, 1, u64::from(LONGEST_SPAN)) else {
                 return Err(LineFault::NotALine);
             };
-            let Some(limit) = number_in(limit, 1, MOST_ROWS) else {
+            let Some(limit) = number_in(limit, 1, u64::from(MOST_ROWS)) else {
                 return Err(LineFault::NotALine);
             };
             Ok(Line::Alerts {

@@ -7,20 +7,20 @@ ghost use Rattle.board_text_defs.specs.Answers.{IsAsked};
 use crate::bare::bare_hub;
 use std::alloc::Global;
 use std::test::Fail;
-use view_answers::{NoMemory, Question, answer};
+use view_answers::{BoardAsked, NoMemory, Question, answer};
 
 /// A board for an hour.
 fn board<'a>(schedule: &'a str, stop: &'a str, json: bool) -> Question<'a>
     ensures { IsAsked (question_seen result) }
 {
-    Question::Board {
+    Question::Board(BoardAsked {
         schedule,
         stop,
         at: 1_743_314_000,
         span: 3600,
         limit: 5,
         json,
-    }
+    })
 }
 
 /// Whether the answer is those bytes, behind what stood there.

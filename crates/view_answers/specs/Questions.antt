@@ -1,5 +1,6 @@
 -- Questions as the definitions have them.
 use Rattle.std.specs.Prelude.{ℕ, Bool, true, false, List, []}
+use Rattle.board_text_defs.specs.Asked.{asked_seen}
 use Rattle.board_text_defs.specs.Answers.{Question as Defined}
 use Rattle.board_text_defs.specs.Answers.Question.{FeedOf, BoardOf, AlertsOf, UnmatchedOf, StatusOf}
 use Rattle.view_answers.specs.declared.question.Question.{Question}
@@ -7,24 +8,8 @@ use Rattle.view_answers.specs.declared.question.Question.TheVariants.{Feed, Boar
 
 abbrev pub question_seen : Question → Defined
 question_seen (Feed schedule) = FeedOf schedule.now
-question_seen (Board schedule stop at span limit json) =
-    BoardOf (record {
-      schedule = schedule.now;
-      stop = stop.now;
-      at = at;
-      span = span;
-      limit = limit;
-      json = json;
-    })
-question_seen (Alerts schedule stop at span limit json) =
-    AlertsOf (record {
-      schedule = schedule.now;
-      stop = stop.now;
-      at = at;
-      span = span;
-      limit = limit;
-      json = json;
-    })
+question_seen (Board asked) = BoardOf (asked_seen asked)
+question_seen (Alerts asked) = AlertsOf (asked_seen asked)
 question_seen (Unmatched schedule) = UnmatchedOf schedule.now
 question_seen Status = StatusOf
 

@@ -6,7 +6,8 @@ ghost use Rattle.feed_defs.specs.declared.history.Entry.{Entry};
 ghost use Rattle.board_defs.specs.Feed.{combined_feed};
 ghost use Rattle.board_defs.specs.Fold.{fold_of};
 ghost use Rattle.board_defs.specs.Views.{StandsFor, folds_of};
-ghost use Rattle.board_text_defs.specs.Answers.{board_bytes, alert_bytes, unmatched_bytes, IsAsked};
+ghost use Rattle.board_text_defs.specs.Answers.{board_bytes, alert_bytes, unmatched_bytes, query_of, IsAsked};
+ghost use Rattle.board_text_defs.specs.Asked.{asked_seen};
 ghost use Rattle.view_answers.specs.Questions.{question_seen, schedule_of};
 ghost use Rattle.view_answers.specs.Replies.{Replies, Answers, answer_in, board_in, alerts_in, status_in};
 
@@ -18,6 +19,7 @@ use board_core::{HubView, RowsFault, rows};
 use board_defs::{BoardQuery, Row};
 use board_lists::{alerts, unmatched};
 use board_text::{alerts_json, alerts_text, board_json, board_text, status_text, unmatched_text};
+use board_text_defs::BoardAsked;
 use feed_out::combined;
 use rt_types::Text;
 use std::alloc::Global;
@@ -61,27 +63,13 @@ fn answer_of(
 {
     match *question {
         Question::Feed { .. } => push_feed(alloc, view, plan, out),
-        Question::Board {
-            stop,
-            at,
-            span,
-            limit,
-            json,
-            ..
-        } => {
-            let query = query_of(alloc, plan, stop, at, span, limit)?;
-            push_board(alloc, view, &query, json, out)
+        Question::Board(asked) => {
+            let query = query_of(alloc, plan, &asked)?;
+            push_board(alloc, view, &query, asked.json, out)
         }
-        Question::Alerts {
-            stop,
-            at,
-            span,
-            limit,
-            json,
-            ..
-        } => {
-            let query = query_of(alloc, plan, stop, at, span, limit)?;
-            push_alerts(alloc, view, &query, json, out)
+        Question::Alerts(asked) => {
+            let query = query_of(alloc, plan, &asked)?;
+            push_alerts(alloc, view, &query, asked.json, out)
         }
         Question::Unmatched { .. } => push_unmatched(alloc, view, plan, out),
         Question::Status => push_status(view, out),
@@ -89,23 +77,15 @@ fn answer_of(
 }
 
 /// The query of a board of the schedule of that number; or want of memory.
-fn query_of(
-    alloc: Global,
-    plan: u32,
-    stop: &str,
-    at: u64,
-    span: u32,
-    limit: u32,
-) -> Result<BoardQuery, NoMemory>
-    ensures { IfOk result (λ query. query
-        ≡ record { plan = plan; stop = stop.now; at = at; span = span; limit = limit }) }
+fn query_of(alloc: Global, plan: u32, asked: &BoardAsked<'_>) -> Result<BoardQuery, NoMemory>
+    ensures { IfOk result (λ query. query ≡ query_of (asked_seen asked.now) plan) }
 {
     Ok(BoardQuery {
         plan,
-        stop: Text::new(alloc, stop)?,
-        at,
-        span,
-        limit,
+        stop: Text::new(alloc, asked.stop)?,
+        at: asked.at,
+        span: asked.span,
+        limit: asked.limit,
     })
 }
 

@@ -14,5 +14,6 @@ mod lookup;
 mod question;
 
 pub use answering::answer;
+pub use board_text_defs::BoardAsked;
 pub use question::Question;
 pub use std::alloc::AllocError as NoMemory;

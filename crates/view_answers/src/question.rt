@@ -3,6 +3,8 @@
 ghost use Rattle.std.specs.Prelude.{◌≡◌};
 ghost use Rattle.view_answers.specs.Questions.{question_seen, schedule_of, is_status};
 
+use board_text_defs::BoardAsked;
+
 /// What a hub can be asked.
 #[derive(Clone, Copy, Debug)]
 pub enum Question<'a> {
@@ -12,35 +14,9 @@ pub enum Question<'a> {
         schedule: &'a str,
     },
     /// A board of one stop, from a moment on.
-    Board {
-        /// The name of the schedule.
-        schedule: &'a str,
-        /// The stop_id of the stop.
-        stop: &'a str,
-        /// The moment, in seconds since 1970, up to the end of the year 9999.
-        at: u64,
-        /// How many seconds from then on count, 1 to 86400.
-        span: u32,
-        /// The most rows, 1 to 1000.
-        limit: u32,
-        /// Whether as JSON, and not as text.
-        json: bool,
-    },
-    /// The alerts that are active at a moment and touch the stop, or a row of the board that is asked for likewise.
-    Alerts {
-        /// The name of the schedule.
-        schedule: &'a str,
-        /// The stop_id of the stop.
-        stop: &'a str,
-        /// The moment, in seconds since 1970, up to the end of the year 9999.
-        at: u64,
-        /// How many seconds from then on the board goes, 1 to 86400.
-        span: u32,
-        /// The most rows of the board, 1 to 1000.
-        limit: u32,
-        /// Whether as JSON, and not as text.
-        json: bool,
-    },
+    Board(BoardAsked<'a>),
+    /// The alerts next to that board: those that are active at its moment and touch its stop or one of its rows.
+    Alerts(BoardAsked<'a>),
     /// What the feeds of a schedule say of trips that it has no run for.
     Unmatched {
         /// The name of the schedule.
@@ -57,8 +33,8 @@ pub(crate) fn is_status(question: &Question<'_>) -> bool
     match *question {
         Question::Status => true,
         Question::Feed { .. }
-        | Question::Board { .. }
-        | Question::Alerts { .. }
+        | Question::Board(_)
+        | Question::Alerts(_)
         | Question::Unmatched { .. } => false,
     }
 }
@@ -68,10 +44,8 @@ pub(crate) fn schedule_of<'a>(question: &Question<'a>) -> &'a str
     ensures { result.now ≡ schedule_of (question_seen question.now) }
 {
     match *question {
-        Question::Feed { schedule }
-        | Question::Board { schedule, .. }
-        | Question::Alerts { schedule, .. }
-        | Question::Unmatched { schedule } => schedule,
+        Question::Feed { schedule } | Question::Unmatched { schedule } => schedule,
+        Question::Board(asked) | Question::Alerts(asked) => asked.schedule,
         Question::Status => "",
     }
 }

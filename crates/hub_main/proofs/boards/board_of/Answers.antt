@@ -1,6 +1,6 @@
 use Rattle.std.specs.Arc.{arc_value}
 use Rattle.board_text_defs.specs.Answers.Question.{BoardOf}
-use Rattle.hub_words.specs.Answer.{asked_seen}
+use Rattle.board_text_defs.specs.Asked.{asked_seen}
 use Rattle.hub_main.proofs.FirstAnswers.{first_absent, first_there}
 use Rattle.hub_main.proofs.boards.board_of.Goals as goal
 

@@ -1,7 +1,8 @@
 use Rattle.hub_outside.specs.Outside.{file_store, outside, stream}
 use Rattle.hub_main_defs.specs.Words.{command_of}
 use Rattle.std.proofs.Common.{◌≡◌, Some, subst}
-use Rattle.hub_words.specs.Answer.{asked_seen, seen}
+use Rattle.board_text_defs.specs.Asked.{asked_seen}
+use Rattle.hub_words.specs.Answer.{seen}
 use Rattle.hub_words.specs.declared.read.Command.TheVariants.{Board, Gen}
 use Rattle.hub_main.proofs.Asked.{asked_range, sample_range}
 use Rattle.hub_replay_defs.specs.Record.{start}
