@@ -72,8 +72,13 @@ pub(crate) fn kind_of(question: &Question<'_>) -> BodyKind
 {
     match *question {
         Question::Feed { .. } => BodyKind::Feed,
-        Question::Board(asked) | Question::Alerts(asked) if asked.json => BodyKind::Json,
-        Question::Board(_) | Question::Alerts(_) | Question::Unmatched { .. } | Question::Status =>
-            { BodyKind::Text }
+        Question::Board(asked) | Question::Alerts(asked) => {
+            if asked.json {
+                BodyKind::Json
+            } else {
+                BodyKind::Text
+            }
+        }
+        Question::Unmatched { .. } | Question::Status => BodyKind::Text,
     }
 }
