@@ -30,7 +30,7 @@ last_of-push says n fields f = rw filter_map-append (last_more (value_under says
 -- fields were taken in, all of them known, and with those of the rest they are the fields of the bytes
 pub record TakesIn (bytes rest : List ℕ) (delay time uncertainty : Option ℤ) : Type 0 where
   pub done : List Field
-  pub progress : Progress [] done rest bytes
+  pub progress : Progress done rest bytes
   pub delay_is : delay ≡ last_of i32_in 1 done
   pub time_is : time ≡ last_of i64_in 2 done
   pub uncertainty_is : uncertainty ≡ last_of i32_in 3 done
@@ -40,7 +40,7 @@ pub takes_first : (bytes : List ℕ) → TakesIn bytes bytes None None None
 unfolding last_of
 takes_first bytes = record {
   done = [];
-  progress = lists.begins [] bytes;
+  progress = lists.begins bytes;
   delay_is = refl;
   time_is = refl;
   uncertainty_is = refl;
@@ -51,7 +51,7 @@ module _ (bytes rest : List ℕ) (delay time uncertainty : Option ℤ) (h : Take
   pub takes_more : (after : List ℕ) (f : Field) (d t u : Option ℤ) → field_at rest ≡ Ok (f, after) → stop_time_event.is_known f ≡ true → d ≡ option_or (value_under i32_in 1 f) delay → t ≡ option_or (value_under i64_in 2 f) time → u ≡ option_or (value_under i32_in 3 f) uncertainty → TakesIn bytes after d t u
   takes_more after f d t u found known e1 e2 e3 = record {
     done = h.done ++ f ∷ [];
-    progress = lists.goes_on [] h.done rest bytes h.progress (h.done ++ f ∷ []) f after found refl;
+    progress = lists.goes_on h.done rest bytes h.progress f after found;
     delay_is = e1 ∙ rw h.delay_is (sym (last_of-push i32_in 1 h.done f));
     time_is = e2 ∙ rw h.time_is (sym (last_of-push i64_in 2 h.done f));
     uncertainty_is = e3 ∙ rw h.uncertainty_is (sym (last_of-push i32_in 3 h.done f));
@@ -60,7 +60,7 @@ module _ (bytes rest : List ℕ) (delay time uncertainty : Option ℤ) (h : Take
 
   pub takes_end : (unknown : List ℕ) → AreBytes bytes → length rest ≡ 0 → unknown ≡ [] → value stop_time_event (bytes ∷ []) ≡ Ok (record { delay = delay; time = time; uncertainty = uncertainty; unknown = unknown })
   takes_end unknown fits none empty =
-      let told : fields_of bytes ≡ Ok h.done = sym (lists.with_front-nil (fields_of bytes)) ∙ lists.ends [] h.done rest bytes h.progress none in
+      let told : fields_of bytes ≡ Ok h.done = lists.ends h.done rest bytes h.progress none in
       let is : told_fields bytes ≡ h.done = (whole_told bytes h.done told).0 in
       let spelled : HasFields bytes (told_fields bytes) = rw is (fields_found bytes h.done fits told) in
       rw (value_single stop_time_event bytes spelled, is, h.delay_is, h.time_is, h.uncertainty_is, empty, h.all_known) refl

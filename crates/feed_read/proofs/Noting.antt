@@ -36,14 +36,14 @@ others-nil is_known = refl
 -- fields were looked at, and with those of the rest they are the fields of the bytes
 pub record Noting (is_known : Field → Bool) (bytes rest : List ℕ) (slots : Slots) (unknown : List ℕ) : Type 0 where
   pub done : List Field
-  pub progress : Progress [] done rest bytes
+  pub progress : Progress done rest bytes
   pub noted : AreNoted slots done
   pub unknown_is : unknown ≡ unknown_bytes_of is_known done
 
 pub notes_begin : (is_known : Field → Bool) (bytes : List ℕ) (slots : Slots) (unknown : List ℕ) → AreNoted slots [] → unknown ≡ [] → Noting is_known bytes bytes slots unknown
 notes_begin is_known bytes slots unknown h none = record {
   done = [];
-  progress = lists.begins [] bytes;
+  progress = lists.begins bytes;
   noted = h;
   unknown_is = none ∙ sym (others-nil is_known);
 }
@@ -52,7 +52,7 @@ module _ (is_known : Field → Bool) (bytes rest : List ℕ) (slots : Slots) (un
   notes_more : (new : Slots) (now after : List ℕ) (f : Field) → field_at rest ≡ Ok (f, after) → ((fields : List Field) → AreNoted slots fields → AreNoted new (fields ++ f ∷ [])) → now ≡ unknown_bytes_of is_known (h.done ++ f ∷ []) → Noting is_known bytes after new now
   notes_more new now after f found notes is = record {
     done = h.done ++ f ∷ [];
-    progress = lists.goes_on [] h.done rest bytes h.progress (h.done ++ f ∷ []) f after found refl;
+    progress = lists.goes_on h.done rest bytes h.progress f after found;
     noted = notes h.done h.noted;
     unknown_is = is;
   }
@@ -66,11 +66,11 @@ module _ (is_known : Field → Bool) (bytes rest : List ℕ) (slots : Slots) (un
   notes_unknown new now after f found notes known is = notes_more new now after f found notes (is ∙ ap (λ front. front ++ f.raw) h.unknown_is ∙ sym (others-unknown is_known h.done f known))
 
   pub notes_stop : (fault : WireFault) → 0 < length rest → IsFault (field_at rest) fault → IsCause (fields_of bytes) (cause_of fault)
-  notes_stop fault some found = causes (fields_of bytes) fault (fails_on (field_at rest) (fields_of bytes) fault (λ told e. lists.stops [] h.done rest bytes h.progress told some e) found)
+  notes_stop fault some found = causes (fields_of bytes) fault (fails_on (field_at rest) (fields_of bytes) fault (λ told e. lists.stops h.done rest bytes h.progress told some e) found)
 
   pub notes_end : (kept : List ℕ) → AreBytes bytes → kept ≡ unknown → length rest ≡ 0 → Notes is_known bytes slots kept
   notes_end kept fits same none =
-      let told : fields_of bytes ≡ Ok h.done = sym (lists.with_front-nil (fields_of bytes)) ∙ lists.ends [] h.done rest bytes h.progress none in
+      let told : fields_of bytes ≡ Ok h.done = lists.ends h.done rest bytes h.progress none in
       let is : told_fields bytes ≡ h.done = (whole_told bytes h.done told).0 in
       record {
         spelled = rw is (fields_found bytes h.done fits told);
