@@ -1,4 +1,4 @@
-pub mod Joins
+pub mod Events
+pub mod Fields
+pub mod Noting
 pub mod Numbers
-pub mod Walks
-pub mod Wholes

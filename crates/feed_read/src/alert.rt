@@ -2,11 +2,15 @@
 
 ghost use Rattle.feed_defs.specs.Table.{alert, time_range, entity_selector, translated_string, translation};
 
+use crate::NoMemory;
 use crate::message::{Message, needed};
 use crate::nested::{all, embedded};
-use field_read::{ReadFault, Reader, is_scalar, is_span, last, text};
+use field_read::{Fields, ReadFault, is_scalar, is_span, last, text};
 use pb_wire::Part;
-use rt_types::{Alert, Bytes, Cause, Effect, Kind, Period, Selector, Translated, Translation};
+use rt_types::{
+    Alert, Bytes, Cause, Effect, Items, Kind, Period, Selector, Text, Translated, Translation,
+};
+use std::alloc::Global;
 
 impl Message for Alert {
     ghost table = { alert };
@@ -22,20 +26,32 @@ impl Message for Alert {
                     || (is_scalar::<Effect>(7, part) || (is_span(10, part) || is_span(11, part)))))
     }
 
-    fn of_parts<'a>(
-        reader: &mut Reader<'a>,
-        parts: &[Part<'a>],
-        unknown: Bytes,
-    ) -> Result<Alert, ReadFault> {
+    fn blank(alloc: Global) -> Result<Alert, NoMemory> {
         Ok(Alert {
-            active_period: all(reader, 1, parts)?,
-            informed_entity: all(reader, 5, parts)?,
-            cause: last(6, parts),
-            effect: last(7, parts),
-            header_text: embedded(reader, 10, parts)?,
-            description_text: embedded(reader, 11, parts)?,
-            unknown,
+            active_period: Items::new(Vec::new(alloc)),
+            informed_entity: Items::new(Vec::new(alloc)),
+            cause: None,
+            effect: None,
+            header_text: None,
+            description_text: None,
+            unknown: Bytes::from_vec(Vec::new(alloc)),
         })
+    }
+
+    fn fill(
+        &mut self,
+        alloc: Global,
+        fields: &Fields<'_, '_>,
+        unknown: Bytes,
+    ) -> Result<(), ReadFault> {
+        self.active_period = all(alloc, 1, fields)?;
+        self.informed_entity = all(alloc, 5, fields)?;
+        self.cause = last(6, fields);
+        self.effect = last(7, fields);
+        embedded(alloc, 10, fields, &mut self.header_text)?;
+        embedded(alloc, 11, fields, &mut self.description_text)?;
+        self.unknown = unknown;
+        Ok(())
     }
 }
 
@@ -50,16 +66,24 @@ impl Message for Period {
         is_scalar::<u64>(1, part) || is_scalar::<u64>(2, part)
     }
 
-    fn of_parts<'a>(
-        _reader: &mut Reader<'a>,
-        parts: &[Part<'a>],
-        unknown: Bytes,
-    ) -> Result<Period, ReadFault> {
+    fn blank(alloc: Global) -> Result<Period, NoMemory> {
         Ok(Period {
-            start: last(1, parts),
-            end: last(2, parts),
-            unknown,
+            start: None,
+            end: None,
+            unknown: Bytes::from_vec(Vec::new(alloc)),
         })
+    }
+
+    fn fill(
+        &mut self,
+        _alloc: Global,
+        fields: &Fields<'_, '_>,
+        unknown: Bytes,
+    ) -> Result<(), ReadFault> {
+        self.start = last(1, fields);
+        self.end = last(2, fields);
+        self.unknown = unknown;
+        Ok(())
     }
 }
 
@@ -77,20 +101,32 @@ impl Message for Selector {
                     || (is_span(4, part) || (is_span(5, part) || is_scalar::<u32>(6, part)))))
     }
 
-    fn of_parts<'a>(
-        reader: &mut Reader<'a>,
-        parts: &[Part<'a>],
-        unknown: Bytes,
-    ) -> Result<Selector, ReadFault> {
+    fn blank(alloc: Global) -> Result<Selector, NoMemory> {
         Ok(Selector {
-            agency_id: text(reader.alloc, Kind::EntitySelector, 1, parts)?,
-            route_id: text(reader.alloc, Kind::EntitySelector, 2, parts)?,
-            route_type: last(3, parts),
-            trip: embedded(reader, 4, parts)?,
-            stop_id: text(reader.alloc, Kind::EntitySelector, 5, parts)?,
-            direction_id: last(6, parts),
-            unknown,
+            agency_id: None,
+            route_id: None,
+            route_type: None,
+            trip: None,
+            stop_id: None,
+            direction_id: None,
+            unknown: Bytes::from_vec(Vec::new(alloc)),
         })
+    }
+
+    fn fill(
+        &mut self,
+        alloc: Global,
+        fields: &Fields<'_, '_>,
+        unknown: Bytes,
+    ) -> Result<(), ReadFault> {
+        self.agency_id = text(alloc, Kind::EntitySelector, 1, fields)?;
+        self.route_id = text(alloc, Kind::EntitySelector, 2, fields)?;
+        self.route_type = last(3, fields);
+        embedded(alloc, 4, fields, &mut self.trip)?;
+        self.stop_id = text(alloc, Kind::EntitySelector, 5, fields)?;
+        self.direction_id = last(6, fields);
+        self.unknown = unknown;
+        Ok(())
     }
 }
 
@@ -105,15 +141,22 @@ impl Message for Translated {
         is_span(1, part)
     }
 
-    fn of_parts<'a>(
-        reader: &mut Reader<'a>,
-        parts: &[Part<'a>],
-        unknown: Bytes,
-    ) -> Result<Translated, ReadFault> {
+    fn blank(alloc: Global) -> Result<Translated, NoMemory> {
         Ok(Translated {
-            translation: all(reader, 1, parts)?,
-            unknown,
+            translation: Items::new(Vec::new(alloc)),
+            unknown: Bytes::from_vec(Vec::new(alloc)),
         })
+    }
+
+    fn fill(
+        &mut self,
+        alloc: Global,
+        fields: &Fields<'_, '_>,
+        unknown: Bytes,
+    ) -> Result<(), ReadFault> {
+        self.translation = all(alloc, 1, fields)?;
+        self.unknown = unknown;
+        Ok(())
     }
 }
 
@@ -128,17 +171,24 @@ impl Message for Translation {
         is_span(1, part) || is_span(2, part)
     }
 
-    fn of_parts<'a>(
-        reader: &mut Reader<'a>,
-        parts: &[Part<'a>],
-        unknown: Bytes,
-    ) -> Result<Translation, ReadFault> {
-        let translated = text(reader.alloc, Kind::Translation, 1, parts)?;
-        let language = text(reader.alloc, Kind::Translation, 2, parts)?;
+    fn blank(alloc: Global) -> Result<Translation, NoMemory> {
         Ok(Translation {
-            text: needed(Kind::Translation, 1, translated)?,
-            language,
-            unknown,
+            text: Text::new(alloc, "")?,
+            language: None,
+            unknown: Bytes::from_vec(Vec::new(alloc)),
         })
+    }
+
+    fn fill(
+        &mut self,
+        alloc: Global,
+        fields: &Fields<'_, '_>,
+        unknown: Bytes,
+    ) -> Result<(), ReadFault> {
+        let translated = text(alloc, Kind::Translation, 1, fields)?;
+        self.language = text(alloc, Kind::Translation, 2, fields)?;
+        self.text = needed(Kind::Translation, 1, translated)?;
+        self.unknown = unknown;
+        Ok(())
     }
 }

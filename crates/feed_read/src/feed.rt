@@ -2,11 +2,13 @@
 
 ghost use Rattle.feed_defs.specs.Table.{header, entity, feed};
 
+use crate::NoMemory;
 use crate::message::{Message, needed};
 use crate::nested::{embedded, numbered, shared};
-use field_read::{ReadFault, Reader, is_scalar, is_span, last, text};
+use field_read::{Fields, ReadFault, is_scalar, is_span, last, text};
 use pb_wire::Part;
-use rt_types::{Bytes, Entity, FeedMessage, Header, Incrementality, Kind};
+use rt_types::{Bytes, Entity, FeedMessage, Header, Incrementality, Items, Kind, Text};
+use std::alloc::Global;
 
 impl Message for Header {
     ghost table = { header };
@@ -19,18 +21,27 @@ impl Message for Header {
         is_span(1, part) || (is_scalar::<Incrementality>(2, part) || is_scalar::<u64>(3, part))
     }
 
-    fn of_parts<'a>(
-        reader: &mut Reader<'a>,
-        parts: &[Part<'a>],
-        unknown: Bytes,
-    ) -> Result<Header, ReadFault> {
-        let version = text(reader.alloc, Kind::FeedHeader, 1, parts)?;
+    fn blank(alloc: Global) -> Result<Header, NoMemory> {
         Ok(Header {
-            version: needed(Kind::FeedHeader, 1, version)?,
-            incrementality: last(2, parts),
-            timestamp: last(3, parts),
-            unknown,
+            version: Text::new(alloc, "")?,
+            incrementality: None,
+            timestamp: None,
+            unknown: Bytes::from_vec(Vec::new(alloc)),
         })
+    }
+
+    fn fill(
+        &mut self,
+        alloc: Global,
+        fields: &Fields<'_, '_>,
+        unknown: Bytes,
+    ) -> Result<(), ReadFault> {
+        let version = text(alloc, Kind::FeedHeader, 1, fields)?;
+        self.incrementality = last(2, fields);
+        self.timestamp = last(3, fields);
+        self.version = needed(Kind::FeedHeader, 1, version)?;
+        self.unknown = unknown;
+        Ok(())
     }
 }
 
@@ -47,23 +58,31 @@ impl Message for Entity {
                 || (is_span(3, part) || (is_span(4, part) || is_span(5, part))))
     }
 
-    fn of_parts<'a>(
-        reader: &mut Reader<'a>,
-        parts: &[Part<'a>],
-        unknown: Bytes,
-    ) -> Result<Entity, ReadFault> {
-        let id = text(reader.alloc, Kind::FeedEntity, 1, parts)?;
-        let trip_update = shared(reader, 3, parts)?;
-        let vehicle = shared(reader, 4, parts)?;
-        let alert = shared(reader, 5, parts)?;
+    fn blank(alloc: Global) -> Result<Entity, NoMemory> {
         Ok(Entity {
-            id: needed(Kind::FeedEntity, 1, id)?,
-            is_deleted: last(2, parts),
-            trip_update,
-            vehicle,
-            alert,
-            unknown,
+            id: Text::new(alloc, "")?,
+            is_deleted: None,
+            trip_update: None,
+            vehicle: None,
+            alert: None,
+            unknown: Bytes::from_vec(Vec::new(alloc)),
         })
+    }
+
+    fn fill(
+        &mut self,
+        alloc: Global,
+        fields: &Fields<'_, '_>,
+        unknown: Bytes,
+    ) -> Result<(), ReadFault> {
+        let id = text(alloc, Kind::FeedEntity, 1, fields)?;
+        self.is_deleted = last(2, fields);
+        self.trip_update = shared(alloc, 3, fields)?;
+        self.vehicle = shared(alloc, 4, fields)?;
+        self.alert = shared(alloc, 5, fields)?;
+        self.id = needed(Kind::FeedEntity, 1, id)?;
+        self.unknown = unknown;
+        Ok(())
     }
 }
 
@@ -78,17 +97,25 @@ impl Message for FeedMessage {
         is_span(1, part) || is_span(2, part)
     }
 
-    fn of_parts<'a>(
-        reader: &mut Reader<'a>,
-        parts: &[Part<'a>],
-        unknown: Bytes,
-    ) -> Result<FeedMessage, ReadFault> {
-        let header = embedded(reader, 1, parts)?;
-        let entity = numbered(reader, 2, parts)?;
+    fn blank(alloc: Global) -> Result<FeedMessage, NoMemory> {
         Ok(FeedMessage {
-            header: needed(Kind::FeedMessage, 1, header)?,
-            entity,
-            unknown,
+            header: Header::blank(alloc)?,
+            entity: Items::new(Vec::new(alloc)),
+            unknown: Bytes::from_vec(Vec::new(alloc)),
         })
+    }
+
+    fn fill(
+        &mut self,
+        alloc: Global,
+        fields: &Fields<'_, '_>,
+        unknown: Bytes,
+    ) -> Result<(), ReadFault> {
+        let mut header = None;
+        embedded(alloc, 1, fields, &mut header)?;
+        self.entity = numbered(alloc, 2, fields)?;
+        self.header = needed(Kind::FeedMessage, 1, header)?;
+        self.unknown = unknown;
+        Ok(())
     }
 }

@@ -4,9 +4,9 @@
 //! It stands on `field_read` for single fields, on `pb_wire` for the fields of the bytes and on `rt_types`
 //! for the values.
 //!
-//! Each of the sixteen messages is an `impl` of `Message`: which fields it knows, and its value from its
-//! fields, a line for each row of its table. The kinds of rows that are messages are generic functions,
-//! written once.
+//! Each of the sixteen messages is an `impl` of `Message`: which fields it knows, and how they fill it, a line
+//! for each row of its table. A message is filled in place, since a large struct that is answered by value is
+//! copied at each call. The kinds of rows that are messages are generic functions, written once.
 #![tactic(auto)]
 
 mod alert;

@@ -1,100 +1,114 @@
 //! The kinds of fields that are messages: singular ones, merged of all their occurrences, and repeated ones.
 
-ghost use Rattle.std.specs.Prelude.{◌≡◌, [], ◌∷◌};
+ghost use Rattle.std.specs.Prelude.{◌≡◌, [], ◌∷◌, MatchResult};
 ghost use Rattle.feed_defs.specs.Rows.{occurrences_of, span_in, fields_of_all, merged_message, value, values, with_entity_number, numbered_values};
-ghost use Rattle.pb_wire.specs.Parts.{parts_seen};
-ghost use Rattle.answer_defs.specs.Defined.{AsDefined};
+ghost use Rattle.answer_defs.specs.Defined.{AsDefined, IsCause};
 ghost use Rattle.field_read.specs.Causes.{cause_of};
-ghost use Rattle.field_read.specs.Grows.{Grows};
+ghost use Rattle.feed_read.specs.Noting.{Joins};
 
-use crate::message::{Message, read_one, whole};
-use field_read::{ReadFault, Reader, add_parts, count, last_span, span_at};
-use pb_wire::Part;
-use rt_types::{Items, Kind, Shared};
+use crate::message::{Message, note_fields, read_into, read_one};
+use field_read::{Fields, Occurs, ReadFault, Slots, Spans};
+use rt_types::{Items, Shared};
+use std::alloc::Global;
 
 /// The most values that room is made for before the first is read: what bytes promise may be more than memory holds.
 const MOST_ROOM: usize = 64;
 
-/// Puts the fields of all payloads under this number behind the parts, in order.
-fn join_parts<'a>(
-    kind: Kind,
+/// Sets the place to the singular message under this number, made of all its occurrences together.
+pub(crate) fn embedded<M: Message>(
+    alloc: Global,
     number: u32,
-    parts: &[Part<'a>],
-    inner: &mut Vec<Part<'a>>,
+    fields: &Fields<'_, '_>,
+    place: &mut Option<M>,
 ) -> Result<(), ReadFault>
-    ensures { Grows (parts_seen inner.old.items) (parts_seen inner.new.items)
-        (fields_of_all kind (occurrences_of span_in number (parts_seen parts.now))) result }
+    ensures { AsDefined (λ _. place.new) cause_of
+        (merged_message M.table (occurrences_of span_in number fields.now)) result }
 {
-    for part in parts {
-        if let Some(bytes) = span_at(number, part) {
-            add_parts(kind, bytes, inner)?;
+    match fields.span(number) {
+        Occurs::Never => {
+            *place = None;
+            Ok(())
+        }
+        Occurs::Once(bytes) => {
+            *place = Some(M::blank(alloc)?);
+            match place {
+                Some(message) => read_into(alloc, bytes, message),
+                None => unreachable!(),
+            }
+        }
+        Occurs::Several => {
+            *place = merged(alloc, fields.spans(number))?;
+            Ok(())
         }
     }
-    Ok(())
 }
 
-/// The singular message under this number, made of all its occurrences together.
-pub(crate) fn embedded<'a, M: Message>(
-    reader: &mut Reader<'a>,
-    number: u32,
-    parts: &[Part<'a>],
-) -> Result<Option<M>, ReadFault>
-    ensures { AsDefined (λ x. x) cause_of
-        (merged_message M.table (occurrences_of span_in number (parts_seen parts.now))) result }
+/// The message of these payloads together, if there is one.
+#[cold]
+#[inline(never)]
+fn merged<M: Message>(alloc: Global, payloads: Spans<'_>) -> Result<Option<M>, ReadFault>
+    ensures { AsDefined (λ x. x) cause_of (merged_message M.table payloads.entry) result }
 {
-    if last_span(number, parts).is_none() {
-        return Ok(None);
+    match joined::<M>(alloc, payloads)? {
+        Some(bytes) => Ok(Some(read_one(alloc, bytes.as_slice())?)),
+        None => Ok(None),
     }
-    let mut inner = reader.take();
-    join_parts(M::kind(), number, parts, &mut inner)?;
-    let message = whole(reader, inner.as_slice())?;
-    reader.give(inner);
-    Ok(Some(message))
 }
 
-/// The same, to be shared.
-pub(crate) fn shared<'a, M: Message>(
-    reader: &mut Reader<'a>,
+/// The payloads one after another, if there is one, or the first fault in them: each must be fields by itself.
+fn joined<M: Message>(alloc: Global, payloads: Spans<'_>) -> Result<Option<Vec<u8>>, ReadFault>
+    ensures { MatchResult result (Joins M.table.kind payloads.entry)
+        (λ e. IsCause (fields_of_all M.table.kind payloads.entry) (cause_of e)) }
+{
+    let mut bytes = Vec::new(alloc);
+    let mut found = false;
+    for payload in payloads {
+        let _unknown = note_fields::<M>(alloc, payload, &mut Slots::new())?;
+        bytes.extend_from_slice(payload)?;
+        found = true;
+    }
+    Ok(found.then_some(bytes))
+}
+
+/// The singular message under this number, to be shared.
+pub(crate) fn shared<M: Message>(
+    alloc: Global,
     number: u32,
-    parts: &[Part<'a>],
+    fields: &Fields<'_, '_>,
 ) -> Result<Option<Shared<M>>, ReadFault>
     ensures { AsDefined (λ x. x) cause_of
-        (merged_message M.table (occurrences_of span_in number (parts_seen parts.now))) result }
+        (merged_message M.table (occurrences_of span_in number fields.now)) result }
 {
-    match embedded(reader, number, parts)? {
-        Some(message) => Ok(Some(Shared::new(reader.alloc, message)?)),
+    let mut message = None;
+    embedded(alloc, number, fields, &mut message)?;
+    match message {
+        Some(message) => Ok(Some(Shared::new(alloc, message)?)),
         None => Ok(None),
     }
 }
 
 /// The messages of the repeated field with this number, each of its own payload.
-pub(crate) fn all<'a, M: Message>(
-    reader: &mut Reader<'a>,
+pub(crate) fn all<M: Message>(
+    alloc: Global,
     number: u32,
-    parts: &[Part<'a>],
+    fields: &Fields<'_, '_>,
 ) -> Result<Items<M>, ReadFault>
     ensures { AsDefined (λ x. x) cause_of
-        (values M.table (occurrences_of span_in number (parts_seen parts.now))) result }
+        (values M.table (occurrences_of span_in number fields.now)) result }
 {
-    let mut items = Vec::with_capacity(reader.alloc, count(number, parts).min(MOST_ROOM))?;
-    for part in parts {
-        if let Some(bytes) = span_at(number, part) {
-            items.push(read_one(reader, bytes)?)?;
-        }
+    let mut items = Vec::with_capacity(alloc, fields.count(number).min(MOST_ROOM))?;
+    for bytes in fields.spans(number) {
+        items.push(read_one(alloc, bytes)?)?;
     }
     Ok(Items::new(items))
 }
 
 /// The message of these bytes, whose fault tells this entity.
-fn read_placed<'a, M: Message>(
-    reader: &mut Reader<'a>,
-    entity: u32,
-    bytes: &'a [u8],
-) -> Result<M, ReadFault>
+fn read_placed<M: Message>(alloc: Global, entity: u32, bytes: &[u8]) -> Result<M, ReadFault>
     ensures { AsDefined (λ x. x) cause_of
         (with_entity_number entity (value M.table (bytes.now ∷ []))) result }
 {
-    match read_one(reader, bytes) {
+    match read_one(alloc, bytes) {
         Err(
             ReadFault::Malformed {
                 what,
@@ -113,21 +127,19 @@ fn read_placed<'a, M: Message>(
 }
 
 /// The messages of the repeated field with this number, whose faults tell which of them they are in.
-pub(crate) fn numbered<'a, M: Message>(
-    reader: &mut Reader<'a>,
+pub(crate) fn numbered<M: Message>(
+    alloc: Global,
     number: u32,
-    parts: &[Part<'a>],
+    fields: &Fields<'_, '_>,
 ) -> Result<Items<M>, ReadFault>
     ensures { AsDefined (λ x. x) cause_of
-        (numbered_values M.table 0 (occurrences_of span_in number (parts_seen parts.now))) result }
+        (numbered_values M.table 0 (occurrences_of span_in number fields.now)) result }
 {
-    let mut items = Vec::with_capacity(reader.alloc, count(number, parts).min(MOST_ROOM))?;
+    let mut items = Vec::with_capacity(alloc, fields.count(number).min(MOST_ROOM))?;
     let mut entity = 0u32;
-    for part in parts {
-        if let Some(bytes) = span_at(number, part) {
-            entity = entity.saturating_add(1);
-            items.push(read_placed(reader, entity, bytes)?)?;
-        }
+    for bytes in fields.spans(number) {
+        entity = entity.saturating_add(1);
+        items.push(read_placed(alloc, entity, bytes)?)?;
     }
     Ok(Items::new(items))
 }

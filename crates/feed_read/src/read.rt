@@ -5,7 +5,7 @@ ghost use Rattle.answer_defs.specs.Defined.{AsDefined};
 ghost use Rattle.field_read.specs.Causes.{cause_of};
 
 use crate::message::read_one;
-use field_read::{ReadFault, Reader};
+use field_read::ReadFault;
 use rt_types::FeedMessage;
 use std::alloc::Global;
 
@@ -14,5 +14,5 @@ use std::alloc::Global;
 pub fn read_message(alloc: Global, bytes: &[u8]) -> Result<FeedMessage, ReadFault>
     ensures { AsDefined (λ x. x) cause_of (read bytes.now) result }
 {
-    read_one(&mut Reader::new(alloc), bytes)
+    read_one(alloc, bytes)
 }

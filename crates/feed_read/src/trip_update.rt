@@ -1,12 +1,20 @@
 //! Updates of trips, as their tables list their fields.
 
+ghost use Rattle.std.specs.Prelude.{◌≡◌, [], ◌∷◌, IfSome};
+ghost use Rattle.feed_defs.specs.Rows.{merged_message, occurrences_of, span_in, value};
 ghost use Rattle.feed_defs.specs.Table.{trip_update, stop_time_update, stop_time_event, stop_time_properties};
+ghost use Rattle.answer_defs.specs.Defined.{AsDefined};
+ghost use Rattle.field_read.specs.Causes.{cause_of};
 
+use crate::NoMemory;
 use crate::message::{Message, needed};
 use crate::nested::{all, embedded};
-use field_read::{ReadFault, Reader, is_scalar, is_span, last, text};
-use pb_wire::Part;
-use rt_types::{Bytes, Event, Kind, StopProps, StopRelation, StopUpdate, TripUpdate};
+use field_read::{Fields, Occurs, ReadFault, is_scalar, is_span, last, said_at, text};
+use pb_wire::{Part, field_at};
+use rt_types::{
+    Bytes, Event, Items, Kind, StopProps, StopRelation, StopUpdate, TripRef, TripUpdate,
+};
+use std::alloc::Global;
 
 impl Message for TripUpdate {
     ghost table = { trip_update };
@@ -21,22 +29,32 @@ impl Message for TripUpdate {
                 || (is_span(3, part) || (is_scalar::<u64>(4, part) || is_scalar::<i32>(5, part))))
     }
 
-    fn of_parts<'a>(
-        reader: &mut Reader<'a>,
-        parts: &[Part<'a>],
-        unknown: Bytes,
-    ) -> Result<TripUpdate, ReadFault> {
-        let trip = embedded(reader, 1, parts)?;
-        let stop_time_update = all(reader, 2, parts)?;
-        let vehicle = embedded(reader, 3, parts)?;
+    fn blank(alloc: Global) -> Result<TripUpdate, NoMemory> {
         Ok(TripUpdate {
-            trip: needed(Kind::TripUpdate, 1, trip)?,
-            stop_time_update,
-            vehicle,
-            timestamp: last(4, parts),
-            delay: last(5, parts),
-            unknown,
+            trip: TripRef::blank(alloc)?,
+            stop_time_update: Items::new(Vec::new(alloc)),
+            vehicle: None,
+            timestamp: None,
+            delay: None,
+            unknown: Bytes::from_vec(Vec::new(alloc)),
         })
+    }
+
+    fn fill(
+        &mut self,
+        alloc: Global,
+        fields: &Fields<'_, '_>,
+        unknown: Bytes,
+    ) -> Result<(), ReadFault> {
+        let mut trip = None;
+        embedded(alloc, 1, fields, &mut trip)?;
+        self.stop_time_update = all(alloc, 2, fields)?;
+        embedded(alloc, 3, fields, &mut self.vehicle)?;
+        self.timestamp = last(4, fields);
+        self.delay = last(5, fields);
+        self.trip = needed(Kind::TripUpdate, 1, trip)?;
+        self.unknown = unknown;
+        Ok(())
     }
 }
 
@@ -55,20 +73,32 @@ impl Message for StopUpdate {
                         || (is_scalar::<StopRelation>(5, part) || is_span(6, part)))))
     }
 
-    fn of_parts<'a>(
-        reader: &mut Reader<'a>,
-        parts: &[Part<'a>],
-        unknown: Bytes,
-    ) -> Result<StopUpdate, ReadFault> {
+    fn blank(alloc: Global) -> Result<StopUpdate, NoMemory> {
         Ok(StopUpdate {
-            stop_sequence: last(1, parts),
-            arrival: embedded(reader, 2, parts)?,
-            departure: embedded(reader, 3, parts)?,
-            stop_id: text(reader.alloc, Kind::StopTimeUpdate, 4, parts)?,
-            relation: last(5, parts),
-            properties: embedded(reader, 6, parts)?,
-            unknown,
+            stop_sequence: None,
+            arrival: None,
+            departure: None,
+            stop_id: None,
+            relation: None,
+            properties: None,
+            unknown: Bytes::from_vec(Vec::new(alloc)),
         })
+    }
+
+    fn fill(
+        &mut self,
+        alloc: Global,
+        fields: &Fields<'_, '_>,
+        unknown: Bytes,
+    ) -> Result<(), ReadFault> {
+        self.stop_sequence = last(1, fields);
+        event(alloc, 2, fields, &mut self.arrival)?;
+        event(alloc, 3, fields, &mut self.departure)?;
+        self.stop_id = text(alloc, Kind::StopTimeUpdate, 4, fields)?;
+        self.relation = last(5, fields);
+        embedded(alloc, 6, fields, &mut self.properties)?;
+        self.unknown = unknown;
+        Ok(())
     }
 }
 
@@ -83,17 +113,26 @@ impl Message for Event {
         is_scalar::<i32>(1, part) || (is_scalar::<i64>(2, part) || is_scalar::<i32>(3, part))
     }
 
-    fn of_parts<'a>(
-        _reader: &mut Reader<'a>,
-        parts: &[Part<'a>],
-        unknown: Bytes,
-    ) -> Result<Event, ReadFault> {
+    fn blank(alloc: Global) -> Result<Event, NoMemory> {
         Ok(Event {
-            delay: last(1, parts),
-            time: last(2, parts),
-            uncertainty: last(3, parts),
-            unknown,
+            delay: None,
+            time: None,
+            uncertainty: None,
+            unknown: Bytes::from_vec(Vec::new(alloc)),
         })
+    }
+
+    fn fill(
+        &mut self,
+        _alloc: Global,
+        fields: &Fields<'_, '_>,
+        unknown: Bytes,
+    ) -> Result<(), ReadFault> {
+        self.delay = last(1, fields);
+        self.time = last(2, fields);
+        self.uncertainty = last(3, fields);
+        self.unknown = unknown;
+        Ok(())
     }
 }
 
@@ -108,14 +147,71 @@ impl Message for StopProps {
         is_span(1, part)
     }
 
-    fn of_parts<'a>(
-        reader: &mut Reader<'a>,
-        parts: &[Part<'a>],
-        unknown: Bytes,
-    ) -> Result<StopProps, ReadFault> {
+    fn blank(alloc: Global) -> Result<StopProps, NoMemory> {
         Ok(StopProps {
-            assigned_stop_id: text(reader.alloc, Kind::StopTimeProperties, 1, parts)?,
-            unknown,
+            assigned_stop_id: None,
+            unknown: Bytes::from_vec(Vec::new(alloc)),
         })
     }
+
+    fn fill(
+        &mut self,
+        alloc: Global,
+        fields: &Fields<'_, '_>,
+        unknown: Bytes,
+    ) -> Result<(), ReadFault> {
+        self.assigned_stop_id = text(alloc, Kind::StopTimeProperties, 1, fields)?;
+        self.unknown = unknown;
+        Ok(())
+    }
+}
+
+/// Sets the place to the event under this number, made of all its occurrences together.
+///
+/// Most messages of a feed are events of three numbers, so one that occurs once is read by a way of its own.
+fn event(
+    alloc: Global,
+    number: u32,
+    fields: &Fields<'_, '_>,
+    place: &mut Option<Event>,
+) -> Result<(), ReadFault>
+    ensures { AsDefined (λ _. place.new) cause_of
+        (merged_message stop_time_event (occurrences_of span_in number fields.now)) result }
+{
+    if let Occurs::Once(bytes) = fields.span(number)
+        && let Some(event) = plain_event(alloc, bytes)
+    {
+        *place = Some(event);
+        return Ok(());
+    }
+    embedded(alloc, number, fields, place)
+}
+
+/// The event of these bytes, if they are fields that an event knows.
+#[inline(always)]
+fn plain_event(alloc: Global, bytes: &[u8]) -> Option<Event>
+    ensures { IfSome result (λ event. value stop_time_event (bytes.now ∷ []) ≡ Ok event) }
+{
+    let mut delay = None;
+    let mut time = None;
+    let mut uncertainty = None;
+    let mut rest = bytes;
+    'fields: while !rest.is_empty() {
+        let Ok((part, after)) = field_at(rest) else {
+            return None;
+        };
+        if !Event::knows(&part) {
+            return None;
+        }
+        delay = said_at(1, &part).or(delay);
+        time = said_at(2, &part).or(time);
+        uncertainty = said_at(3, &part).or(uncertainty);
+        rest = after;
+    }
+    Some(Event {
+        delay,
+        time,
+        uncertainty,
+        unknown: Bytes::from_vec(Vec::new(alloc)),
+    })
 }

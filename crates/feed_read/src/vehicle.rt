@@ -2,11 +2,13 @@
 
 ghost use Rattle.feed_defs.specs.Table.{vehicle_position, position, vehicle_descriptor};
 
+use crate::NoMemory;
 use crate::message::{Message, needed};
 use crate::nested::embedded;
-use field_read::{ReadFault, Reader, is_scalar, is_span, last, text};
+use field_read::{Fields, ReadFault, is_scalar, is_span, last, text};
 use pb_wire::Part;
 use rt_types::{Bytes, Degrees, Kind, Position, StopStatus, Vehicle, VehicleRef};
+use std::alloc::Global;
 
 impl Message for Vehicle {
     ghost table = { vehicle_position };
@@ -23,21 +25,34 @@ impl Message for Vehicle {
                         || (is_scalar::<u64>(5, part) || (is_span(7, part) || is_span(8, part))))))
     }
 
-    fn of_parts<'a>(
-        reader: &mut Reader<'a>,
-        parts: &[Part<'a>],
-        unknown: Bytes,
-    ) -> Result<Vehicle, ReadFault> {
+    fn blank(alloc: Global) -> Result<Vehicle, NoMemory> {
         Ok(Vehicle {
-            trip: embedded(reader, 1, parts)?,
-            position: embedded(reader, 2, parts)?,
-            current_stop_sequence: last(3, parts),
-            current_status: last(4, parts),
-            timestamp: last(5, parts),
-            stop_id: text(reader.alloc, Kind::VehiclePosition, 7, parts)?,
-            vehicle: embedded(reader, 8, parts)?,
-            unknown,
+            trip: None,
+            position: None,
+            current_stop_sequence: None,
+            current_status: None,
+            timestamp: None,
+            stop_id: None,
+            vehicle: None,
+            unknown: Bytes::from_vec(Vec::new(alloc)),
         })
+    }
+
+    fn fill(
+        &mut self,
+        alloc: Global,
+        fields: &Fields<'_, '_>,
+        unknown: Bytes,
+    ) -> Result<(), ReadFault> {
+        embedded(alloc, 1, fields, &mut self.trip)?;
+        embedded(alloc, 2, fields, &mut self.position)?;
+        self.current_stop_sequence = last(3, fields);
+        self.current_status = last(4, fields);
+        self.timestamp = last(5, fields);
+        self.stop_id = text(alloc, Kind::VehiclePosition, 7, fields)?;
+        embedded(alloc, 8, fields, &mut self.vehicle)?;
+        self.unknown = unknown;
+        Ok(())
     }
 }
 
@@ -52,16 +67,24 @@ impl Message for Position {
         is_scalar::<Degrees>(1, part) || is_scalar::<Degrees>(2, part)
     }
 
-    fn of_parts<'a>(
-        _reader: &mut Reader<'a>,
-        parts: &[Part<'a>],
-        unknown: Bytes,
-    ) -> Result<Position, ReadFault> {
+    fn blank(alloc: Global) -> Result<Position, NoMemory> {
         Ok(Position {
-            latitude: needed(Kind::Position, 1, last(1, parts))?,
-            longitude: needed(Kind::Position, 2, last(2, parts))?,
-            unknown,
+            latitude: Degrees { bits: 0 },
+            longitude: Degrees { bits: 0 },
+            unknown: Bytes::from_vec(Vec::new(alloc)),
         })
+    }
+
+    fn fill(
+        &mut self,
+        _alloc: Global,
+        fields: &Fields<'_, '_>,
+        unknown: Bytes,
+    ) -> Result<(), ReadFault> {
+        self.latitude = needed(Kind::Position, 1, last(1, fields))?;
+        self.longitude = needed(Kind::Position, 2, last(2, fields))?;
+        self.unknown = unknown;
+        Ok(())
     }
 }
 
@@ -76,16 +99,25 @@ impl Message for VehicleRef {
         is_span(1, part) || (is_span(2, part) || is_span(3, part))
     }
 
-    fn of_parts<'a>(
-        reader: &mut Reader<'a>,
-        parts: &[Part<'a>],
-        unknown: Bytes,
-    ) -> Result<VehicleRef, ReadFault> {
+    fn blank(alloc: Global) -> Result<VehicleRef, NoMemory> {
         Ok(VehicleRef {
-            id: text(reader.alloc, Kind::VehicleDescriptor, 1, parts)?,
-            label: text(reader.alloc, Kind::VehicleDescriptor, 2, parts)?,
-            license_plate: text(reader.alloc, Kind::VehicleDescriptor, 3, parts)?,
-            unknown,
+            id: None,
+            label: None,
+            license_plate: None,
+            unknown: Bytes::from_vec(Vec::new(alloc)),
         })
+    }
+
+    fn fill(
+        &mut self,
+        alloc: Global,
+        fields: &Fields<'_, '_>,
+        unknown: Bytes,
+    ) -> Result<(), ReadFault> {
+        self.id = text(alloc, Kind::VehicleDescriptor, 1, fields)?;
+        self.label = text(alloc, Kind::VehicleDescriptor, 2, fields)?;
+        self.license_plate = text(alloc, Kind::VehicleDescriptor, 3, fields)?;
+        self.unknown = unknown;
+        Ok(())
     }
 }

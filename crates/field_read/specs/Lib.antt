@@ -1,2 +1,2 @@
 pub mod Causes
-pub mod Grows
+pub mod Occurring

@@ -1,9 +1,15 @@
 //! Why no message was read.
 
-ghost use Rattle.std.specs.Prelude.{◌≡◌};
+ghost use Rattle.std.specs.Prelude.{◌≡◌, ℕ, List};
+ghost use Rattle.pb_wire_defs.specs.Reading.{fields_of};
+ghost use Rattle.feed_defs.specs.Rows.{fields_in};
+ghost use Rattle.pb_wire.specs.Parts.{cause_of as wire_cause_of};
+ghost use Rattle.answer_defs.specs.Defined.{IsCause};
 ghost use Rattle.field_read.specs.declared.fault.ReadFault.TheVariants.{NoMemory};
+ghost use Rattle.field_read.specs.Causes.{cause_of};
 
 use crate::NoMemory;
+use pb_wire::WireFault;
 use rt_types::{Kind, What};
 use std::alloc::{AllocError, AllocFailed};
 use thiserror::Error;
@@ -43,5 +49,25 @@ impl<T: Drop> From<AllocFailed<T>> for ReadFault {
 
     fn from(_error: AllocFailed<T>) -> ReadFault {
         ReadFault::NoMemory
+    }
+}
+
+/// Why a message of this kind can't be read, where this is the first fault of its bytes.
+pub fn malformed(kind: Kind, fault: WireFault) -> ReadFault
+    ensures { (bytes : List ℕ) → IsCause (fields_of bytes) (wire_cause_of fault)
+        → IsCause (fields_in kind bytes) (cause_of result) }
+{
+    let what = match fault {
+        WireFault::Cut => What::Cut,
+        WireFault::Varint => What::Varint,
+        WireFault::Tag => What::Tag,
+        WireFault::Group => What::Group,
+        WireFault::NoMemory => return ReadFault::NoMemory,
+    };
+    ReadFault::Malformed {
+        entity: 0,
+        what,
+        kind,
+        field: 0,
     }
 }

@@ -1,20 +1,26 @@
 //! Reads single fields of GTFS Realtime messages: numbers, enums and texts among the fields of one message.
 //!
-//! The numbers on the wire are `impl`s of `Scalar`, the enums among them; `last` gives the value that counts of a
-//! number, `text` of a text, or that it isn't UTF-8. `add_parts` cuts the bytes of a message into its fields. A
-//! `Reader` keeps the lists of fields from one message to the next. `ReadFault` is why a message can't be read.
+//! `Slots` notes what stands under each number while the fields of a message are read, each of them once. `Fields` are
+//! those fields with their slots: what stands once under its number is found in its slot, and only what stands there
+//! several times is gone over again. The numbers on the wire are `impl`s of `Scalar`, the enums among them; `last`
+//! gives the value that counts of a number, `text` of a text, or that it isn't UTF-8. `ReadFault` is why a message
+//! can't be read.
 //!
 //! It stands on `pb_wire` for the fields and on `feed_defs` for what they say.
 #![tactic(auto)]
 
 mod enums;
 mod fault;
+mod fields;
+mod iter;
 mod payload;
-mod reader;
 mod scalar;
+mod slots;
 
-pub use fault::ReadFault;
-pub use payload::{add_parts, count, is_span, last_span, span_at, text};
-pub use reader::Reader;
-pub use scalar::{Scalar, is_scalar, last};
+pub use fault::{ReadFault, malformed};
+pub use fields::Fields;
+pub use iter::Spans;
+pub use payload::{is_span, text};
+pub use scalar::{Scalar, is_scalar, last, said_at};
+pub use slots::{Occurs, Slots};
 pub use std::alloc::AllocError as NoMemory;

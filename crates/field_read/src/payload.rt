@@ -1,28 +1,39 @@
-//! The kinds of fields that are runs of bytes: the fields of a run, and texts.
+//! The kinds of fields that are runs of bytes, texts among them.
 
-ghost use Rattle.std.specs.Prelude.{◌≡◌, ◌≤◌, is_some, length};
+ghost use Rattle.std.specs.Prelude.{◌≡◌, is_some, None};
+ghost use Rattle.std.specs.List.{last_or};
 ghost use Rattle.std.specs.Option.{option_copied};
-ghost use Rattle.feed_defs.specs.Rows.{value_under, last_of, span_in, as_text, fields_in};
-ghost use Rattle.pb_wire.specs.Parts.{part_seen, parts_seen};
+ghost use Rattle.feed_defs.specs.Rows.{value_under, last_of, span_in, as_text};
+ghost use Rattle.pb_wire.specs.Parts.{part_seen, payload_seen};
 ghost use Rattle.answer_defs.specs.Defined.{AsDefined};
 ghost use Rattle.field_read.specs.Causes.{cause_of};
-ghost use Rattle.field_read.specs.Grows.{Grows};
 
 use crate::fault::ReadFault;
-use pb_wire::{Part, PartPayload, WireFault, read_parts};
+use crate::fields::Fields;
+use crate::iter::Spans;
+use crate::slots::Occurs;
+use pb_wire::{Part, PartPayload};
 use rt_types::{Kind, Text, What};
 use std::alloc::Global;
 
+/// The run of bytes that a payload is, if it is one.
+pub(crate) fn span<'a>(payload: &PartPayload<'a>) -> Option<&'a [u8]>
+    ensures { option_copied result ≡ span_in (payload_seen payload.now) }
+{
+    match payload {
+        PartPayload::Span(bytes) => Some(*bytes),
+        _ => None,
+    }
+}
+
 /// The bytes that the part carries, if it has this number and carries a run of bytes.
-pub fn span_at<'a>(number: u32, part: &Part<'a>) -> Option<&'a [u8]>
+pub(crate) fn span_at<'a>(number: u32, part: &Part<'a>) -> Option<&'a [u8]>
     ensures { option_copied result ≡ value_under span_in number (part_seen part.now) }
 {
-    if part.number != number {
-        return None;
-    }
-    match part.payload {
-        PartPayload::Span(bytes) => Some(bytes),
-        _ => None,
+    if part.number == number {
+        span(&part.payload)
+    } else {
+        None
     }
 }
 
@@ -33,27 +44,26 @@ pub fn is_span(number: u32, part: &Part<'_>) -> bool
     span_at(number, part).is_some()
 }
 
-/// The last run of bytes under this number.
-#[tactic(auto, unfolding(feed_defs::specs::Rows::last_of))]
-pub fn last_span<'a>(number: u32, parts: &[Part<'a>]) -> Option<&'a [u8]>
-    ensures { option_copied result ≡ last_of span_in number (parts_seen parts.now) }
+/// The last run of bytes under this number, which is the one that counts.
+fn last_span<'a>(number: u32, fields: &Fields<'_, 'a>) -> Option<&'a [u8]>
+    ensures { option_copied result ≡ last_of span_in number fields.now }
 {
-    let mut found = None;
-    for part in parts {
-        found = span_at(number, part).or(found);
+    match fields.span(number) {
+        Occurs::Never => None,
+        Occurs::Once(bytes) => Some(bytes),
+        Occurs::Several => last_of_several(fields.spans(number)),
     }
-    found
 }
 
-/// How many runs of bytes there are under this number.
-pub fn count(number: u32, parts: &[Part<'_>]) -> usize
-    ensures { result ≤ length parts.now }
+/// The last of these runs of bytes.
+#[cold]
+#[inline(never)]
+fn last_of_several<'a>(spans: Spans<'a>) -> Option<&'a [u8]>
+    ensures { option_copied result ≡ last_or None spans.entry }
 {
-    let mut found = 0;
-    for part in parts {
-        if is_span(number, part) {
-            found += 1;
-        }
+    let mut found = None;
+    for bytes in spans {
+        found = Some(bytes);
     }
     found
 }
@@ -63,12 +73,12 @@ pub fn text(
     alloc: Global,
     kind: Kind,
     number: u32,
-    parts: &[Part<'_>],
+    fields: &Fields<'_, '_>,
 ) -> Result<Option<Text>, ReadFault>
     ensures { AsDefined (λ x. x) cause_of
-        (as_text kind number (last_of span_in number (parts_seen parts.now))) result }
+        (as_text kind number (last_of span_in number fields.now)) result }
 {
-    let Some(bytes) = last_span(number, parts) else {
+    let Some(bytes) = last_span(number, fields) else {
         return Ok(None);
     };
     match str::from_utf8(bytes) {
@@ -80,29 +90,4 @@ pub fn text(
             field: number,
         }),
     }
-}
-
-/// Puts the fields of the bytes of a message of this kind behind the parts.
-pub fn add_parts<'a>(
-    kind: Kind,
-    bytes: &'a [u8],
-    parts: &mut Vec<Part<'a>>,
-) -> Result<(), ReadFault>
-    ensures { Grows (parts_seen parts.old.items) (parts_seen parts.new.items)
-        (fields_in kind bytes.now) result }
-{
-    let what = match read_parts(bytes, parts) {
-        Ok(()) => return Ok(()),
-        Err(WireFault::Cut) => What::Cut,
-        Err(WireFault::Varint) => What::Varint,
-        Err(WireFault::Tag) => What::Tag,
-        Err(WireFault::Group) => What::Group,
-        Err(WireFault::NoMemory) => return Err(ReadFault::NoMemory),
-    };
-    Err(ReadFault::Malformed {
-        entity: 0,
-        what,
-        kind,
-        field: 0,
-    })
 }

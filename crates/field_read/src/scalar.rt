@@ -4,8 +4,10 @@ ghost use Rattle.std.specs.Prelude.{◌≡◌, ℕ, ◌%◌, ◌^◌, Option, is
 ghost use Rattle.std.specs.Option.{option_and_then};
 ghost use Rattle.pb_wire_defs.specs.Field.{Payload};
 ghost use Rattle.feed_defs.specs.Rows.{value_under, last_of, varint_in, four_in, u32_in, i32_in, i64_in, bool_in, degrees_in};
-ghost use Rattle.pb_wire.specs.Parts.{payload_seen, part_seen, parts_seen};
+ghost use Rattle.pb_wire.specs.Parts.{payload_seen, part_seen};
 
+use crate::fields::Fields;
+use crate::slots::Occurs;
 use pb_wire::{Part, PartPayload};
 use rt_types::Degrees;
 
@@ -100,7 +102,7 @@ impl Scalar for Degrees {
 }
 
 /// What the part says, if it has this number.
-fn said_at<S: Scalar>(number: u32, part: &Part<'_>) -> Option<S>
+pub fn said_at<S: Scalar>(number: u32, part: &Part<'_>) -> Option<S>
     ensures { result ≡ value_under S.says number (part_seen part.now) }
 {
     if part.number == number {
@@ -118,13 +120,26 @@ pub fn is_scalar<S: Scalar>(number: u32, part: &Part<'_>) -> bool
 }
 
 /// The last value that is said under this number, which is the one that counts.
+pub fn last<S: Scalar>(number: u32, fields: &Fields<'_, '_>) -> Option<S>
+    ensures { result ≡ last_of S.says number fields.now }
+{
+    match fields.payload(number) {
+        Occurs::Never => None,
+        Occurs::Once(payload) => S::said(&payload),
+        Occurs::Several => last_of_several(number, fields),
+    }
+}
+
+/// The same, of fields that are gone over.
+#[cold]
+#[inline(never)]
 #[tactic(auto, unfolding(feed_defs::specs::Rows::last_of))]
-pub fn last<S: Scalar>(number: u32, parts: &[Part<'_>]) -> Option<S>
-    ensures { result ≡ last_of S.says number (parts_seen parts.now) }
+fn last_of_several<S: Scalar>(number: u32, fields: &Fields<'_, '_>) -> Option<S>
+    ensures { result ≡ last_of S.says number fields.now }
 {
     let mut found = None;
-    for part in parts {
-        found = said_at(number, part).or(found);
+    for part in fields.parts() {
+        found = said_at(number, &part).or(found);
     }
     found
 }

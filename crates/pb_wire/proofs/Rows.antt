@@ -45,11 +45,11 @@ pub record Placing (noted : List placed.Field) (at : ℕ) (rest bytes : List ℕ
   pub noted_is : noted ≡ places 0 done
   pub at_is : at ≡ length (bytes_of done)
   pub split : bytes ≡ bytes_of done ++ rest
-  pub progress : lists.Progress [] done rest bytes
+  pub progress : lists.Progress done rest bytes
 
 pub begins : (bytes : List ℕ) → Placing [] 0 bytes bytes
 unfolding places
-begins bytes = record { done = []; noted_is = refl; at_is = refl; split = refl; progress = lists.begins [] bytes }
+begins bytes = record { done = []; noted_is = refl; at_is = refl; split = refl; progress = lists.begins bytes }
 
 run_fits : (group : ℕ → List ℕ → Type 0) (number : ℕ) (payload : Payload) (spelling : List ℕ) (most : ℕ) → IsPayload group number spelling payload → length spelling ≤ most → FitsIn payload most
 run_fits group number (Varint n) spelling most carries le = tt
@@ -89,16 +89,16 @@ module _ (noted : List placed.Field) (at : ℕ) (rest bytes : List ℕ) (so_far 
         noted_is = pushed ∙ ap (λ (fs : List placed.Field). fs ++ field ∷ []) so_far.noted_is ∙ ap (λ (f : placed.Field). places 0 so_far.done ++ f ∷ []) field_is ∙ sym (places-push 0 so_far.done x);
         at_is = omega (arith, end_is, so_far.at_is, ap length (bytes_of-push so_far.done x), length-append (bytes_of so_far.done) x.raw);
         split = so_far.split ∙ ap (λ (r : List ℕ). bytes_of so_far.done ++ r) here.1 ∙ sym (append_assoc (bytes_of so_far.done) x.raw after) ∙ ap (λ (r : List ℕ). r ++ after) (sym (bytes_of-push so_far.done x));
-        progress = lists.goes_on [] so_far.done rest bytes so_far.progress (so_far.done ++ x ∷ []) x after found refl;
+        progress = lists.goes_on so_far.done rest bytes so_far.progress x after found;
       }
 
   pub stops : (fault : WireFault) → 0 < length rest → IsFault (field_at rest) fault → IsCause (placed_fields (fields_of bytes)) (cause_of fault)
   stops fault some found =
-      causes (placed_fields (fields_of bytes)) fault (fails_on (field_at rest) (placed_fields (fields_of bytes)) fault (λ told e. rw (lists.stops [] so_far.done rest bytes so_far.progress told some e) refl) found)
+      causes (placed_fields (fields_of bytes)) fault (fails_on (field_at rest) (placed_fields (fields_of bytes)) fault (λ told e. rw (lists.stops so_far.done rest bytes so_far.progress told some e) refl) found)
 
   pub ends : length rest ≡ 0 → placed_fields (fields_of bytes) ≡ Ok noted
   ends none =
-      let told : fields_of bytes ≡ Ok so_far.done = sym (lists.with_front-nil (fields_of bytes)) ∙ lists.ends [] so_far.done rest bytes so_far.progress none in
+      let told : fields_of bytes ≡ Ok so_far.done = lists.ends so_far.done rest bytes so_far.progress none in
       rw (told, so_far.noted_is) refl
 
 -- ---- what the places are

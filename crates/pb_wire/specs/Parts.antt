@@ -1,9 +1,8 @@
 -- Fields that are read as borrows, seen as the fields of the wire, and what reading them gives.
-use Rattle.std.specs.Prelude.{◌≡◌, List, ◌++◌, map, Option, Some, None, Result, Ok, Err}
+use Rattle.std.specs.Prelude.{◌≡◌, Option, Some, None, Result, Ok, Err}
 use Rattle.pb_wire_defs.specs.Field as wire
 use Rattle.pb_wire_defs.specs.Field.Payload.{Varint, Eight, Span, Four, Group}
 use Rattle.pb_wire_defs.specs.Field.Fault.{Cut, Overlong, BadTag, BadGroup}
-use Rattle.answer_defs.specs.Steps.{◌>>=◌}
 use Rattle.pb_wire.specs.declared.fault.WireFault.{WireFault}
 use Rattle.pb_wire.specs.declared.fault.WireFault.TheVariants as named
 use Rattle.pb_wire.specs.declared.part.PartPayload.{PartPayload}
@@ -26,16 +25,7 @@ part_seen part = record {
   raw = part.raw.now;
 }
 
--- fields without where they lie in memory
-abbrev pub parts_seen : List Part → List wire.Field
-parts_seen parts = map part_seen parts
-
--- fields with these before them, or the fault in their place
-abbrev pub with_front : List wire.Field → Result (List wire.Field) wire.Fault
-    → Result (List wire.Field) wire.Fault
-with_front front told = told >>= λ fields. Ok (front ++ fields)
-
--- the fault of the wire that a fault names; want of memory names none
+-- the fault of the wire that a fault names; out of memory names none
 abbrev pub cause_of : WireFault → Option wire.Fault
 cause_of named.Cut = Some Cut
 cause_of named.Varint = Some Overlong
@@ -43,7 +33,7 @@ cause_of named.Tag = Some BadTag
 cause_of named.Group = Some BadGroup
 cause_of named.NoMemory = None
 
--- the first fault that reading meets is the one named, which is not want of memory
+-- the first fault that reading meets is the one named, which is not out of memory
 abbrev pub IsFault : {A : Type 0} → Result A wire.Fault → WireFault → Type 0
 IsFault told named.Cut = told ≡ Err Cut
 IsFault told named.Varint = told ≡ Err Overlong

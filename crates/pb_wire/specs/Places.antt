@@ -1,5 +1,5 @@
 -- Fields that are read as places, seen over their bytes as the fields of the wire.
-use Rattle.std.specs.Prelude.{◌≡◌, ℕ, ◌+◌, ◌-◌, ◌<◌, ◌≤◌, List, [], ◌∷◌, length, map, slice_range, Result, Ok, Err}
+use Rattle.std.specs.Prelude.{◌≡◌, ℕ, ◌+◌, ◌-◌, ◌<◌, ◌≤◌, List, [], ◌∷◌, length, map, slice_range, Result, Ok}
 use Rattle.pb_wire_defs.specs.Field as wire
 use Rattle.pb_wire_defs.specs.Field.Payload.{Varint, Eight, Span, Four, Group}
 use Rattle.answer_defs.specs.Steps.{◌>>=◌}

@@ -1,7 +1,7 @@
 //! Fields with their places, faults, groups and writing, each with bytes from outside.
 
 use pb_wire::{
-    Field, NoMemory, PartPayload, Payload, WireFault, read_fields, read_parts, write_field,
+    Field, NoMemory, PartPayload, Payload, WireFault, field_at, read_fields, write_field,
     write_length, write_scalar, write_varint,
 };
 use std::process::Abort;
@@ -57,9 +57,7 @@ fn places(rt: HostRuntime) {
 
 fn expect_fault(rt: &(impl Abort + AllocGlobal), bytes: &[u8], fault: WireFault) {
     assert_eq!(rt; read_fields(rt.alloc(), bytes).err(), Some(fault));
-    let mut parts = Vec::new(rt.alloc());
-    assert_eq!(rt; read_parts(bytes, &mut parts).err(), Some(fault));
-    assert!(rt; parts.is_empty());
+    assert_eq!(rt; field_at(bytes).err(), Some(fault));
 }
 
 #[test]
@@ -120,20 +118,20 @@ fn nested(rt: HostRuntime) {
 }
 
 #[test]
-fn parts_of_several_payloads_stand_in_a_row(rt: HostRuntime) -> Result<(), Fail> {
-    let mut parts = Vec::new(rt.alloc());
-    read_parts(b"\x12\x02hi", &mut parts)?;
-    read_parts(&[0x08, 0x96, 0x01, 0x4b, 0x4c, 0x10, 0x05], &mut parts)?;
-    assert_eq!(&rt; parts.len(), 4);
-    for (part, number) in parts.iter().zip([2, 1, 9, 2]) {
-        assert_eq!(&rt; part.number, number);
-    }
-    assert_eq!(&rt; parts[0].raw, b"\x12\x02hi".as_slice());
-    assert_eq!(&rt; parts[2].raw, b"\x4b\x4c".as_slice());
-    assert!(&rt; matches!(parts[0].payload, PartPayload::Span(b"hi")));
-    assert!(&rt; matches!(parts[1].payload, PartPayload::Varint(150)));
-    assert!(&rt; matches!(parts[2].payload, PartPayload::Group));
-    assert!(&rt; matches!(parts[3].payload, PartPayload::Varint(5)));
+fn fields_are_taken_off_the_front(rt: HostRuntime) -> Result<(), Fail> {
+    let (text, rest) = field_at(b"\x12\x02hi\x4b\x4c\x08\x96\x01")?;
+    assert_eq!(&rt; text.number, 2);
+    assert_eq!(&rt; text.raw, b"\x12\x02hi".as_slice());
+    assert!(&rt; matches!(text.payload, PartPayload::Span(b"hi")));
+    let (group, rest) = field_at(rest)?;
+    assert_eq!(&rt; group.number, 9);
+    assert_eq!(&rt; group.raw, b"\x4b\x4c".as_slice());
+    assert!(&rt; matches!(group.payload, PartPayload::Group));
+    let (number, rest) = field_at(rest)?;
+    assert_eq!(&rt; number.number, 1);
+    assert!(&rt; matches!(number.payload, PartPayload::Varint(150)));
+    assert!(&rt; rest.is_empty());
+    assert_eq!(&rt; field_at(rest).err(), Some(WireFault::Cut));
     Ok(())
 }
 

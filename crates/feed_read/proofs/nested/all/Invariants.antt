@@ -1,10 +1,7 @@
-use Rattle.std.proofs.Common.{◌≡◌, ◌++◌, drop}
-use Rattle.std.specs.Prelude.{Ok}
-use Rattle.answer_defs.specs.Steps.{◌>>=◌}
+use Rattle.std.proofs.Common.{◌≡◌}
 use Rattle.feed_defs.specs.Rows.{occurrences_of, span_in, values}
-use Rattle.pb_wire.specs.Parts.{parts_seen}
+use Rattle.feed_read.proofs.Numbers.{listed}
 use Rattle.feed_read.proofs.nested.all.Given as goal
 
-abbrev pub invariant-loop-part : goal.invariant-loop-part
-invariant-loop-part g l = (values g.M.Message.table (occurrences_of span_in l.number (parts_seen (drop l.part-index l.parts))) >>= λ more. Ok (l.items.items ++ more))
-    ≡ values g.M.Message.table (occurrences_of span_in l.number (parts_seen l.parts))
+abbrev pub invariant-loop-bytes : goal.invariant-loop-bytes
+invariant-loop-bytes g l = listed l.items.items (values g.M.Message.table l.bytes-iterator) ≡ values g.M.Message.table (occurrences_of span_in l.number l.fields)

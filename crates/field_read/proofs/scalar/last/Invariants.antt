@@ -1,8 +1,0 @@
-use Rattle.std.proofs.Common.{◌≡◌, drop}
-use Rattle.std.specs.List.{filter_map, last_or}
-use Rattle.feed_defs.specs.Rows.{value_under, last_of}
-use Rattle.pb_wire.specs.Parts.{parts_seen}
-use Rattle.field_read.proofs.scalar.last.Given as goal
-
-abbrev pub invariant-loop-part : goal.invariant-loop-part
-invariant-loop-part g l = last_or l.found (filter_map (value_under g.S.Scalar.says l.number) (parts_seen (drop l.part-index l.parts))) ≡ last_of g.S.Scalar.says l.number (parts_seen l.parts)
