@@ -2,7 +2,7 @@
 //!
 //! A contract sees a `SharedList` as the list of its items, each with its key, with the words of std's
 //! finite maps: `with` is `put`, `get` is `find`. A version is made of another by `share`, and then
-//! changed item by item; the other stays. The cost of a change hardly grows with the list: the items
+//! changed item by item, each time with a word on what the key had before; the other stays. The cost of a change hardly grows with the list: the items
 //! stand in leaves of at most 32, the leaves in nodes of at most 32, and the nodes in one list. `share`
 //! takes one share of each node. A change copies the node in which the key stands, which is one share of
 //! each of its leaves, and the one leaf in which the key stands, and each only once for each version. A key
@@ -27,5 +27,5 @@ mod split;
 
 pub use iter::Iter;
 pub use keyed::Keyed;
-pub use list::SharedList;
+pub use list::{Changed, SharedList};
 pub use std::alloc::AllocError as NoMemory;

@@ -1,7 +1,8 @@
 -- What goes out of the key's part goes out of the whole.
+use Rattle.std.proofs.Common.{◌∙◌}
 use Rattle.shared_list.specs.Order.{IsHome}
 use Rattle.shared_list.specs.Parts.{parts_of}
-use Rattle.shared_list.proofs.PartLemmas.{good_here, Rises-here, has_here, without_kept, without_gone}
+use Rattle.shared_list.proofs.PartLemmas.{good_here, Rises-here, find_here, without_kept, without_gone}
 use Rattle.shared_list.proofs.shared.take_out_shared.Goals as goal
 
 pub take_from-requires-clause-some : goal.take_from-requires-clause-some
@@ -29,12 +30,12 @@ returns-else-outcome-clause-without g c =
     let home : IsHome g.P.Item.Keyed.key_of c.args.key.now (parts_of g.P.Part.items c.args.parts.now.items) c.home-at.result = rw c.as_slice.ensures.value at c.home-at.ensures in
     without_kept g.P.Item.Keyed.key_of g.P.Part.items g.P.Part.sound c.args.key.now c.args.parts.now.items c.home-at.result c.index_mut.result.now home c.index_mut.ensures.value c.take_from.new.part c.in_ok-outcome.ensures.without
 
-pub returns-then-outcome-clause-there : goal.returns-then-outcome-clause-there
-returns-then-outcome-clause-there g c =
+pub returns-then-outcome-clause-taken : goal.returns-then-outcome-clause-taken
+returns-then-outcome-clause-taken g c =
     let home : IsHome g.P.Item.Keyed.key_of c.args.key.now (parts_of g.P.Part.items c.args.parts.now.items) c.home-at.result = rw c.as_slice.ensures.value at c.home-at.ensures in
-    has_here g.P.Item.Keyed.key_of g.P.Part.items g.P.Part.sound c.args.key.now c.args.parts.now.items c.home-at.result c.index_mut.result.now home c.index_mut.ensures.value c.in_ok-outcome.outcome.was_there c.in_ok-outcome.ensures.there
+    c.in_ok-outcome.ensures.taken ∙ find_here g.P.Item.Keyed.key_of g.P.Part.items g.P.Part.sound c.args.key.now c.args.parts.now.items c.home-at.result c.index_mut.result.now home c.index_mut.ensures.value
 
-pub returns-else-outcome-clause-there : goal.returns-else-outcome-clause-there
-returns-else-outcome-clause-there g c =
+pub returns-else-outcome-clause-taken : goal.returns-else-outcome-clause-taken
+returns-else-outcome-clause-taken g c =
     let home : IsHome g.P.Item.Keyed.key_of c.args.key.now (parts_of g.P.Part.items c.args.parts.now.items) c.home-at.result = rw c.as_slice.ensures.value at c.home-at.ensures in
-    has_here g.P.Item.Keyed.key_of g.P.Part.items g.P.Part.sound c.args.key.now c.args.parts.now.items c.home-at.result c.index_mut.result.now home c.index_mut.ensures.value c.in_ok-outcome.outcome.was_there c.in_ok-outcome.ensures.there
+    c.in_ok-outcome.ensures.taken ∙ find_here g.P.Item.Keyed.key_of g.P.Part.items g.P.Part.sound c.args.key.now c.args.parts.now.items c.home-at.result c.index_mut.result.now home c.index_mut.ensures.value
