@@ -62,9 +62,9 @@ impl AlertIndex {
         })
     }
 
-    /// The index of what the feed holds after one entity of a message, where this is the index of what it held before and
-    /// `before` is what it held under the entity's id; or out of memory. An entity with an alert is held in a further
-    /// share. Where neither it nor what it replaces has one, the index stays, and nothing is looked for.
+    /// The index of what the feed holds after one entity of a message, where this is the index of what it held
+    /// before and `before` is what it held under the entity's id; or out of memory. An entity with an alert is
+    /// held in a further share. Where neither it nor what it replaces has one, nothing is searched.
     pub fn with(
         self,
         stored: &SharedStored,

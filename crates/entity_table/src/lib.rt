@@ -5,8 +5,8 @@
 //! more and leaves the given one; the two share every entity that the message does not touch, and what they
 //! take up together grows with the message and hardly with the table. Its steps can be taken one by one: `start` is
 //! what a message goes on from, `with` and `without` change a table at one id, and `share` keeps the table that is
-//! changed. An entity goes in as a `SharedStored`, of which another table may hold a further share, and each change says
-//! what the id had before.
+//! changed. Each change also gives what the id had before. An entity goes in as a `SharedStored`, of which another
+//! table may hold a further share.
 //!
 //! It stands on `shared_list` for the order and the sharing, and on `feed_defs` for what a message changes.
 #![tactic(auto)]

@@ -1,5 +1,5 @@
 -- The laws of parts at parts that are shared.
-use Rattle.std.proofs.Common.{◌≡◌, ℕ, zero, suc, ◌+◌, ◌-◌, ◌<◌, ◌≤◌, List, [], ◌∷◌, ◌++◌, Ok, Err, length, map, take, drop, get_or, set, refl, sym, ap, ◌∙◌, subst, arith, append-nil, Bool, false, nat_eq, Less, Equal, Greater}
+use Rattle.std.proofs.Common.{◌≡◌, ℕ, zero, suc, ◌+◌, ◌-◌, ◌<◌, ◌≤◌, List, [], ◌∷◌, ◌++◌, Ok, Err, length, map, take, drop, get_or, set, Option, refl, sym, ap, ◌∙◌, subst, arith, append-nil, Bool, false, nat_eq, Less, Equal, Greater}
 use Rattle.std.specs.Prelude.{T, insert, remove}
 use Rattle.std.specs.FinMap.{find, put, is_sorted}
 use Rattle.std.specs.List.{flat_map, HoldsAt, AllByRecursion}
@@ -167,6 +167,10 @@ module _ {P X : Type 0} (key : X → List ℕ) (items : P → List X) (sound : P
         ap (λ xs. find key_cmp k (entries key xs)) (part_at items shares i here home.within seen)
         ∙ sym (find_home key k (parts_of items shares) i [] home)
         ∙ ap (find key_cmp k) (sym (joined_entries key (parts_of items shares)))
+
+    -- what has the key in it has the key in all
+    pub item_here : (had : Option X) → had ≡ item_with key k (items here.value) → had ≡ item_with key k (items_in items shares)
+    item_here had is = is ∙ find_here
 
     -- an item more, or another in its place
     pub put_kept : (x : X) (after : Share P) → entries key (items after.value ++ []) ≡ put key_cmp k x (entries key (items here.value)) → entries key (items_in items (set shares i after)) ≡ put key_cmp k x (entries key (items_in items shares))

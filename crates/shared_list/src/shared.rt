@@ -154,11 +154,13 @@ pub(crate) fn take_out_shared<P: Part>(
     }
     let alloc = *parts.allocator();
     let at = home(parts.as_slice(), key);
-    let outcome = take_from(alloc, &mut parts[at], key)?;
-    if outcome.none_left {
+    let TakeOutcome { taken, none_left } = take_from(alloc, &mut parts[at], key)?;
+    if none_left {
         parts.remove(at);
+        Ok(taken)
+    } else {
+        Ok(taken)
     }
-    Ok(outcome.taken)
 }
 
 /// The same parts, each shared, with room for so many more.
