@@ -1,5 +1,5 @@
 -- A deleted entity takes its id away.
-use Rattle.std.proofs.Common.{◌≡◌, false, ap, ◌∙◌}
+use Rattle.std.proofs.Common.{false, ap, ◌∙◌}
 use Rattle.std.specs.Prelude.{unwrap_or}
 use Rattle.feed_defs.specs.declared.history.Stored.{Stored}
 use Rattle.entity_table.proofs.TableLemmas.{taken, had}
