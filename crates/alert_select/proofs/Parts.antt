@@ -1,6 +1,7 @@
 -- A part of what a feed holds goes from message to message by itself.
 use Rattle.std.proofs.Common.{◌≡◌, ℕ, ◌≤◌, List, [], ◌∷◌, ◌++◌, append_assoc, append-nil, Bool, true, false, cond, Option, Some, None, length, drop, map, refl, sym, ap, ◌∙◌, subst}
 use Rattle.std.specs.Prelude.{T, filter, fold, not, if◌then◌else◌}
+use Rattle.std.specs.Option.{option_map_or}
 use Rattle.std.specs.Str.{bytes_eq}
 use Rattle.std.specs.Ordering.{is_lt, is_eq, eq_by_cmp}
 use Rattle.std.specs.declared.cmp.Ordering.{Ordering}
@@ -15,8 +16,8 @@ use Rattle.feed_defs.specs.History.{Change, is_full, is_kept, stamp_of, changes_
 use Rattle.feed_defs.proofs.Applied.{sorted_filter, sorted_changed, find-without}
 use Rattle.feed_defs.proofs.Kept.{id_cmp, left, right}
 use Rattle.shared_list.proofs.Middle.{put_middle, sorted_before, both_so}
-use Rattle.entity_table.proofs.TableLemmas.{after_each, all_stepped}
-use Rattle.alert_select.specs.FeedAlerts.{has_alert, alerts_of, alerts_with, alerts_and}
+use Rattle.shared_list.proofs.ListLemmas.{without_absent}
+use Rattle.alert_select.specs.FeedAlerts.{has_alert, alerts_of, alerts_and}
 
 less_not_equal : (o : Ordering) → T (is_lt o) → is_eq o ≡ false
 less_not_equal Less p = refl
@@ -116,10 +117,16 @@ module _ (test : Stored → Bool) where
           ∙ ap (λ b. cond b None (find id_cmp q (filter is_in es))) (sym tie)
           ∙ sym (find-without q c.0 (filter is_in es))
 
-  -- so it is for changes one after another
-  part_folds : (cs es : List Change) → T (is_sorted id_cmp es) → filter is_in (fold changes_with es cs) ≡ fold part_with (filter is_in es) cs
-  part_folds [] es h = refl
-  part_folds (c ∷ cs) es h = part_folds cs (changes_with es c) (sorted_changed es c h) ∙ ap (λ xs. fold part_with xs cs) (part_changed es c h)
+  -- and where neither the change nor what its id had is in the part, the part stays
+  part_stays : (es : List Change) (c : Change) (before : Option Stored) → T (is_sorted id_cmp es) → before ≡ find id_cmp c.0 es → test c.1 ≡ false → option_map_or test before false ≡ false → filter is_in (changes_with es c) ≡ filter is_in es
+  part_stays es c before h held out none =
+      part_changed es c h
+      ∙ ap (λ b. if b then changes_with (filter is_in es) c else changes_without c.0 (filter is_in es)) out
+      ∙ without_absent c.0 (filter is_in es) (find_only c.0 es h ∙ ap only (sym held) ∙ none_only before none)
+    where
+      none_only : (o : Option Stored) → option_map_or test o false ≡ false → only o ≡ None
+      none_only None e = refl
+      none_only (Some s) e = ap (λ b. if b then Some s else None) e
 
 -- ---- a table from its first id to its last
 
@@ -178,17 +185,25 @@ each_id (s ∷ items) = ap (λ ids. s.entity.id ∷ ids) (each_id items)
 pub ids_of : (items : List Stored) (table : List Change) → items ≡ map (λ change. change.1) table → map (λ s. (s.entity.id, s)) (map (λ change. change.1) table) ≡ table → map (λ s. s.entity.id) items ≡ map (λ change. change.0) table
 ids_of items table are keyed = each_id items ∙ ap (λ xs. map (λ change. change.0) (map under_id xs)) are ∙ ap (map (λ change. change.0)) keyed
 
--- ---- a table from message to message
+-- ---- the alerts of a table that is changed
 
--- when no entity is left, the alerts are those of what the feed then holds
-pub alerts_then : (now start old table : List Change) (stamp : ℕ) (m : FeedMessage) (items left_over : List Entity) → T (is_sorted id_cmp table) → old ≡ alerts_of table → start ≡ (if is_full m then [] else old)
-    → left_over ≡ [] → items ≡ m.entity → stamp ≡ stamp_of m → after_each alerts_with stamp now left_over ≡ after_each alerts_with stamp start items → now ≡ alerts_of (entities_after m table)
-unfolding entities_after
-alerts_then now start old table stamp m items left_over h are begun none all own so_far =
-    all_stepped alerts_with now start stamp m items left_over none all own so_far
-    ∙ ap (λ es. fold alerts_with es (changes_in m)) begun
-    ∙ by_kind (is_full m)
-  where
-    by_kind : (b : Bool) → fold alerts_with (if b then [] else old) (changes_in m) ≡ alerts_of (fold changes_with (if b then [] else table) (changes_in m))
-    by_kind true = sym (part_folds has_alert (changes_in m) [] tt)
-    by_kind false = ap (λ es. fold alerts_with es (changes_in m)) are ∙ sym (part_folds has_alert (changes_in m) table h)
+module _ (entities alerts : List Change) (c : Change) (h : T (is_sorted id_cmp entities)) (are : alerts ≡ alerts_of entities) where
+  -- by an entity with an alert
+  pub alert_in : (next : List Change) → has_alert c.1 ≡ true → next ≡ changes_with alerts c → next ≡ alerts_of (changes_with entities c)
+  alert_in next has is =
+      is
+      ∙ ap (λ es. changes_with es c) are
+      ∙ ap (λ b. if b then changes_with (alerts_of entities) c else changes_without c.0 (alerts_of entities)) (sym has)
+      ∙ sym (part_changed has_alert entities c h)
+
+  -- by one without
+  pub alert_out : (next : List Change) → has_alert c.1 ≡ false → next ≡ changes_without c.0 alerts → next ≡ alerts_of (changes_with entities c)
+  alert_out next has is =
+      is
+      ∙ ap (changes_without c.0) are
+      ∙ ap (λ b. if b then changes_with (alerts_of entities) c else changes_without c.0 (alerts_of entities)) (sym has)
+      ∙ sym (part_changed has_alert entities c h)
+
+  -- by one without in the place of nothing, or of one without
+  pub no_alert : (before : Option Stored) → has_alert c.1 ≡ false → before ≡ find id_cmp c.0 entities → option_map_or has_alert before false ≡ false → alerts ≡ alerts_of (changes_with entities c)
+  no_alert before has held none = are ∙ sym (part_stays has_alert entities c before h held has none)

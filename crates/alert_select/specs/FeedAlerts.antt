@@ -5,7 +5,7 @@ use Rattle.std.specs.FinMap.{put}
 use Rattle.std.specs.Option.{is_some}
 use Rattle.std.specs.Ordering.{nat_cmp}
 use Rattle.feed_defs.specs.declared.history.Stored.{Stored}
-use Rattle.feed_defs.specs.History.{Change, changes_with, changes_without}
+use Rattle.feed_defs.specs.History.{Change}
 
 abbrev pub has_alert : Stored → Bool
 has_alert stored = is_some stored.entity.alert
@@ -13,12 +13,6 @@ has_alert stored = is_some stored.entity.alert
 -- those of what a feed holds that have an alert, in their order
 abbrev pub alerts_of : List Change → List Change
 alerts_of entities = filter (λ change. has_alert change.1) entities
-
--- The alerts, changed by one entity: with an alert it changes them as it changes all that is held,
--- and without one it takes away what its id had.
-abbrev pub alerts_with : List Change → Change → List Change
-alerts_with alerts change =
-    if has_alert change.1 then changes_with alerts change else changes_without change.0 alerts
 
 -- the alerts and what a table holds, where it has one
 abbrev pub alerts_and : List Change → Stored → List Change

@@ -1,9 +1,13 @@
 //! The alerts of a feed.
 
-ghost use Rattle.std.specs.Prelude.{◌≡◌, [], map, if◌then◌else◌, IfOk};
+ghost use Rattle.std.specs.Prelude.{◌≡◌, List, [], map, T, if◌then◌else◌, IfOk};
+ghost use Rattle.std.specs.Cmp.Lexicographic.{slice_cmp};
+ghost use Rattle.std.specs.FinMap.{find, is_sorted};
+ghost use Rattle.std.specs.Option.{option_map_or};
+ghost use Rattle.std.specs.Ordering.{nat_cmp};
 ghost use Rattle.std.specs.Iterator.{YieldsFirstRef, item_count};
-ghost use Rattle.feed_defs.specs.History.{is_full};
-ghost use Rattle.alert_select.specs.FeedAlerts.{alerts_of, alerts_with, alerts_and};
+ghost use Rattle.feed_defs.specs.History.{Change, changes_with, is_full};
+ghost use Rattle.alert_select.specs.FeedAlerts.{has_alert, alerts_of, alerts_and};
 
 use crate::NoMemory;
 use entity_table::{SharedStored, Stored, Table, TableIter};
@@ -58,14 +62,33 @@ impl AlertIndex {
         })
     }
 
-    /// The index, changed by one entity of a message, of which it holds a further share if it has an alert. What has
-    /// none takes one away that its id had. Or want of memory.
-    pub fn with(self, stored: &SharedStored) -> Result<AlertIndex, NoMemory>
-        ensures { IfOk result (λ next. next ≡ alerts_with self (stored.now.entity.id, stored.now)) }
+    /// The index of what the feed holds after one entity of a message, where this is the index of what it held
+    /// before and `before` is what it held under the entity's id; or out of memory. An entity with an alert is
+    /// held in a further share. Where neither it nor what it replaces has one, nothing is searched.
+    pub fn with(
+        self,
+        stored: &SharedStored,
+        before: Option<SharedStored>,
+    ) -> Result<AlertIndex, NoMemory>
+        ensures { (entities : List Change) → T (is_sorted (slice_cmp nat_cmp) entities)
+            → self ≡ alerts_of entities
+            → before ≡ find (slice_cmp nat_cmp) stored.now.entity.id entities
+            → IfOk result (λ next. next
+            ≡ alerts_of (changes_with entities (stored.now.entity.id, stored.now))) }
     {
-        Ok(AlertIndex {
-            alerts: changed(self.alerts, stored)?,
-        })
+        if has_alert(stored) {
+            let changed = self.alerts.with(stored.copy()?)?;
+            Ok(AlertIndex {
+                alerts: changed.table,
+            })
+        } else if had_alert(&before) {
+            let changed = self.alerts.without(stored.get().entity.id.as_str())?;
+            Ok(AlertIndex {
+                alerts: changed.table,
+            })
+        } else {
+            Ok(self)
+        }
     }
 
     /// The ids of the entities that have an alert, in byte order.
@@ -122,21 +145,25 @@ fn listed(alloc: Global, alerts: Table, stored: &Stored) -> Result<Table, NoMemo
             entity: stored.entity.copy()?,
             stamp: stored.stamp,
         };
-        alerts.put(SharedStored::new(alloc, stored)?)
+        Ok(alerts.put(SharedStored::new(alloc, stored)?)?.table)
     } else {
         Ok(alerts)
     }
 }
 
-/// The alerts, changed by one entity of a message.
-fn changed(alerts: Table, stored: &SharedStored) -> Result<Table, NoMemory>
-    ensures { IfOk result (λ next. next
-        ≡ alerts_with alerts (stored.now.entity.id, stored.now)) }
+/// Whether the entity has an alert.
+fn has_alert(stored: &SharedStored) -> bool
+    ensures { result ≡ has_alert stored.now }
 {
-    let entity = &stored.get().entity;
-    if entity.alert.is_some() {
-        alerts.with(stored.copy()?)
-    } else {
-        alerts.without(entity.id.as_str())
+    stored.get().entity.alert.is_some()
+}
+
+/// Whether there was an entity, with an alert.
+fn had_alert(before: &Option<SharedStored>) -> bool
+    ensures { result ≡ option_map_or has_alert before.now false }
+{
+    match before {
+        Some(stored) => has_alert(stored),
+        None => false,
     }
 }

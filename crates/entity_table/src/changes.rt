@@ -2,7 +2,7 @@
 
 ghost use Rattle.std.specs.Prelude.{◌≡◌, ◌∷◌, ◌++◌, [], List, if◌then◌else◌, unwrap_or, false, IfOk};
 ghost use Rattle.std.specs.Cmp.Lexicographic.{slice_cmp};
-ghost use Rattle.std.specs.FinMap.{put};
+ghost use Rattle.std.specs.FinMap.{put, find};
 ghost use Rattle.std.specs.Ordering.{nat_cmp};
 ghost use Rattle.feed_defs.specs.History.{
   entities_after,
@@ -18,6 +18,7 @@ use crate::stored::SharedStored;
 use crate::table::Table;
 use feed_defs::Stored;
 use rt_types::{Copied, Entity, FeedMessage, Incrementality};
+use shared_list::Changed;
 use std::alloc::Global;
 
 /// The table after the message (GTFS Realtime 2.0, FeedHeader, `incrementality`). A whole data set starts from
@@ -35,9 +36,18 @@ pub fn apply(alloc: Global, table: &Table, message: &FeedMessage) -> Result<Tabl
             entity: entity.copy()?,
             stamp,
         };
-        next = next.with(SharedStored::new(alloc, stored)?)?;
+        next = next.with(SharedStored::new(alloc, stored)?)?.table;
     }
     Ok(next)
+}
+
+/// A table after a change of what one id has.
+#[derive(Drop)]
+pub struct ChangedTable {
+    /// The table as it is now.
+    pub table: Table,
+    /// What the id had before, if it had anything.
+    pub before: Option<SharedStored>,
 }
 
 impl Table {
@@ -54,8 +64,11 @@ impl Table {
 
     /// The table, changed by one entity of a message. One that says that it is deleted takes its id away; any other
     /// takes the place of what its id had. Or want of memory.
-    pub fn with(self, stored: SharedStored) -> Result<Table, NoMemory>
-        ensures { IfOk result (λ next. next ≡ changes_with self (stored.entity.id, stored)) }
+    pub fn with(self, stored: SharedStored) -> Result<ChangedTable, NoMemory>
+        ensures table { IfOk result (λ changed. changed.table
+            ≡ changes_with self (stored.entity.id, stored)) }
+        ensures before { IfOk result (λ changed. changed.before
+            ≡ find (slice_cmp nat_cmp) stored.entity.id self) }
     {
         let entity = &stored.get().entity;
         if is_deleted(entity) {
@@ -67,22 +80,29 @@ impl Table {
 
     /// The table with the entity in the place of what its id had, whatever the entity says of itself; or want of
     /// memory.
-    pub fn put(self, stored: SharedStored) -> Result<Table, NoMemory>
-        ensures { IfOk result (λ next. next ≡ put (slice_cmp nat_cmp) stored.entity.id stored self) }
+    pub fn put(self, stored: SharedStored) -> Result<ChangedTable, NoMemory>
+        ensures table { IfOk result (λ changed. changed.table
+            ≡ put (slice_cmp nat_cmp) stored.entity.id stored self) }
+        ensures before { IfOk result (λ changed. changed.before
+            ≡ find (slice_cmp nat_cmp) stored.entity.id self) }
     {
-        let Table { list } = self;
-        Ok(Table {
-            list: list.with(stored)?,
+        let Changed { list, before } = self.list.with(stored)?;
+        Ok(ChangedTable {
+            table: Table { list },
+            before,
         })
     }
 
-    /// The table with nothing under the id, or want of memory.
-    pub fn without(self, id: &str) -> Result<Table, NoMemory>
-        ensures { IfOk result (λ next. next ≡ changes_without id.now self) }
+    /// The table with nothing under the id, or out of memory.
+    pub fn without(self, id: &str) -> Result<ChangedTable, NoMemory>
+        ensures table { IfOk result (λ changed. changed.table ≡ changes_without id.now self) }
+        ensures before { IfOk result (λ changed. changed.before
+            ≡ find (slice_cmp nat_cmp) id.now self) }
     {
-        let Table { list } = self;
-        Ok(Table {
-            list: list.without(id)?,
+        let Changed { list, before } = self.list.without(id)?;
+        Ok(ChangedTable {
+            table: Table { list },
+            before,
         })
     }
 }

@@ -5,7 +5,8 @@
 //! more and leaves the given one; the two share every entity that the message does not touch, and what they
 //! take up together grows with the message and hardly with the table. Its steps can be taken one by one: `start` is
 //! what a message goes on from, `with` and `without` change a table at one id, and `share` keeps the table that is
-//! changed. An entity goes in as a `SharedStored`, of which another table may hold a further share.
+//! changed. Each change also gives what the id had before. An entity goes in as a `SharedStored`, of which another
+//! table may hold a further share.
 //!
 //! It stands on `shared_list` for the order and the sharing, and on `feed_defs` for what a message changes.
 #![tactic(auto)]
@@ -14,7 +15,7 @@ mod changes;
 mod stored;
 mod table;
 
-pub use changes::apply;
+pub use changes::{ChangedTable, apply};
 pub use feed_defs::Stored;
 pub use std::alloc::AllocError as NoMemory;
 pub use stored::SharedStored;

@@ -10,7 +10,7 @@ use crate::NoMemory;
 use alert_select::AlertIndex;
 use delay_rule::Steps;
 use entity_table::{SharedStored, Stored, Table};
-use rt_types::FeedMessage;
+use rt_types::{Copied, FeedMessage};
 use sched_types::Plan;
 use std::alloc::Global;
 use std::marker::Model;
@@ -73,8 +73,9 @@ impl FeedView {
         let mut alerts = old.alerts.start(alloc, &message)?;
         for entity in message.entity.into_vec() {
             let stored = SharedStored::new(alloc, Stored { entity, stamp })?;
-            alerts = alerts.with(&stored)?;
-            table = table.with(stored)?;
+            let changed = table.with(stored.copy()?)?;
+            alerts = alerts.with(&stored, changed.before)?;
+            table = changed.table;
         }
         Ok(FeedView {
             table,

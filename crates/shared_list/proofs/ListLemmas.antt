@@ -11,12 +11,12 @@ use Rattle.std.specs.declared.alloc.Global.{Global}
 use Rattle.std.proofs.lemmas.Cmp.{nat_list_cmp_total}
 use Rattle.std.proofs.lemmas.Map.Text.{is_eq-slice_cmp}
 use Rattle.shared_list.specs.declared.node.Node.{Node}
-use Rattle.shared_list.specs.Order.{key_cmp, entries, has_key, without, Rises}
+use Rattle.shared_list.specs.Order.{key_cmp, entries, item_with, without, Rises}
 use denote.Ref.{Bor}
 use Rattle.shared_list.specs.Parts.{items_in, node_items, IsFilled, AreSound, AreNodes}
 
 module _ {X : Type 0} (key : X → List ℕ) where
-  pub AreNodes-put : (old new : List (Arc (Node (Vec X Global)) Global)) (k : List ℕ) (v : X) (replaced : Bool) (before len : ℕ) → AreNodes key old before → replaced ≡ has_key key k (items_in node_items old) → len ≡ (if replaced then before else before + 1) → entries key (items_in node_items new) ≡ put key_cmp k v (entries key (items_in node_items old)) → AreSound node_items IsFilled new → AreNodes key new len
+  pub AreNodes-put : (old new : List (Arc (Node (Vec X Global)) Global)) (k : List ℕ) (v : X) (replaced : Option X) (before len : ℕ) → AreNodes key old before → replaced ≡ item_with key k (items_in node_items old) → len ≡ (if is_some replaced then before else before + 1) → entries key (items_in node_items new) ≡ put key_cmp k v (entries key (items_in node_items old)) → AreSound node_items IsFilled new → AreNodes key new len
   AreNodes-put old new k v replaced before len are told count is sound =
       let es = entries key (items_in node_items old) in
       record {
@@ -24,8 +24,8 @@ module _ {X : Type 0} (key : X → List ℕ) where
         rising = record { sorted = subst (λ xs. T (is_sorted key_cmp xs)) (sym is) (is_sorted-put key_cmp nat_list_cmp_total k v es are.rising.sorted) };
         counted =
             count
-            ∙ ap (λ b. if b then before else before + 1) told
-            ∙ ap (λ n. if has_key key k (items_in node_items old) then n else n + 1) are.counted
+            ∙ ap (λ (o : Option X). if is_some o then before else before + 1) told
+            ∙ ap (λ n. if is_some (item_with key k (items_in node_items old)) then n else n + 1) are.counted
             ∙ sym (ap length is ∙ length-put key_cmp nat_list_cmp_total k v es are.rising.sorted);
       }
 
@@ -51,15 +51,15 @@ one_less : (was_there : Bool) (before left all len : ℕ) → len ≡ (if was_th
 one_less true before left all len count own taken = omega arith
 one_less false before left all len count own taken = omega arith
 
-pub AreNodes-without : {X : Type 0} (key : X → List ℕ) (old new : List (Arc (Node (Vec X Global)) Global)) (k : List ℕ) (was_there : Bool) (before len : ℕ) → AreNodes key old before → was_there ≡ has_key key k (items_in node_items old) → len ≡ (if was_there then before - 1 else before) → entries key (items_in node_items new) ≡ without k (entries key (items_in node_items old)) → AreSound node_items IsFilled new → AreNodes key new len
-AreNodes-without key old new k was_there before len are told count is sound =
+pub AreNodes-without : {X : Type 0} (key : X → List ℕ) (old new : List (Arc (Node (Vec X Global)) Global)) (k : List ℕ) (taken : Option X) (before len : ℕ) → AreNodes key old before → taken ≡ item_with key k (items_in node_items old) → len ≡ (if is_some taken then before - 1 else before) → entries key (items_in node_items new) ≡ without k (entries key (items_in node_items old)) → AreSound node_items IsFilled new → AreNodes key new len
+AreNodes-without {X} key old new k taken before len are told count is sound =
     let es = entries key (items_in node_items old) in
     record {
       sound = sound;
       rising = record { sorted = subst (λ xs. T (is_sorted key_cmp xs)) (sym is) (is_sorted-where_key key_cmp (λ x. not (bytes_eq k x)) es are.rising.sorted) };
       counted =
-          one_less was_there before (length (where_key key_cmp (λ x. not (eq_by_cmp key_cmp k x)) es)) (length es) len count are.counted
-          (ap (λ b. cond b 1 0 + length (where_key key_cmp (λ x. not (eq_by_cmp key_cmp k x)) es)) told ∙ length_without key_cmp nat_list_cmp_total k es are.rising.sorted)
+          one_less (is_some taken) before (length (where_key key_cmp (λ x. not (eq_by_cmp key_cmp k x)) es)) (length es) len count are.counted
+          (ap (λ (o : Option X). cond (is_some o) 1 0 + length (where_key key_cmp (λ x. not (eq_by_cmp key_cmp k x)) es)) told ∙ length_without key_cmp nat_list_cmp_total k es are.rising.sorted)
           ∙ sym (ap length (is ∙ without_is k es));
     }
 

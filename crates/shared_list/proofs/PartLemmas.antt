@@ -1,6 +1,6 @@
 -- The laws of parts at parts that are shared.
-use Rattle.std.proofs.Common.{◌≡◌, ℕ, zero, suc, ◌+◌, ◌-◌, ◌<◌, ◌≤◌, List, [], ◌∷◌, ◌++◌, Ok, Err, length, map, take, drop, get_or, set, refl, sym, ap, ◌∙◌, subst, arith, append-nil, Bool, false, nat_eq, Less, Equal, Greater}
-use Rattle.std.specs.Prelude.{T, is_some, insert, remove}
+use Rattle.std.proofs.Common.{◌≡◌, ℕ, zero, suc, ◌+◌, ◌-◌, ◌<◌, ◌≤◌, List, [], ◌∷◌, ◌++◌, Ok, Err, length, map, take, drop, get_or, set, Option, refl, sym, ap, ◌∙◌, subst, arith, append-nil, Bool, false, nat_eq, Less, Equal, Greater}
+use Rattle.std.specs.Prelude.{T, insert, remove}
 use Rattle.std.specs.FinMap.{find, put, is_sorted}
 use Rattle.std.specs.List.{flat_map, HoldsAt, AllByRecursion}
 use Rattle.std.specs.List.Sorted.{IsNonDecreasingBy, IsPartitionPoint}
@@ -10,7 +10,7 @@ use Rattle.std.specs.declared.alloc.Global.{Global}
 use Rattle.std.proofs.Math.Dec.{eqb-suc-zero}
 use Rattle.std.proofs.lemmas.Grind.{flat_map-append}
 use Rattle.std.proofs.lemmas.List.{length-map, map-append, map-set}
-use Rattle.shared_list.specs.Order.{key_cmp, entries, all_entries, has_key, without, lead, AllBelow, AllAbove, IsGap, IsAt, IsHome, Rises, AreParts}
+use Rattle.shared_list.specs.Order.{key_cmp, entries, all_entries, item_with, without, lead, AllBelow, AllAbove, IsGap, IsAt, IsHome, Rises, AreParts}
 use Rattle.shared_list.specs.Parts.{parts_of, items_in, AreSound, TellsLeft}
 use Rattle.shared_list.proofs.Places.{searched, IsAt-map, IsGap-map, Rises-map}
 use Rattle.shared_list.proofs.Each.{each_front, each_back, each_at, each_set, each_insert, each_before, each_behind, remove_set}
@@ -162,15 +162,15 @@ module _ {P X : Type 0} (key : X → List ℕ) (items : P → List X) (sound : P
         subst (λ xs. Rises key xs) (sym (part_at items shares i here home.within seen))
         (Rises-part key (parts_of items shares) i [] (AreParts-shares shares are up) home.within)
 
-    pub find_here : find key_cmp k (entries key (items here.value)) ≡ find key_cmp k (entries key (items_in items shares))
+    pub find_here : item_with key k (items here.value) ≡ item_with key k (items_in items shares)
     find_here =
         ap (λ xs. find key_cmp k (entries key xs)) (part_at items shares i here home.within seen)
         ∙ sym (find_home key k (parts_of items shares) i [] home)
         ∙ ap (find key_cmp k) (sym (joined_entries key (parts_of items shares)))
 
-    -- the key stands in it where it stands in any
-    pub has_here : (b : Bool) → b ≡ has_key key k (items here.value) → b ≡ has_key key k (items_in items shares)
-    has_here b is = is ∙ ap is_some find_here
+    -- what has the key in it has the key in all
+    pub item_here : (had : Option X) → had ≡ item_with key k (items here.value) → had ≡ item_with key k (items_in items shares)
+    item_here had is = is ∙ find_here
 
     -- an item more, or another in its place
     pub put_kept : (x : X) (after : Share P) → entries key (items after.value ++ []) ≡ put key_cmp k x (entries key (items here.value)) → entries key (items_in items (set shares i after)) ≡ put key_cmp k x (entries key (items_in items shares))

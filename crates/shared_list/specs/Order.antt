@@ -1,5 +1,5 @@
 -- Lists in the byte order of their keys, and where a key stands in them.
-use Rattle.std.specs.Prelude.{◌≡◌, ℕ, suc, ◌<◌, ◌≤◌, Bool, not, T, is_some, List, [], ◌∷◌, length, map, take, drop, slice_index_or}
+use Rattle.std.specs.Prelude.{◌≡◌, ℕ, suc, ◌<◌, ◌≤◌, Option, not, T, List, [], ◌∷◌, length, map, take, drop, slice_index_or}
 use Rattle.std.specs.List.{flat_map, AllByRecursion}
 use Rattle.std.specs.Ordering.{nat_cmp}
 use Rattle.std.specs.declared.cmp.Ordering.{Ordering}
@@ -21,9 +21,9 @@ entries key xs = map (λ x. (key x, x)) xs
 abbrev pub all_entries : {X : Type 0} → (X → List ℕ) → List (List X) → List (List ℕ × X)
 all_entries key parts = flat_map (entries key) parts
 
--- whether an item has the key
-abbrev pub has_key : {X : Type 0} → (X → List ℕ) → List ℕ → List X → Bool
-has_key key k xs = is_some (find key_cmp k (entries key xs))
+-- the item with the key, if there is one
+abbrev pub item_with : {X : Type 0} → (X → List ℕ) → List ℕ → List X → Option X
+item_with key k xs = find key_cmp k (entries key xs)
 
 -- the entries of other keys
 abbrev pub without : {X : Type 0} → List ℕ → List (List ℕ × X) → List (List ℕ × X)

@@ -2,7 +2,7 @@
 
 ghost use Rattle.std.specs.Prelude.{◌≡◌, ◌<◌, length, IfOk, OnOk, MatchResult};
 ghost use Rattle.std.specs.FinMap.{put};
-ghost use Rattle.shared_list.specs.Order.{key_cmp, entries, has_key, without, IsAt, IsGap, Rises};
+ghost use Rattle.shared_list.specs.Order.{key_cmp, entries, item_with, without, IsAt, IsGap, Rises};
 
 use crate::NoMemory;
 use crate::keyed::{Keyed, key_order};
@@ -10,6 +10,7 @@ use crate::part::{Part, PutOutcome, TakeOutcome};
 use crate::split::{Arrival, split_off};
 use std::alloc::Global;
 use std::cmp::Ordering;
+use std::mem;
 
 /// Where the item with that key stands, or where it would.
 fn place<T: Keyed>(items: &[T], key: &str) -> Result<usize, usize>
@@ -21,19 +22,19 @@ fn place<T: Keyed>(items: &[T], key: &str) -> Result<usize, usize>
 }
 
 /// Puts the item in its place, which is that of the item with its key, if there is one.
-fn put_among<T: Keyed>(items: &mut Vec<T>, item: T) -> Result<Arrival, NoMemory>
+fn put_among<T: Keyed>(items: &mut Vec<T>, item: T) -> Result<Arrival<T>, NoMemory>
     requires { Rises T.key_of items.old.items }
     ensures put { OnOk result (entries T.key_of items.new.items
         ≡ put key_cmp (T.key_of item) item (entries T.key_of items.old.items)) }
     ensures replaced { IfOk result (λ arrival. arrival.replaced
-        ≡ has_key T.key_of (T.key_of item) items.old.items) }
+        ≡ item_with T.key_of (T.key_of item) items.old.items) }
     ensures filled { OnOk result (0 < length items.new.items) }
 {
     match place(items.as_slice(), item.key()) {
         Ok(at) => {
-            items[at] = item;
+            let old = mem::replace(&mut items[at], item);
             Ok(Arrival {
-                replaced: true,
+                replaced: Some(old),
                 at_end: false,
             })
         }
@@ -41,26 +42,23 @@ fn put_among<T: Keyed>(items: &mut Vec<T>, item: T) -> Result<Arrival, NoMemory>
             let at_end = at == items.len();
             items.insert(at, item)?;
             Ok(Arrival {
-                replaced: false,
+                replaced: None,
                 at_end,
             })
         }
     }
 }
 
-/// Takes the item with that key out, and says whether there was one.
-fn take_among<T: Keyed>(items: &mut Vec<T>, key: &str) -> bool
+/// Takes the item with that key out, if there is one.
+fn take_among<T: Keyed>(items: &mut Vec<T>, key: &str) -> Option<T>
     requires { Rises T.key_of items.old.items }
     ensures without { entries T.key_of items.new.items
         ≡ without key.now (entries T.key_of items.old.items) }
-    ensures there { result ≡ has_key T.key_of key.now items.old.items }
+    ensures taken { result ≡ item_with T.key_of key.now items.old.items }
 {
     match place(items.as_slice(), key) {
-        Ok(at) => {
-            items.remove(at);
-            true
-        }
-        Err(_) => false,
+        Ok(at) => Some(items.remove(at)),
+        Err(_) => None,
     }
 }
 
@@ -104,16 +102,16 @@ impl<T: Keyed> Part for Vec<T> {
         Ok(same)
     }
 
-    fn put_item(&mut self, item: T) -> Result<PutOutcome<Self>, NoMemory> {
+    fn put_item(&mut self, item: T) -> Result<PutOutcome<Self, T>, NoMemory> {
         let Arrival { replaced, at_end } = put_among(self, item)?;
         let back = split_off(self, at_end)?;
         Ok(PutOutcome { replaced, back })
     }
 
-    fn take_out(&mut self, key: &str) -> Result<TakeOutcome, NoMemory> {
-        let was_there = take_among(self, key);
+    fn take_out(&mut self, key: &str) -> Result<TakeOutcome<T>, NoMemory> {
+        let taken = take_among(self, key);
         Ok(TakeOutcome {
-            was_there,
+            taken,
             none_left: self.is_empty(),
         })
     }

@@ -2,12 +2,14 @@
 //!
 //! A contract sees a `SharedList` as the list of its items, each with its key, with the words of std's
 //! finite maps: `with` is `put`, `get` is `find`. A version is made of another by `share`, and then
-//! changed item by item; the other stays. The cost of a change hardly grows with the list: the items
-//! stand in leaves of at most 32, the leaves in nodes of at most 32, and the nodes in one list. `share`
-//! takes one share of each node. A change copies the node in which the key stands, which is one share of
-//! each of its leaves, and the one leaf in which the key stands, and each only once for each version. A key
-//! that is put in is searched for once; one that is to go, before a copy is made too, so that what doesn't hold
-//! it stays shared. Keys that come in rising order leave full leaves.
+//! changed item by item; the other stays. Each change also gives the item that the key had before.
+//!
+//! The cost of a change hardly grows with the list: the items stand in leaves of at most 32, the leaves
+//! in nodes of at most 32, and the nodes in one list. `share` takes one share of each node. A change
+//! copies the node in which the key stands, which is one share of each of its leaves, and the one leaf in
+//! which the key stands, and each only once for each version. A key that is put in is searched for once;
+//! one that is to go, before a copy is made too, so that what doesn't hold it stays shared. Keys that come
+//! in rising order leave full leaves.
 //!
 //! Both floors are one piece of code: a leaf and a node are each a part (`Part`), a node is made over any
 //! kind of part, and what is done to parts that versions may share is written for whatever they are.
@@ -27,5 +29,5 @@ mod split;
 
 pub use iter::Iter;
 pub use keyed::Keyed;
-pub use list::SharedList;
+pub use list::{Changed, SharedList};
 pub use std::alloc::AllocError as NoMemory;

@@ -10,6 +10,7 @@ use crate::iter::Iter;
 use crate::keyed::Keyed;
 use crate::node::Node;
 use crate::shared::{item_in, put_shared, share, take_out_shared};
+use crate::split::Arrival;
 use std::alloc::Global;
 use std::marker::Model;
 use std::sync::Arc;
@@ -35,6 +36,15 @@ impl<T: Keyed> Model for SharedList<T> {
     ghost invariant = { λ list. AreNodes T.key_of list.nodes.items list.len };
 }
 
+/// A list after a change at one key.
+#[derive(Drop)]
+pub struct Changed<T: Keyed> {
+    /// The list as it is now.
+    pub list: SharedList<T>,
+    /// The item that had the key before, if there was one.
+    pub before: Option<T>,
+}
+
 impl<T: Keyed> SharedList<T> {
     /// A list of no items. It takes no memory until an item comes.
     pub fn empty(alloc: Global) -> Self
@@ -56,25 +66,38 @@ impl<T: Keyed> SharedList<T> {
         })
     }
 
-    /// The list with the item in its place, which is that of the item with its key, if there is one; or want
+    /// The list with the item in its place, which is that of the item with its key, if there is one; or out
     /// of memory.
-    pub fn with(self, item: T) -> Result<Self, NoMemory>
-        ensures { IfOk result (λ list. list ≡ put key_cmp (T.key_of item) item self) }
+    pub fn with(self, item: T) -> Result<Changed<T>, NoMemory>
+        ensures list { IfOk result (λ changed. changed.list
+            ≡ put key_cmp (T.key_of item) item self) }
+        ensures before { IfOk result (λ changed. changed.before
+            ≡ find key_cmp (T.key_of item) self) }
     {
         let SharedList { mut nodes, len } = self;
-        let arrival = put_shared(&mut nodes, item)?;
-        let len = len_with(len, arrival.replaced)?;
-        Ok(SharedList { nodes, len })
+        let Arrival {
+            replaced,
+            at_end: _,
+        } = put_shared(&mut nodes, item)?;
+        let len = len_with(len, replaced.is_some())?;
+        Ok(Changed {
+            list: SharedList { nodes, len },
+            before: replaced,
+        })
     }
 
-    /// The list without the item of that key, or want of memory.
-    pub fn without(self, key: &str) -> Result<Self, NoMemory>
-        ensures { IfOk result (λ list. list ≡ without key.now self) }
+    /// The list without the item of that key, or out of memory.
+    pub fn without(self, key: &str) -> Result<Changed<T>, NoMemory>
+        ensures list { IfOk result (λ changed. changed.list ≡ without key.now self) }
+        ensures before { IfOk result (λ changed. changed.before ≡ find key_cmp key.now self) }
     {
         let SharedList { mut nodes, len } = self;
-        let was_there = take_out_shared(&mut nodes, key)?;
-        let len = len_without(len, was_there);
-        Ok(SharedList { nodes, len })
+        let taken = take_out_shared(&mut nodes, key)?;
+        let len = len_without(len, taken.is_some());
+        Ok(Changed {
+            list: SharedList { nodes, len },
+            before: taken,
+        })
     }
 
     /// The item with that key; `None` exactly where there is none.

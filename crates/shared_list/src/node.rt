@@ -49,7 +49,7 @@ impl<P: Part> Part for Node<P> {
         })
     }
 
-    fn put_item(&mut self, item: P::Item) -> Result<PutOutcome<Self>, NoMemory> {
+    fn put_item(&mut self, item: P::Item) -> Result<PutOutcome<Self, P::Item>, NoMemory> {
         let Arrival { replaced, at_end } = put_shared(&mut self.parts, item)?;
         match split_off(&mut self.parts, at_end)? {
             Some(parts) => Ok(PutOutcome {
@@ -63,10 +63,10 @@ impl<P: Part> Part for Node<P> {
         }
     }
 
-    fn take_out(&mut self, key: &str) -> Result<TakeOutcome, NoMemory> {
-        let was_there = take_out_shared(&mut self.parts, key)?;
+    fn take_out(&mut self, key: &str) -> Result<TakeOutcome<P::Item>, NoMemory> {
+        let taken = take_out_shared(&mut self.parts, key)?;
         Ok(TakeOutcome {
-            was_there,
+            taken,
             none_left: self.parts.is_empty(),
         })
     }

@@ -1,9 +1,9 @@
 //! What a part of a list is, whether items stand in it or parts again.
 
 ghost use Rattle.std.specs.Prelude.{◌≡◌, ℕ, ◌<◌, ◌++◌, List, [], ◌∷◌, length, IfSome, IfOk, OnOk};
-ghost use Rattle.std.specs.FinMap.{put, find};
+ghost use Rattle.std.specs.FinMap.{put};
 ghost use Rattle.std.specs.Option.{option_copied};
-ghost use Rattle.shared_list.specs.Order.{key_cmp, entries, has_key, lead, without, Rises};
+ghost use Rattle.shared_list.specs.Order.{key_cmp, entries, item_with, lead, without, Rises};
 ghost use Rattle.shared_list.specs.Parts.{items_if_some, TellsLeft};
 
 use crate::NoMemory;
@@ -13,18 +13,18 @@ use std::cmp::Ordering;
 
 /// What a part says of an item that was put into it.
 #[derive(Drop)]
-pub(crate) struct PutOutcome<P> {
-    /// Whether the item took the place of one with its key.
-    pub(crate) replaced: bool,
+pub(crate) struct PutOutcome<P, T> {
+    /// The item with its key, whose place the item took.
+    pub(crate) replaced: Option<T>,
     /// The back of the part, which was taken off where the part had become too long.
     pub(crate) back: Option<P>,
 }
 
 /// What a part says of a key whose item was to be taken out.
-#[derive(Clone, Copy)]
-pub(crate) struct TakeOutcome {
-    /// Whether there was an item with that key.
-    pub(crate) was_there: bool,
+#[derive(Drop)]
+pub(crate) struct TakeOutcome<T> {
+    /// The item with that key, if there was one.
+    pub(crate) taken: Option<T>,
     /// Whether the part has no items left.
     pub(crate) none_left: bool,
 }
@@ -57,7 +57,7 @@ pub(crate) trait Part: Drop {
         requires sound { sound self.now }
         requires rising { Rises Self.Item.key_of (items self.now) }
         ensures { option_copied result
-            ≡ find key_cmp key.now (entries Self.Item.key_of (items self.entry.now)) };
+            ≡ item_with Self.Item.key_of key.now (items self.entry.now) };
 
     /// A part with the same items and room for so many more, which shares with this one what it can.
     fn copied(&self, more: usize) -> Result<Self, NoMemory>
@@ -66,7 +66,7 @@ pub(crate) trait Part: Drop {
         ensures sound { IfOk result (λ same. sound same) };
 
     /// Puts the item in its place, and takes the back of the part off where it has become too long.
-    fn put_item(&mut self, item: Self::Item) -> Result<PutOutcome<Self>, NoMemory>
+    fn put_item(&mut self, item: Self::Item) -> Result<PutOutcome<Self, Self::Item>, NoMemory>
         requires sound { sound self.old }
         requires rising { Rises Self.Item.key_of (items self.old) }
         ensures put { IfOk result (λ outcome.
@@ -74,7 +74,7 @@ pub(crate) trait Part: Drop {
             ≡ put key_cmp (Self.Item.key_of item) item
             (entries Self.Item.key_of (items self.old))) }
         ensures replaced { IfOk result (λ outcome. outcome.replaced
-            ≡ has_key Self.Item.key_of (Self.Item.key_of item) (items self.old)) }
+            ≡ item_with Self.Item.key_of (Self.Item.key_of item) (items self.old)) }
         ensures front { OnOk result (0 < length (items self.new)) }
         ensures sound { OnOk result (sound self.new) }
         ensures back { IfOk result (λ outcome.
@@ -82,14 +82,14 @@ pub(crate) trait Part: Drop {
         ensures back_sound { IfOk result (λ outcome. IfSome outcome.back (λ back. sound back)) };
 
     /// Takes the item with that key out, if there is one.
-    fn take_out(&mut self, key: &str) -> Result<TakeOutcome, NoMemory>
+    fn take_out(&mut self, key: &str) -> Result<TakeOutcome<Self::Item>, NoMemory>
         requires sound { sound self.old }
         requires rising { Rises Self.Item.key_of (items self.old) }
         ensures without { OnOk result (entries Self.Item.key_of (items self.new)
             ≡ without key.now (entries Self.Item.key_of (items self.old))) }
         ensures sound { OnOk result (sound self.new) }
-        ensures there { IfOk result (λ outcome. outcome.was_there
-            ≡ has_key Self.Item.key_of key.now (items self.old)) }
+        ensures taken { IfOk result (λ outcome. outcome.taken
+            ≡ item_with Self.Item.key_of key.now (items self.old)) }
         ensures left { IfOk result (λ outcome. TellsLeft outcome.none_left (items self.new)) };
 
     ghost leads: { (part : Self) → sound part

@@ -1,9 +1,9 @@
 //! Parts that several versions of a list may share. One that is shared is copied before it is changed.
 
 ghost use Rattle.std.specs.Prelude.{◌≡◌, ◌<◌, ◌++◌, length, IfSome, IfOk, OnOk};
-ghost use Rattle.std.specs.FinMap.{put, find};
+ghost use Rattle.std.specs.FinMap.{put};
 ghost use Rattle.std.specs.Option.{option_copied};
-ghost use Rattle.shared_list.specs.Order.{key_cmp, entries, has_key, without, IsHome, Rises};
+ghost use Rattle.shared_list.specs.Order.{key_cmp, entries, item_with, without, IsHome, Rises};
 ghost use Rattle.shared_list.specs.Parts.{parts_of, items_in, items_if_some, AreSound, TellsLeft};
 
 use crate::NoMemory;
@@ -31,7 +31,7 @@ pub(crate) fn item_in<'a, P: Part>(parts: &'a [Arc<P>], key: &str) -> Option<&'a
     requires sound { AreSound P.items P.sound parts.now }
     requires rising { Rises P.Item.key_of (items_in P.items parts.now) }
     ensures { option_copied result
-        ≡ find key_cmp key.now (entries P.Item.key_of (items_in P.items parts.entry.now)) }
+        ≡ item_with P.Item.key_of key.now (items_in P.items parts.entry.now) }
 {
     if parts.is_empty() {
         return None;
@@ -44,14 +44,14 @@ fn put_in<P: Part>(
     alloc: Global,
     part: &mut Arc<P>,
     item: P::Item,
-) -> Result<PutOutcome<P>, NoMemory>
+) -> Result<PutOutcome<P, P::Item>, NoMemory>
     requires sound { P.sound part.old.value }
     requires rising { Rises P.Item.key_of (P.items part.old.value) }
     ensures put { IfOk result (λ outcome.
         entries P.Item.key_of (P.items part.new.value ++ items_if_some P.items outcome.back)
         ≡ put key_cmp (P.Item.key_of item) item (entries P.Item.key_of (P.items part.old.value))) }
     ensures replaced { IfOk result (λ outcome. outcome.replaced
-        ≡ has_key P.Item.key_of (P.Item.key_of item) (P.items part.old.value)) }
+        ≡ item_with P.Item.key_of (P.Item.key_of item) (P.items part.old.value)) }
     ensures front { OnOk result (0 < length (P.items part.new.value)) }
     ensures sound { OnOk result (P.sound part.new.value) }
     ensures back { IfOk result (λ outcome.
@@ -68,15 +68,19 @@ fn put_in<P: Part>(
 }
 
 /// Takes the item with that key out of the part, if there is one. A part that has none stays shared.
-fn take_from<P: Part>(alloc: Global, part: &mut Arc<P>, key: &str) -> Result<TakeOutcome, NoMemory>
+fn take_from<P: Part>(
+    alloc: Global,
+    part: &mut Arc<P>,
+    key: &str,
+) -> Result<TakeOutcome<P::Item>, NoMemory>
     requires some { 0 < length (P.items part.old.value) }
     requires sound { P.sound part.old.value }
     requires rising { Rises P.Item.key_of (P.items part.old.value) }
     ensures without { OnOk result (entries P.Item.key_of (P.items part.new.value)
         ≡ without key.now (entries P.Item.key_of (P.items part.old.value))) }
     ensures sound { OnOk result (P.sound part.new.value) }
-    ensures there { IfOk result (λ outcome. outcome.was_there
-        ≡ has_key P.Item.key_of key.now (P.items part.old.value)) }
+    ensures taken { IfOk result (λ outcome. outcome.taken
+        ≡ item_with P.Item.key_of key.now (P.items part.old.value)) }
     ensures left { IfOk result (λ outcome. TellsLeft outcome.none_left (P.items part.new.value)) }
 {
     if let Some(own) = Arc::get_mut(part) {
@@ -84,7 +88,7 @@ fn take_from<P: Part>(alloc: Global, part: &mut Arc<P>, key: &str) -> Result<Tak
     }
     if part.item_of(key).is_none() {
         return Ok(TakeOutcome {
-            was_there: false,
+            taken: None,
             none_left: false,
         });
     }
@@ -98,14 +102,14 @@ fn take_from<P: Part>(alloc: Global, part: &mut Arc<P>, key: &str) -> Result<Tak
 pub(crate) fn put_shared<P: Part>(
     parts: &mut Vec<Arc<P>>,
     item: P::Item,
-) -> Result<Arrival, NoMemory>
+) -> Result<Arrival<P::Item>, NoMemory>
     requires sound { AreSound P.items P.sound parts.old.items }
     requires rising { Rises P.Item.key_of (items_in P.items parts.old.items) }
     ensures put { OnOk result (entries P.Item.key_of (items_in P.items parts.new.items)
         ≡ put key_cmp (P.Item.key_of item) item
         (entries P.Item.key_of (items_in P.items parts.old.items))) }
     ensures replaced { IfOk result (λ arrival. arrival.replaced
-        ≡ has_key P.Item.key_of (P.Item.key_of item) (items_in P.items parts.old.items)) }
+        ≡ item_with P.Item.key_of (P.Item.key_of item) (items_in P.items parts.old.items)) }
     ensures some { OnOk result (0 < length parts.new.items) }
     ensures sound { OnOk result (AreSound P.items P.sound parts.new.items) }
 {
@@ -113,7 +117,7 @@ pub(crate) fn put_shared<P: Part>(
     if parts.is_empty() {
         parts.push(Arc::new(alloc, P::of_one(alloc, item)?)?)?;
         return Ok(Arrival {
-            replaced: false,
+            replaced: None,
             at_end: true,
         });
     }
@@ -132,27 +136,31 @@ pub(crate) fn put_shared<P: Part>(
     }
 }
 
-/// Takes the item with that key out of its part, and the part out where nothing is left in it. It says whether
-/// there was such an item.
-pub(crate) fn take_out_shared<P: Part>(parts: &mut Vec<Arc<P>>, key: &str) -> Result<bool, NoMemory>
+/// Takes the item with that key out of its part, if there is one, and the part out where nothing is left in it.
+pub(crate) fn take_out_shared<P: Part>(
+    parts: &mut Vec<Arc<P>>,
+    key: &str,
+) -> Result<Option<P::Item>, NoMemory>
     requires sound { AreSound P.items P.sound parts.old.items }
     requires rising { Rises P.Item.key_of (items_in P.items parts.old.items) }
     ensures without { OnOk result (entries P.Item.key_of (items_in P.items parts.new.items)
         ≡ without key.now (entries P.Item.key_of (items_in P.items parts.old.items))) }
-    ensures there { IfOk result (λ was_there. was_there
-        ≡ has_key P.Item.key_of key.now (items_in P.items parts.old.items)) }
+    ensures taken { IfOk result (λ taken. taken
+        ≡ item_with P.Item.key_of key.now (items_in P.items parts.old.items)) }
     ensures sound { OnOk result (AreSound P.items P.sound parts.new.items) }
 {
     if parts.is_empty() {
-        return Ok(false);
+        return Ok(None);
     }
     let alloc = *parts.allocator();
     let at = home(parts.as_slice(), key);
-    let outcome = take_from(alloc, &mut parts[at], key)?;
-    if outcome.none_left {
+    let TakeOutcome { taken, none_left } = take_from(alloc, &mut parts[at], key)?;
+    if none_left {
         parts.remove(at);
+        Ok(taken)
+    } else {
+        Ok(taken)
     }
-    Ok(outcome.was_there)
 }
 
 /// The same parts, each shared, with room for so many more.

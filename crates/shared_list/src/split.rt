@@ -6,10 +6,10 @@ ghost use Rattle.shared_list.specs.Parts.{items_if_some};
 use crate::NoMemory;
 
 /// How an item came among others, or a part among parts.
-#[derive(Clone, Copy)]
-pub(crate) struct Arrival {
-    /// Whether the item took the place of one with its key.
-    pub(crate) replaced: bool,
+#[derive(Drop)]
+pub(crate) struct Arrival<T> {
+    /// The item with its key, whose place the item took.
+    pub(crate) replaced: Option<T>,
     /// Whether there is one more at the end.
     pub(crate) at_end: bool,
 }

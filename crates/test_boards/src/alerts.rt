@@ -1,7 +1,7 @@
 //! Periods, and the alerts of a small table after two messages.
 
 use alert_select::{AlertIndex, NoMemory, active};
-use entity_table::{SharedStored, Stored, Table, apply};
+use entity_table::{SharedStored, Stored, Table};
 use rt_types::{
     Alert, Copied, Entities, Entity, FeedMessage, Header, Incrementality, Period, Periods,
     Selectors, Shared, StopUpdates, Text, TripRef, TripUpdate,
@@ -120,14 +120,23 @@ fn message(alloc: Global, kind: Incrementality, words: &[&str]) -> Result<FeedMe
     })
 }
 
-/// The index after the message, entity by entity.
-fn after(alloc: Global, index: &AlertIndex, message: &FeedMessage) -> Result<AlertIndex, NoMemory> {
-    let mut next = index.start(alloc, message)?;
+/// A table with its index, after the message, entity by entity.
+fn after(
+    alloc: Global,
+    table: &Table,
+    index: &AlertIndex,
+    message: &FeedMessage,
+) -> Result<(Table, AlertIndex), NoMemory> {
+    let mut next = table.start(alloc, message)?;
+    let mut alerts = index.start(alloc, message)?;
     for entity in message.entity.as_slice() {
         let entity = entity.copy()?;
-        next = next.with(&SharedStored::new(alloc, Stored { entity, stamp: 5 })?)?;
+        let stored = SharedStored::new(alloc, Stored { entity, stamp: 5 })?;
+        let changed = next.with(stored.copy()?)?;
+        alerts = alerts.with(&stored, changed.before)?;
+        next = changed.table;
     }
-    Ok(next)
+    Ok((next, alerts))
 }
 
 /// The index after two messages, made message by message, and that of the whole table.
@@ -136,10 +145,10 @@ fn indexes(
     first: &FeedMessage,
     second: &FeedMessage,
 ) -> Result<(AlertIndex, AlertIndex), NoMemory> {
-    let index = after(alloc, &AlertIndex::empty(alloc), first)?;
-    let table = apply(alloc, &Table::empty(alloc), first)?;
-    let whole = AlertIndex::build(alloc, &apply(alloc, &table, second)?)?;
-    Ok((after(alloc, &index, second)?, whole))
+    let (table, index) = after(alloc, &Table::empty(alloc), &AlertIndex::empty(alloc), first)?;
+    let (table, index) = after(alloc, &table, &index, second)?;
+    let whole = AlertIndex::build(alloc, &table)?;
+    Ok((index, whole))
 }
 
 /// Whether an index holds just the alerts of these ids, in their order.

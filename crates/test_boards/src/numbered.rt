@@ -38,7 +38,7 @@ fn with(
     number: u32,
 ) -> Result<SharedList<Numbered>, NoMemory> {
     let name = ShortText::new(alloc, name)?;
-    list.with(Numbered { name, number })
+    Ok(list.with(Numbered { name, number })?.list)
 }
 
 /// The sum of the numbers, each times its place from 1.
@@ -60,7 +60,7 @@ fn versions(alloc: Global) -> Result<bool, NoMemory> {
         "a",
         1,
     )?;
-    let new = with(alloc, old.share()?.without("a")?, "c", 100)?;
+    let new = with(alloc, old.share()?.without("a")?.list, "c", 100)?;
     let found = new.get("c").map(|item| item.number) == Some(100) && new.get("a").is_none();
     Ok(found && weighed(&old) == 21 && weighed(&new) == 210 && old.len() == 2 && new.len() == 2)
 }
@@ -109,7 +109,7 @@ fn without_numbers(
 ) -> Result<SharedList<Numbered>, NoMemory> {
     let mut list = list;
     for number in from..to {
-        list = list.without(key_of(alloc, number)?.as_str())?;
+        list = list.without(key_of(alloc, number)?.as_str())?.list;
     }
     Ok(list)
 }

@@ -157,9 +157,9 @@ fn stored(
 fn changes_one_by_one(alloc: Global) -> Result<bool, NoMemory> {
     let old = after(alloc, &Table::empty(alloc), 7, "~ +a +b +c")?;
     let new = old.share()?;
-    let new = new.with(stored(alloc, "d", None, b'x')?)?;
-    let new = new.with(stored(alloc, "a", Some(true), b'y')?)?;
-    let new = new.without("b")?;
+    let new = new.with(stored(alloc, "d", None, b'x')?)?.table;
+    let new = new.with(stored(alloc, "a", Some(true), b'y')?)?.table;
+    let new = new.without("b")?.table;
     let told = holds(&new, &[("c", 7, b'3'), ("d", 9, b'x')]);
     Ok(told && holds(&old, &[("a", 7, b'1'), ("b", 7, b'2'), ("c", 7, b'3')]))
 }

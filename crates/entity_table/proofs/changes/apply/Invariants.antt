@@ -1,9 +1,8 @@
 -- What the entities that are left make of the table is what all make of the first.
 use Rattle.std.proofs.Common.{◌≡◌, drop}
-use Rattle.feed_defs.specs.History.{changes_with}
 use Rattle.entity_table.proofs.TableLemmas.{after_each}
 use Rattle.entity_table.proofs.changes.apply.Given as goal
 
 abbrev pub invariant-loop-entity : goal.invariant-loop-entity
 invariant-loop-entity l =
-    after_each changes_with l.stamp l.next (drop l.entity-index l.entity-items) ≡ after_each changes_with l.stamp l.initial.next l.entity-items
+    after_each l.stamp l.next (drop l.entity-index l.entity-items) ≡ after_each l.stamp l.initial.next l.entity-items

@@ -1,15 +1,18 @@
 -- The item stands in the place that was found.
-use Rattle.std.proofs.Common.{ap, sym, ◌∙◌}
-use Rattle.std.specs.Prelude.{is_some}
+use Rattle.std.proofs.Common.{Some, set, ap, sym, ◌∙◌}
 use Rattle.shared_list.specs.Order.{entries}
 use Rattle.shared_list.proofs.Places.{put_at, put_gap, find_at, find_gap}
 use Rattle.shared_list.proofs.leaf.put_among.Goals as goal
 
 pub returns-in-Ok-clause-put : goal.returns-in-Ok-clause-put
-returns-in-Ok-clause-put g c = put_at g.T.Keyed.key_of c.args.items.now.items c.args.item c.in-Ok.at (rw (c.key.ensures, c.as_slice.ensures.value) at c.in-Ok.ensures)
+returns-in-Ok-clause-put g c =
+    ap (λ x. entries g.T.Keyed.key_of (set c.args.items.now.items c.in-Ok.at x)) c.replace-old.ensures.after
+    ∙ put_at g.T.Keyed.key_of c.args.items.now.items c.args.item c.in-Ok.at (rw (c.key.ensures, c.as_slice.ensures.value) at c.in-Ok.ensures)
 
 pub returns-in-Ok-clause-replaced : goal.returns-in-Ok-clause-replaced
-returns-in-Ok-clause-replaced g c = sym (ap is_some (find_at g.T.Keyed.key_of c.args.items.now.items (g.T.Keyed.key_of c.args.item) c.in-Ok.at c.args.item (rw (c.key.ensures, c.as_slice.ensures.value) at c.in-Ok.ensures)))
+returns-in-Ok-clause-replaced g c =
+    ap Some (c.replace-old.ensures.value ∙ c.index_mut.ensures.value)
+    ∙ sym (find_at g.T.Keyed.key_of c.args.items.now.items (g.T.Keyed.key_of c.args.item) c.in-Ok.at _ (rw (c.key.ensures, c.as_slice.ensures.value) at c.in-Ok.ensures))
 
 pub returns-in_ok-insert-in-Err-clause-put : goal.returns-in_ok-insert-in-Err-clause-put
 returns-in_ok-insert-in-Err-clause-put g c =
@@ -17,4 +20,4 @@ returns-in_ok-insert-in-Err-clause-put g c =
     ∙ put_gap g.T.Keyed.key_of c.args.items.now.items c.args.item c.in-Err.at (rw (c.key.ensures, c.as_slice.ensures.value) at c.in-Err.ensures)
 
 pub returns-in_ok-insert-in-Err-clause-replaced : goal.returns-in_ok-insert-in-Err-clause-replaced
-returns-in_ok-insert-in-Err-clause-replaced g c = sym (ap is_some (find_gap g.T.Keyed.key_of c.args.items.now.items (g.T.Keyed.key_of c.args.item) c.in-Err.at (rw (c.key.ensures, c.as_slice.ensures.value) at c.in-Err.ensures)))
+returns-in_ok-insert-in-Err-clause-replaced g c = sym (find_gap g.T.Keyed.key_of c.args.items.now.items (g.T.Keyed.key_of c.args.item) c.in-Err.at (rw (c.key.ensures, c.as_slice.ensures.value) at c.in-Err.ensures))

@@ -1,6 +1,5 @@
 -- The item goes from the place that was found.
-use Rattle.std.proofs.Common.{sym, ap, ◌∙◌}
-use Rattle.std.specs.Prelude.{is_some}
+use Rattle.std.proofs.Common.{Some, sym, ap, ◌∙◌}
 use Rattle.shared_list.specs.Order.{entries}
 use Rattle.shared_list.proofs.Places.{without_at, without_gap, find_at, find_gap}
 use Rattle.shared_list.proofs.leaf.take_among.Goals as goal
@@ -10,11 +9,11 @@ returns-in-Ok-clause-without g c =
     ap (entries g.T.Keyed.key_of) c.remove.ensures.items
     ∙ without_at g.T.Keyed.key_of c.args.items.now.items c.args.key.now c.in-Ok.at (rw c.as_slice.ensures.value at c.in-Ok.ensures)
 
-pub returns-in-Ok-clause-there : goal.returns-in-Ok-clause-there
-returns-in-Ok-clause-there g c = sym (ap is_some (find_at g.T.Keyed.key_of c.args.items.now.items c.args.key.now c.in-Ok.at c.remove.result (rw c.as_slice.ensures.value at c.in-Ok.ensures)))
+pub returns-in-Ok-clause-taken : goal.returns-in-Ok-clause-taken
+returns-in-Ok-clause-taken g c = ap Some c.remove.ensures.value ∙ sym (find_at g.T.Keyed.key_of c.args.items.now.items c.args.key.now c.in-Ok.at c.remove.result (rw c.as_slice.ensures.value at c.in-Ok.ensures))
 
 pub returns-in-Err-clause-without : goal.returns-in-Err-clause-without
 returns-in-Err-clause-without g c = sym (without_gap g.T.Keyed.key_of c.args.items.now.items c.args.key.now c.in-Err.field-0 (rw c.as_slice.ensures.value at c.in-Err.ensures))
 
-pub returns-in-Err-clause-there : goal.returns-in-Err-clause-there
-returns-in-Err-clause-there g c = sym (ap is_some (find_gap g.T.Keyed.key_of c.args.items.now.items c.args.key.now c.in-Err.field-0 (rw c.as_slice.ensures.value at c.in-Err.ensures)))
+pub returns-in-Err-clause-taken : goal.returns-in-Err-clause-taken
+returns-in-Err-clause-taken g c = sym (find_gap g.T.Keyed.key_of c.args.items.now.items c.args.key.now c.in-Err.field-0 (rw c.as_slice.ensures.value at c.in-Err.ensures))

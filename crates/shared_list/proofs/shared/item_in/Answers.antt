@@ -1,7 +1,6 @@
 -- The key stands in its part or nowhere.
 use Rattle.std.proofs.Common.{sym, ap, ◌∙◌, subst}
-use Rattle.std.specs.FinMap.{find}
-use Rattle.shared_list.specs.Order.{key_cmp, entries, Rises}
+use Rattle.shared_list.specs.Order.{item_with, Rises}
 use Rattle.shared_list.proofs.PartLemmas.{good_here, Rises-here, find_here}
 use Rattle.shared_list.proofs.shared.item_in.Goals as goal
 
@@ -18,5 +17,5 @@ item_of-requires-clause-rising g c =
 pub returns : goal.returns
 returns g c =
     c.item_of.ensures
-    ∙ ap (λ part. find key_cmp c.args.key.now (entries g.P.Item.Keyed.key_of (g.P.Part.items part))) c.deref.ensures
+    ∙ ap (λ part. item_with g.P.Item.Keyed.key_of c.args.key.now (g.P.Part.items part)) c.deref.ensures
     ∙ find_here g.P.Item.Keyed.key_of g.P.Part.items g.P.Part.sound c.args.key.now c.args.parts.now c.home.result c.index-parts-home.result c.home.ensures c.index-parts-home.is

@@ -2,7 +2,7 @@
 use Rattle.std.proofs.Common.{◌+◌, refl, ap, ◌∙◌, subst, sym}
 use Rattle.shared_list.specs.Order.{entries, IsHome}
 use Rattle.shared_list.specs.Parts.{parts_of, items_in, AreSound}
-use Rattle.shared_list.proofs.PartLemmas.{good_here, Rises-here, has_here, put_kept, put_cut, sound_set, sound_cut}
+use Rattle.shared_list.proofs.PartLemmas.{good_here, Rises-here, item_here, put_kept, put_cut, sound_set, sound_cut}
 use Rattle.shared_list.proofs.shared.put_shared.Goals as goal
 
 pub put_in-requires-clause-sound : goal.put_in-requires-clause-sound
@@ -24,7 +24,7 @@ returns-in_ok-insert-in-Some-clause-put g c =
 pub returns-in_ok-insert-in-Some-clause-replaced : goal.returns-in_ok-insert-in-Some-clause-replaced
 returns-in_ok-insert-in-Some-clause-replaced g c =
     let home : IsHome g.P.Item.Keyed.key_of (g.P.Item.Keyed.key_of c.args.item) (parts_of g.P.Part.items c.args.parts.now.items) c.home-at.result = rw (c.key.ensures, c.as_slice.ensures.value) at c.home-at.ensures in
-    has_here g.P.Item.Keyed.key_of g.P.Part.items g.P.Part.sound (g.P.Item.Keyed.key_of c.args.item) c.args.parts.now.items c.home-at.result c.index_mut.result.now home c.index_mut.ensures.value c.in_ok-replaced.field-0.replaced c.in_ok-replaced.ensures.replaced
+    item_here g.P.Item.Keyed.key_of g.P.Part.items g.P.Part.sound (g.P.Item.Keyed.key_of c.args.item) c.args.parts.now.items c.home-at.result c.index_mut.result.now home c.index_mut.ensures.value c.in_ok-replaced.field-0.replaced c.in_ok-replaced.ensures.replaced
 
 pub returns-in_ok-insert-in-Some-clause-sound : goal.returns-in_ok-insert-in-Some-clause-sound
 returns-in_ok-insert-in-Some-clause-sound g c =
@@ -40,7 +40,7 @@ returns-in-None-clause-put g c =
 pub returns-in-None-clause-replaced : goal.returns-in-None-clause-replaced
 returns-in-None-clause-replaced g c =
     let home : IsHome g.P.Item.Keyed.key_of (g.P.Item.Keyed.key_of c.args.item) (parts_of g.P.Part.items c.args.parts.now.items) c.home-at.result = rw (c.key.ensures, c.as_slice.ensures.value) at c.home-at.ensures in
-    has_here g.P.Item.Keyed.key_of g.P.Part.items g.P.Part.sound (g.P.Item.Keyed.key_of c.args.item) c.args.parts.now.items c.home-at.result c.index_mut.result.now home c.index_mut.ensures.value c.in_ok-replaced.field-0.replaced c.in_ok-replaced.ensures.replaced
+    item_here g.P.Item.Keyed.key_of g.P.Part.items g.P.Part.sound (g.P.Item.Keyed.key_of c.args.item) c.args.parts.now.items c.home-at.result c.index_mut.result.now home c.index_mut.ensures.value c.in_ok-replaced.field-0.replaced c.in_ok-replaced.ensures.replaced
 
 pub returns-in-None-clause-sound : goal.returns-in-None-clause-sound
 returns-in-None-clause-sound g c = sound_set g.P.Part.items g.P.Part.sound c.args.parts.now.items c.home-at.result c.put_in.new.part c.requires.sound c.in_ok-replaced.ensures.sound c.in_ok-replaced.ensures.front

@@ -1,11 +1,15 @@
 -- A key that isn't there takes nothing away.
 use Rattle.std.proofs.Common.{sym, ap, ◌∙◌}
-use Rattle.std.specs.FinMap.{find}
-use Rattle.shared_list.specs.Order.{key_cmp, entries}
+use Rattle.shared_list.specs.Order.{item_with}
 use Rattle.shared_list.proofs.ListLemmas.{without_absent, absent}
 use Rattle.shared_list.proofs.shared.take_from.Goals as goal
 
 pub returns-then-is_none-clause-without : goal.returns-then-is_none-clause-without
 returns-then-is_none-clause-without g c =
     sym (without_absent c.args.key.now _ (absent c.item_of.result _ c.is_none.result
-    (c.item_of.ensures ∙ ap (λ part. find key_cmp c.args.key.now (entries g.P.Item.Keyed.key_of (g.P.Part.items part))) c.deref.ensures) c.is_none.ensures c.if-is_none.true))
+    (c.item_of.ensures ∙ ap (λ part. item_with g.P.Item.Keyed.key_of c.args.key.now (g.P.Part.items part)) c.deref.ensures) c.is_none.ensures c.if-is_none.true))
+
+pub returns-then-is_none-clause-taken : goal.returns-then-is_none-clause-taken
+returns-then-is_none-clause-taken g c =
+    sym (absent c.item_of.result _ c.is_none.result
+    (c.item_of.ensures ∙ ap (λ part. item_with g.P.Item.Keyed.key_of c.args.key.now (g.P.Part.items part)) c.deref.ensures) c.is_none.ensures c.if-is_none.true)

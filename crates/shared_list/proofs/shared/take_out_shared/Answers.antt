@@ -1,7 +1,7 @@
 -- What goes out of the key's part goes out of the whole.
 use Rattle.shared_list.specs.Order.{IsHome}
 use Rattle.shared_list.specs.Parts.{parts_of}
-use Rattle.shared_list.proofs.PartLemmas.{good_here, Rises-here, has_here, without_kept, without_gone}
+use Rattle.shared_list.proofs.PartLemmas.{good_here, Rises-here, item_here, without_kept, without_gone}
 use Rattle.shared_list.proofs.shared.take_out_shared.Goals as goal
 
 pub take_from-requires-clause-some : goal.take_from-requires-clause-some
@@ -19,22 +19,22 @@ take_from-requires-clause-rising g c =
     let home : IsHome g.P.Item.Keyed.key_of c.args.key.now (parts_of g.P.Part.items c.args.parts.now.items) c.home-at.result = rw c.as_slice.ensures.value at c.home-at.ensures in
     Rises-here g.P.Item.Keyed.key_of g.P.Part.items g.P.Part.sound c.args.key.now c.args.parts.now.items c.home-at.result c.index_mut.result.now home c.index_mut.ensures.value c.requires.sound c.requires.rising
 
-pub returns-then-outcome-clause-without : goal.returns-then-outcome-clause-without
-returns-then-outcome-clause-without g c =
+pub returns-then-none_left-clause-without : goal.returns-then-none_left-clause-without
+returns-then-none_left-clause-without g c =
     let home : IsHome g.P.Item.Keyed.key_of c.args.key.now (parts_of g.P.Part.items c.args.parts.now.items) c.home-at.result = rw c.as_slice.ensures.value at c.home-at.ensures in
-    without_gone g.P.Item.Keyed.key_of g.P.Part.items g.P.Part.sound c.args.key.now c.args.parts.now.items c.home-at.result c.index_mut.result.now home c.index_mut.ensures.value c.take_from.new.part c.remove.new.self.items c.remove.ensures.items (rw c.if-outcome.true at c.in_ok-outcome.ensures.left) c.in_ok-outcome.ensures.without
+    without_gone g.P.Item.Keyed.key_of g.P.Part.items g.P.Part.sound c.args.key.now c.args.parts.now.items c.home-at.result c.index_mut.result.now home c.index_mut.ensures.value c.take_from.new.part c.remove.new.self.items c.remove.ensures.items (rw c.if-none_left.true at c.in_ok-taken.ensures.left) c.in_ok-taken.ensures.without
 
-pub returns-else-outcome-clause-without : goal.returns-else-outcome-clause-without
-returns-else-outcome-clause-without g c =
+pub returns-else-none_left-clause-without : goal.returns-else-none_left-clause-without
+returns-else-none_left-clause-without g c =
     let home : IsHome g.P.Item.Keyed.key_of c.args.key.now (parts_of g.P.Part.items c.args.parts.now.items) c.home-at.result = rw c.as_slice.ensures.value at c.home-at.ensures in
-    without_kept g.P.Item.Keyed.key_of g.P.Part.items g.P.Part.sound c.args.key.now c.args.parts.now.items c.home-at.result c.index_mut.result.now home c.index_mut.ensures.value c.take_from.new.part c.in_ok-outcome.ensures.without
+    without_kept g.P.Item.Keyed.key_of g.P.Part.items g.P.Part.sound c.args.key.now c.args.parts.now.items c.home-at.result c.index_mut.result.now home c.index_mut.ensures.value c.take_from.new.part c.in_ok-taken.ensures.without
 
-pub returns-then-outcome-clause-there : goal.returns-then-outcome-clause-there
-returns-then-outcome-clause-there g c =
+pub returns-then-none_left-clause-taken : goal.returns-then-none_left-clause-taken
+returns-then-none_left-clause-taken g c =
     let home : IsHome g.P.Item.Keyed.key_of c.args.key.now (parts_of g.P.Part.items c.args.parts.now.items) c.home-at.result = rw c.as_slice.ensures.value at c.home-at.ensures in
-    has_here g.P.Item.Keyed.key_of g.P.Part.items g.P.Part.sound c.args.key.now c.args.parts.now.items c.home-at.result c.index_mut.result.now home c.index_mut.ensures.value c.in_ok-outcome.outcome.was_there c.in_ok-outcome.ensures.there
+    item_here g.P.Item.Keyed.key_of g.P.Part.items g.P.Part.sound c.args.key.now c.args.parts.now.items c.home-at.result c.index_mut.result.now home c.index_mut.ensures.value c.in_ok-taken.field-0.taken c.in_ok-taken.ensures.taken
 
-pub returns-else-outcome-clause-there : goal.returns-else-outcome-clause-there
-returns-else-outcome-clause-there g c =
+pub returns-else-none_left-clause-taken : goal.returns-else-none_left-clause-taken
+returns-else-none_left-clause-taken g c =
     let home : IsHome g.P.Item.Keyed.key_of c.args.key.now (parts_of g.P.Part.items c.args.parts.now.items) c.home-at.result = rw c.as_slice.ensures.value at c.home-at.ensures in
-    has_here g.P.Item.Keyed.key_of g.P.Part.items g.P.Part.sound c.args.key.now c.args.parts.now.items c.home-at.result c.index_mut.result.now home c.index_mut.ensures.value c.in_ok-outcome.outcome.was_there c.in_ok-outcome.ensures.there
+    item_here g.P.Item.Keyed.key_of g.P.Part.items g.P.Part.sound c.args.key.now c.args.parts.now.items c.home-at.result c.index_mut.result.now home c.index_mut.ensures.value c.in_ok-taken.field-0.taken c.in_ok-taken.ensures.taken

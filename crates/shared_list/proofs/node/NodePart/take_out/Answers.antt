@@ -7,4 +7,4 @@ pub returns-clause-left : goal.returns-clause-left
 returns-clause-left g c =
     let parts = c.take_out_shared.new.parts in
     let long : vec_len parts ≡ length parts.items = search rules in
-    tells_left g.P.Part.items g.P.Part.sound parts.items (vec_len parts) c.is_empty.result c.in_ok-was_there.ensures.sound long c.is_empty.ensures
+    tells_left g.P.Part.items g.P.Part.sound parts.items (vec_len parts) c.is_empty.result c.in_ok-taken.ensures.sound long c.is_empty.ensures
