@@ -1,5 +1,5 @@
 -- Boards of the small city with a trip that was added: each line computes.
-use Rattle.std.specs.Prelude.{◌≡◌, ℕ, Some, None, Option, List, [], ◌∷◌, ◌×◌, refl, pos, codes}
+use Rattle.std.specs.Prelude.{◌≡◌, ℕ, Some, None, Option, List, [], ◌∷◌, refl, pos, codes}
 use Rattle.std.specs.Fmt.{digits}
 use Rattle.rt_types.specs.declared.descriptor.TripRef.{TripRef}
 use Rattle.rt_types.specs.declared.enums.StopRelation.{StopRelation}

@@ -1,5 +1,5 @@
 -- Boards of the small city: each line computes.
-use Rattle.std.specs.Prelude.{◌≡◌, ℕ, ◌+◌, Some, None, Option, List, [], ◌∷◌, length, ◌×◌, refl, pos, codes}
+use Rattle.std.specs.Prelude.{◌≡◌, ℕ, ◌+◌, Some, None, Option, List, [], ◌∷◌, length, refl, pos, codes}
 use Rattle.std.specs.Fmt.{digits}
 use Rattle.rt_types.specs.declared.enums.StopRelation.TheVariants.{Skipped}
 use Rattle.rt_types.specs.declared.enums.TripRelation.{TripRelation}
