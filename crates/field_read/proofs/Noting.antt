@@ -1,5 +1,5 @@
 -- Slots note one field after another.
-use Rattle.std.proofs.Common.{◌≡◌, ◌≢◌, ℕ, ◌+◌, ◌<◌, ◌≤◌, List, [], ◌∷◌, ◌++◌, length, get_or, min, refl, sym, ◌∙◌, ap, append-nil, arith, length-append, eqb, eqb-true, eq-eqb, Bool, true, false}
+use Rattle.std.proofs.Common.{◌≡◌, ◌≢◌, ℕ, ◌+◌, ◌<◌, ◌≤◌, List, [], ◌∷◌, ◌++◌, length, get_or, min, refl, sym, subst, ◌∙◌, ap, append-nil, arith, length-append, eqb, eqb-true, eq-eqb, Bool, true, false}
 use Rattle.std.specs.Prelude.{Some, filter_map}
 use Rattle.std.proofs.Math.ListN.{set, replicate}
 use Rattle.std.proofs.lemmas.Bool.{ne_eqb, eqb-false}
@@ -13,7 +13,7 @@ use Rattle.field_read.specs.declared.slots.Slot.{Slot}
 use Rattle.field_read.specs.declared.slots.Slots.{Slots}
 use Rattle.field_read.specs.Occurring.{IsNoted, AreNoted, payloads_under}
 
--- one field more stands under its number, and under no other
+-- one field more occurs under its number, and under no other
 payloads-same : (n : ℕ) (fields : List Field) (f : Field) → f.number ≡ n → payloads_under n (fields ++ f ∷ []) ≡ payloads_under n fields ++ f.payload ∷ []
 unfolding occurrences_of
 payloads-same n fields f e =
@@ -70,6 +70,11 @@ noted_still slots fields f h above = record {
   all = h.all;
   each = λ n any within. rw (payloads-other n fields f (λ e. omega arith)) (h.each n any within);
 }
+
+-- a slot that was found has what occurs under its number
+pub noted_at : (slots : Slots) (fields : List Field) (n : ℕ) (slot : Slot) → AreNoted slots fields → (n < length slots.slots) × ((any : Slot) → slot ≡ get_or slots.slots n any) → IsNoted slot (payloads_under n fields)
+noted_at slots fields n slot h found =
+    subst (λ s. IsNoted s (payloads_under n fields)) (sym (found.1 slot)) (h.each n slot (omega (arith, found.0, h.all)))
 
 -- what a slot's count tells
 pub noted_never : (slot : Slot) (payloads : List Payload) → IsNoted slot payloads → slot.count ≡ 0 → payloads ≡ []

@@ -1,4 +1,4 @@
--- What a kind of field is said to be under a number, by what stands there.
+-- What a kind of field is said to be under a number, by what occurs there.
 use Rattle.std.proofs.Common.{◌≡◌, ℕ, List, [], ◌∷◌, refl, sym, ◌∙◌, ap, eqb, Bool, true, false, Bor}
 use Rattle.std.specs.Prelude.{Option, Some, None, filter_map}
 use Rattle.std.specs.List.{last_or, cons_option}
@@ -43,3 +43,17 @@ occurs_once says n fields p o e is = rw (said_under says n fields, e, is) refl
 pub last_listed : {A : Type 0} (says : Payload → Option A) (n : ℕ) (fields : List Field) → last_of says n fields ≡ last_or None (occurrences_of says n fields)
 unfolding last_of occurrences_of
 last_listed says n fields = refl
+
+-- ---- what is said under a number by fields one after another
+
+pub occurs_first : {A : Type 0} (says : Payload → Option A) (n : ℕ) (left later : List Field) (f : Field) (x : A) → left ≡ f ∷ later → Some x ≡ value_under says n f → occurrences_of says n left ≡ x ∷ occurrences_of says n later
+unfolding occurrences_of
+occurs_first says n left later f x front e = rw (front, ← e) refl
+
+pub occurs_later : {A : Type 0} (says : Payload → Option A) (n : ℕ) (left later : List Field) (f : Field) → left ≡ f ∷ later → None ≡ value_under says n f → occurrences_of says n left ≡ occurrences_of says n later
+unfolding occurrences_of
+occurs_later says n left later f front e = rw (front, ← e) refl
+
+pub occurs_in_none : {A : Type 0} (says : Payload → Option A) (n : ℕ) (left : List Field) → left ≡ [] → occurrences_of says n left ≡ []
+unfolding occurrences_of
+occurs_in_none says n left e = rw e refl

@@ -4,7 +4,7 @@ use Rattle.feed_defs.specs.Rows.{Fault}
 use Rattle.field_read.specs.declared.fault.ReadFault.{ReadFault}
 use Rattle.field_read.specs.declared.fault.ReadFault.TheVariants.{Malformed, NoMemory}
 
--- the fault of the bytes that is told; want of memory tells none
+-- the fault of the bytes that is told; out of memory tells none
 abbrev pub cause_of : ReadFault → Option Fault
 cause_of (Malformed entity what kind field) = Some (record {
   entity = entity;

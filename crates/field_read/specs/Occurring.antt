@@ -1,4 +1,4 @@
--- What stands under the numbers of a message's fields.
+-- What occurs under the numbers of a message's fields.
 use Rattle.std.specs.Prelude.{◌≡◌, ℕ, ◌<◌, List, [], ◌∷◌, Option, Some, Result, Ok, Err, length, min, slice_index_or, ⊤}
 use Rattle.std.specs.List.{last_or}
 use Rattle.pb_wire_defs.specs.Field.{Payload, Field}
@@ -30,7 +30,7 @@ pub record IsNoted (slot : Slot) (payloads : List Payload) : Type 0 where
   pub count : slot.count ≡ min (length payloads) 4294967295
   pub last : last_or (Some (payload_seen slot.last)) payloads ≡ Some (payload_seen slot.last)
 
--- each slot has what stands under its number
+-- each slot has what occurs under its number
 pub record AreNoted (slots : Slots) (fields : List Field) : Type 0 where
   pub all : length slots.slots ≡ 12
   pub each : (n : ℕ) (any : Slot) → n < 12

@@ -12,10 +12,11 @@ use crate::slots::{Occurs, Slots};
 use pb_wire::PartPayload;
 use std::marker::Model;
 
-/// The fields of a message's bytes, with the slots that they fill. A contract sees the list of them.
+/// The fields of a message's bytes, with the slots that they fill. A contract sees the list of the
+/// fields.
 ///
-/// What stands once under its number is found in its slot; the bytes are gone over again only for what stands there
-/// several times.
+/// What occurs once under its number is found in its slot; the bytes are gone over again only for
+/// what occurs there several times.
 #[derive(Drop)]
 pub struct Fields<'s, 'a> {
     bytes: &'a [u8],

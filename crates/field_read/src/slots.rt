@@ -1,4 +1,4 @@
-//! What stands under each number of a message's fields.
+//! What occurs under each number of a message's fields.
 
 ghost use Rattle.std.specs.Prelude.{◌≡◌, List, [], ◌∷◌, ◌++◌};
 ghost use Rattle.pb_wire_defs.specs.Field.{Field};
@@ -28,8 +28,8 @@ struct Slot<'a> {
     last: PartPayload<'a>,
 }
 
-/// A slot for each number, which is filled while fields are read: each field is looked at once, in whatever order they
-/// come.
+/// A slot for each number, which is filled while fields are read: each field is looked at once, in
+/// whatever order they come.
 #[derive(Drop)]
 pub struct Slots<'a> {
     slots: [Slot<'a>; SLOTS],

@@ -1,5 +1,6 @@
-use Rattle.std.proofs.Common.{ℕ, ◌<◌, refl, arith}
+use Rattle.std.proofs.Common.{refl, arith}
 use Rattle.pb_wire.specs.Parts.{part_seen}
+use Rattle.field_read.specs.declared.slots.Slot.{Slot}
 use Rattle.field_read.proofs.Noting.{noted_more, noted_still}
 use Rattle.field_read.proofs.slots.Slots.note.Goals as goal
 
@@ -8,5 +9,5 @@ returns-then-number-ge-SLOTS c = λ fields h. noted_still _ fields _ h (omega ar
 
 pub returns : goal.returns
 returns c = λ fields h.
-    let below : c.args.part.now.number < 12 = omega arith in
-    noted_more _ _ fields (part_seen c.args.part.now) _ _ h below ? refl refl
+    let slot : Slot = record { count = c.saturating_add-count.result; last = c.args.part.now.payload } in
+    noted_more c.args.self.now _ fields (part_seen c.args.part.now) slot _ h c.if-number-ge-SLOTS.false c.saturating_add-count.ensures refl refl
