@@ -27,7 +27,7 @@ others-known is_known fields f e = rw (filter-append, flat_map-append, e) (appen
 
 others-unknown : (is_known : Field → Bool) (fields : List Field) (f : Field) → is_known f ≡ false → unknown_bytes_of is_known (fields ++ f ∷ []) ≡ unknown_bytes_of is_known fields ++ f.raw
 unfolding unknown_bytes_of
-others-unknown is_known fields f e = rw (filter-append, flat_map-append, e) (ap (λ bytes. _ ++ bytes) (append-nil f.raw))
+others-unknown is_known fields f e = rw (filter-append, flat_map-append, e) (ap (λ bytes. flat_map (λ field. field.raw) (filter (λ field. not (is_known field)) fields) ++ bytes) (append-nil f.raw))
 
 pub others-nil : (is_known : Field → Bool) → unknown_bytes_of is_known [] ≡ []
 unfolding unknown_bytes_of
