@@ -10,7 +10,6 @@ use Rattle.answer_defs.specs.Defined.{AsDefined, IsCause}
 use Rattle.answer_defs.proofs.Steps.{bind_given}
 use Rattle.pb_wire_defs.specs.Field.{Field}
 use Rattle.pb_wire_defs.specs.Spelling.{HasFields, IsField}
-use Rattle.pb_wire_defs.specs.Reading.{fields_of}
 use Rattle.pb_wire_defs.proofs.Found.{fields_only}
 use Rattle.feed_defs.specs.Rows.{Fault, Message, fields_in, fields_of_all, value, merged_message}
 use Rattle.feed_defs.proofs.Sifted.{each_append}

@@ -1,10 +1,10 @@
 -- A message's fields, looked at one after another.
-use Rattle.std.proofs.Common.{◌≡◌, ℕ, ◌<◌, List, [], ◌∷◌, ◌++◌, length, refl, sym, ◌∙◌, ap, append_assoc, append-nil, Bool, true, false}
-use Rattle.std.specs.Prelude.{Result, Ok, Err, filter, not}
+use Rattle.std.proofs.Common.{◌≡◌, ℕ, ◌<◌, List, [], ◌∷◌, ◌++◌, length, refl, sym, ◌∙◌, ap, append-nil, Bool, true, false}
+use Rattle.std.specs.Prelude.{Ok, filter, not}
 use Rattle.std.specs.List.{flat_map}
 use Rattle.std.proofs.lemmas.Grind.{flat_map-append}
 use Rattle.std.proofs.lemmas.List.Elements.{filter-append}
-use Rattle.pb_wire_defs.specs.Field.{Field, Fault}
+use Rattle.pb_wire_defs.specs.Field.{Field}
 use Rattle.pb_wire_defs.specs.Spelling.{AreBytes}
 use Rattle.pb_wire_defs.specs.Reading.{field_at, fields_of}
 use Rattle.pb_wire_defs.proofs.Found.{fields_found}

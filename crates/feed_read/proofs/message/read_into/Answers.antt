@@ -1,4 +1,3 @@
-use Rattle.std.proofs.Common.{sym}
 use Rattle.pb_wire_defs.proofs.Found.{fields_only}
 use Rattle.field_read.proofs.Faults.{fails_whole, passed}
 use Rattle.feed_read.proofs.Fields.{value_single, value_fault}
