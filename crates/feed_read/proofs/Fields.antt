@@ -1,15 +1,15 @@
 -- A message of the fields of one payload, and one of the fields of several.
 use Rattle.std.proofs.Common.{◌≡◌, ℕ, List, [], ◌∷◌, ◌++◌, refl, sym, ◌∙◌, ap, append_assoc, append-nil, Bool, true, false}
-use Rattle.std.specs.Prelude.{Option, Some, None, Result, Ok, Err}
+use Rattle.std.specs.Prelude.{Option, Some, None, Result, Ok, Err, MatchResult}
+use Rattle.std.specs.Result.{IsErrAnd}
 use Rattle.std.specs.Global.{Vec}
 use Rattle.std.specs.Bool.{then_some}
 use Rattle.std.proofs.lemmas.Grind.{flat_map-append}
 use Rattle.answer_defs.specs.Steps.{◌>>=◌}
-use Rattle.answer_defs.specs.Defined.{AsDefined}
+use Rattle.answer_defs.specs.Defined.{AsDefined, IsCause}
 use Rattle.answer_defs.proofs.Steps.{bind_given}
 use Rattle.pb_wire_defs.specs.Field.{Field}
 use Rattle.pb_wire_defs.specs.Spelling.{HasFields, IsField}
-use Rattle.pb_wire_defs.specs.Reading.{fields_of}
 use Rattle.pb_wire_defs.proofs.Found.{fields_only}
 use Rattle.feed_defs.specs.Rows.{Fault, Message, fields_in, fields_of_all, value, merged_message}
 use Rattle.feed_defs.proofs.Sifted.{each_append}
@@ -22,12 +22,12 @@ use Rattle.feed_read.specs.Noting.{Joins}
 
 -- bytes that spell fields have these
 pub spelled_in : (kind : Kind) (bytes : List ℕ) (fields : List Field) → HasFields bytes fields → fields_in kind bytes ≡ Ok fields
-spelled_in kind bytes fields h = rw (fields_only bytes fields h) refl
+spelled_in kind bytes fields h = rw (fields_only bytes fields h, fields_in) refl
 
 -- a message of one payload is that of its fields
 pub value_single : {M : Type 0} (m : Message M) (bytes : List ℕ) → HasFields bytes (told_fields bytes) → value m (bytes ∷ []) ≡ m.of_fields (told_fields bytes)
 unfolding value fields_of_all
-value_single m bytes h = rw (fields_only bytes (told_fields bytes) h, append-nil) refl
+value_single m bytes h = rw (spelled_in m.kind bytes (told_fields bytes) h, append-nil) refl
 
 pub value_fault : {M : Type 0} (m : Message M) (bytes : List ℕ) (f : Fault) → fields_in m.kind bytes ≡ Err f → value m (bytes ∷ []) ≡ Err f
 unfolding value fields_of_all
@@ -87,6 +87,11 @@ pub record Joining (kind : Kind) (all left : List (List ℕ)) (bytes : List ℕ)
   pub so_far : with_more done (fields_of_all kind left) ≡ fields_of_all kind all
   pub none : found ≡ false → all ≡ left
   pub some : found ≡ true → all ≡ [] → ⊥
+
+-- a fault that a `?` passes on
+pub joins_passed : (kind : Kind) (all : List (List ℕ)) (r : Result (Option (Vec ℕ)) ReadFault) (e : ReadFault) → IsErrAnd r (λ x. x ≡ e) → IsCause (fields_of_all kind all) (cause_of e) → MatchResult r (Joins kind all) (λ f. IsCause (fields_of_all kind all) (cause_of f))
+joins_passed kind all (Ok x) e is h = absurd is
+joins_passed kind all (Err y) e is h = rw is h
 
 pub joins_begin : (kind : Kind) (all : List (List ℕ)) → Joining kind all all [] false
 joins_begin kind all = record {

@@ -1,10 +1,10 @@
 -- A message's fields, looked at one after another.
-use Rattle.std.proofs.Common.{◌≡◌, ℕ, ◌<◌, List, [], ◌∷◌, ◌++◌, length, refl, sym, ◌∙◌, ap, append_assoc, append-nil, Bool, true, false}
-use Rattle.std.specs.Prelude.{Result, Ok, Err, filter, not}
+use Rattle.std.proofs.Common.{◌≡◌, ℕ, ◌<◌, List, [], ◌∷◌, ◌++◌, length, refl, sym, ◌∙◌, ap, append-nil, Bool, true, false}
+use Rattle.std.specs.Prelude.{Ok, filter, not}
 use Rattle.std.specs.List.{flat_map}
 use Rattle.std.proofs.lemmas.Grind.{flat_map-append}
 use Rattle.std.proofs.lemmas.List.Elements.{filter-append}
-use Rattle.pb_wire_defs.specs.Field.{Field, Fault}
+use Rattle.pb_wire_defs.specs.Field.{Field}
 use Rattle.pb_wire_defs.specs.Spelling.{AreBytes}
 use Rattle.pb_wire_defs.specs.Reading.{field_at, fields_of}
 use Rattle.pb_wire_defs.proofs.Found.{fields_found}
@@ -27,7 +27,7 @@ others-known is_known fields f e = rw (filter-append, flat_map-append, e) (appen
 
 others-unknown : (is_known : Field → Bool) (fields : List Field) (f : Field) → is_known f ≡ false → unknown_bytes_of is_known (fields ++ f ∷ []) ≡ unknown_bytes_of is_known fields ++ f.raw
 unfolding unknown_bytes_of
-others-unknown is_known fields f e = rw (filter-append, flat_map-append, e) (ap (λ bytes. _ ++ bytes) (append-nil f.raw))
+others-unknown is_known fields f e = rw (filter-append, flat_map-append, e) (ap (λ bytes. flat_map (λ field. field.raw) (filter (λ field. not (is_known field)) fields) ++ bytes) (append-nil f.raw))
 
 pub others-nil : (is_known : Field → Bool) → unknown_bytes_of is_known [] ≡ []
 unfolding unknown_bytes_of

@@ -4,7 +4,7 @@ use Rattle.std.specs.Prelude.{Result, Ok, Err}
 use Rattle.answer_defs.specs.Steps.{◌>>=◌}
 use Rattle.feed_defs.specs.Rows.{Fault, Message, value, values, with_entity_number, numbered_values}
 
--- the messages behind those that are there
+-- the messages after those that are there
 abbrev pub listed : {M : Type 0} → List M → Result (List M) Fault → Result (List M) Fault
 listed items told = told >>= λ xs. Ok (items ++ xs)
 

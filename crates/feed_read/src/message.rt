@@ -26,11 +26,11 @@ pub(crate) trait Message: Drop {
     fn knows(part: &Part<'_>) -> bool
         ensures { result ≡ table.is_known (part_seen part.now) };
 
-    /// A message to be filled, or want of memory.
+    /// A message to be filled, or out of memory.
     fn blank(alloc: Global) -> Result<Self, NoMemory>;
 
-    /// Makes it the message of these fields and of the bytes of those that it doesn't know; or answers with the first
-    /// fault in them.
+    /// Makes it the message of these fields and of the bytes of those that it doesn't know; or
+    /// answers with the first fault in them.
     fn fill(
         &mut self,
         alloc: Global,
@@ -41,8 +41,8 @@ pub(crate) trait Message: Drop {
         ensures { AsDefined (λ _. self.new) cause_of (table.of_fields fields.now) result };
 }
 
-/// Notes each field of the bytes in its slot, and gives the bytes of those that the message doesn't know, in order; or
-/// the first fault of the bytes.
+/// Notes each field of the bytes in its slot, and gives the bytes of those that the message doesn't
+/// know, in order; or the first fault of the bytes.
 #[inline(always)]
 pub(crate) fn note_fields<'a, M: Message>(
     alloc: Global,

@@ -1,4 +1,5 @@
-//! The kinds of fields that are messages: singular ones, merged of all their occurrences, and repeated ones.
+//! The kinds of fields that are messages: singular ones, merged of all their occurrences, and
+//! repeated ones.
 
 ghost use Rattle.std.specs.Prelude.{◌≡◌, [], ◌∷◌, MatchResult};
 ghost use Rattle.feed_defs.specs.Rows.{occurrences_of, span_in, fields_of_all, merged_message, value, values, with_entity_number, numbered_values};
@@ -11,7 +12,8 @@ use field_read::{Fields, Occurs, ReadFault, Slots, Spans};
 use rt_types::{Items, Shared};
 use std::alloc::Global;
 
-/// The most values that room is made for before the first is read: what bytes promise may be more than memory holds.
+/// The most values that room is made for before the first is read: what bytes promise may be more
+/// than memory holds.
 const MOST_ROOM: usize = 64;
 
 /// Sets the place to the singular message under this number, made of all its occurrences together.
@@ -55,7 +57,8 @@ fn merged<M: Message>(alloc: Global, payloads: Spans<'_>) -> Result<Option<M>, R
     }
 }
 
-/// The payloads one after another, if there is one, or the first fault in them: each must be fields by itself.
+/// The payloads one after another, if there is one, or the first fault in them: each must be fields by
+/// itself.
 fn joined<M: Message>(alloc: Global, payloads: Spans<'_>) -> Result<Option<Vec<u8>>, ReadFault>
     ensures { MatchResult result (Joins M.table.kind payloads.entry)
         (λ e. IsCause (fields_of_all M.table.kind payloads.entry) (cause_of e)) }
@@ -126,7 +129,8 @@ fn read_placed<M: Message>(alloc: Global, entity: u32, bytes: &[u8]) -> Result<M
     }
 }
 
-/// The messages of the repeated field with this number, whose faults tell which of them they are in.
+/// The messages of the repeated field with this number, whose faults tell which of them they are
+/// in.
 pub(crate) fn numbered<M: Message>(
     alloc: Global,
     number: u32,

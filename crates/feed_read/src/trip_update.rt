@@ -168,7 +168,8 @@ impl Message for StopProps {
 
 /// Sets the place to the event under this number, made of all its occurrences together.
 ///
-/// Most messages of a feed are events of three numbers, so one that occurs once is read by a way of its own.
+/// Most messages of a feed are events of three numbers, so one that occurs once is read by a way of
+/// its own.
 fn event(
     alloc: Global,
     number: u32,

@@ -1,12 +1,12 @@
 -- Slots note one field after another.
 use Rattle.std.proofs.Common.{◌≡◌, ◌≢◌, ℕ, ◌+◌, ◌<◌, ◌≤◌, List, [], ◌∷◌, ◌++◌, length, get_or, min, refl, sym, subst, ◌∙◌, ap, append-nil, arith, length-append, eqb, eqb-true, eq-eqb, Bool, true, false}
-use Rattle.std.specs.Prelude.{Some, filter_map}
+use Rattle.std.specs.Prelude.{Some}
 use Rattle.std.proofs.Math.ListN.{set, replicate}
 use Rattle.std.proofs.lemmas.Bool.{ne_eqb, eqb-false}
 use Rattle.std.proofs.lemmas.List.{length-set, get_or-set_same, get_or-set_other, get_or-replicate, nil_from_length}
 use Rattle.std.proofs.lemmas.List.Elements.{filter_map-append}
 use Rattle.pb_wire_defs.specs.Field.{Payload, Field}
-use Rattle.feed_defs.specs.Rows.{value_under, occurrences_of}
+use Rattle.feed_defs.specs.Rows.{occurrences_of}
 use Rattle.feed_defs.proofs.Legal.{last_or-append}
 use Rattle.pb_wire.specs.Parts.{payload_seen}
 use Rattle.field_read.specs.declared.slots.Slot.{Slot}

@@ -1,9 +1,9 @@
 -- What a kind of field is said to be under a number, by what occurs there.
-use Rattle.std.proofs.Common.{◌≡◌, ℕ, List, [], ◌∷◌, refl, sym, ◌∙◌, ap, eqb, Bool, true, false, Bor}
+use Rattle.std.proofs.Common.{◌≡◌, ℕ, List, [], ◌∷◌, refl, ap, eqb, Bool, true, false}
 use Rattle.std.specs.Prelude.{Option, Some, None, filter_map}
 use Rattle.std.specs.List.{last_or, cons_option}
 use Rattle.pb_wire_defs.specs.Field.{Payload, Field}
-use Rattle.feed_defs.specs.Rows.{value_under, occurrences_of, last_of, span_in}
+use Rattle.feed_defs.specs.Rows.{value_under, occurrences_of, last_of}
 use Rattle.field_read.specs.Occurring.{payloads_under}
 
 said_front : {A : Type 0} (says : Payload → Option A) (n : ℕ) (f : Field) (fs : List Field) → filter_map (value_under says n) fs ≡ filter_map says (payloads_under n fs) → filter_map (value_under says n) (f ∷ fs) ≡ filter_map says (payloads_under n (f ∷ fs))

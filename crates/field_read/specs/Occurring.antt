@@ -1,5 +1,5 @@
 -- What occurs under the numbers of a message's fields.
-use Rattle.std.specs.Prelude.{◌≡◌, ℕ, ◌<◌, List, [], ◌∷◌, Option, Some, Result, Ok, Err, length, min, slice_index_or, ⊤}
+use Rattle.std.specs.Prelude.{◌≡◌, ℕ, ◌<◌, List, [], ◌∷◌, Some, Ok, Err, length, min, slice_index_or, ⊤}
 use Rattle.std.specs.List.{last_or}
 use Rattle.pb_wire_defs.specs.Field.{Payload, Field}
 use Rattle.pb_wire_defs.specs.Reading.{fields_of}

@@ -1,4 +1,3 @@
-use Rattle.std.proofs.Common.{sym}
 use Rattle.pb_wire_defs.proofs.Found.{fields_only}
 use Rattle.field_read.proofs.Faults.{fails_whole, passed}
 use Rattle.feed_read.proofs.Fields.{value_single, value_fault}
@@ -15,7 +14,7 @@ pub new-requires-clause-noted : goal.new-requires-clause-noted
 new-requires-clause-noted g c = c.in_ok-unknown.ensures.noted
 
 pub fill-requires : goal.fill-requires
-fill-requires g c = rw c.new-2.ensures c.in_ok-unknown.ensures.unknown_is
+fill-requires g c = rw c.new.ensures c.in_ok-unknown.ensures.unknown_is
 
 pub returns : goal.returns
-returns g c = rw (value_single g.M.Message.table c.args.bytes.now c.in_ok-unknown.ensures.spelled, ← c.new-2.ensures) c.fill.ensures
+returns g c = rw (value_single g.M.Message.table c.args.bytes.now c.in_ok-unknown.ensures.spelled, ← c.new.ensures) c.fill.ensures
