@@ -1,5 +1,5 @@
 -- A part of what a feed holds goes from message to message by itself.
-use Rattle.std.proofs.Common.{◌≡◌, ℕ, ◌≤◌, List, [], ◌∷◌, ◌++◌, append_assoc, append-nil, Bool, true, false, cond, Option, Some, None, length, drop, map, refl, sym, ap, ◌∙◌, subst}
+use Rattle.std.proofs.Common.{◌≡◌, ℕ, List, [], ◌∷◌, ◌++◌, append_assoc, append-nil, Bool, true, false, cond, Option, Some, None, map, refl, sym, ap, ◌∙◌, subst}
 use Rattle.std.specs.Prelude.{T, filter, fold, not, if◌then◌else◌}
 use Rattle.std.specs.Option.{option_map_or}
 use Rattle.std.specs.Str.{bytes_eq}
@@ -10,9 +10,8 @@ use Rattle.std.specs.FinMap.{find, put, is_sorted, slice_cmp-IsAntisymmetric, na
 use Rattle.std.specs.FinMap.Entries.{below_all, find-put, is_sorted-where_key, same_entries}
 use Rattle.std.proofs.lemmas.Cmp.{nat_list_cmp_total}
 use Rattle.rt_types.specs.declared.message.Entity.{Entity}
-use Rattle.rt_types.specs.declared.message.FeedMessage.{FeedMessage}
 use Rattle.feed_defs.specs.declared.history.Stored.{Stored}
-use Rattle.feed_defs.specs.History.{Change, is_full, is_kept, stamp_of, changes_in, changes_with, changes_without, entities_after}
+use Rattle.feed_defs.specs.History.{Change, is_kept, changes_with, changes_without}
 use Rattle.feed_defs.proofs.Applied.{sorted_filter, sorted_changed, find-without}
 use Rattle.feed_defs.proofs.Kept.{id_cmp, left, right}
 use Rattle.shared_list.proofs.Middle.{put_middle, sorted_before, both_so}
@@ -160,6 +159,16 @@ all_listed alerts (e ∷ es) h = by_alert (all_listed (alerts ++ e ∷ []) es) (
         ∙ with_it (subst (λ xs. T (is_sorted id_cmp xs)) (sym (append_assoc alerts (e ∷ []) es)) h)
         ∙ append_assoc alerts (e ∷ []) (alerts_of es)
     by_alert with_it without_it false = without_it (sorted_fewer alerts e es h)
+
+abbrev stored_of : ℕ → Entity → Stored
+stored_of stamp e = record { entity = e; stamp = stamp }
+
+-- one with an alert is put in, as a copy of it
+pub listed_one : (next alerts : List Change) (made stored : Stored) (e : Entity) (has : Bool) → next ≡ put id_cmp made.entity.id made alerts → made ≡ stored_of stored.stamp e → e ≡ stored.entity → has ≡ has_alert stored → has ≡ true → next ≡ alerts_and alerts stored
+listed_one next alerts made stored e has is copied own told so =
+    is
+    ∙ ap (λ (s : Stored). put id_cmp s.entity.id s alerts) (copied ∙ ap (stored_of stored.stamp) own)
+    ∙ ap (λ b. if b then put id_cmp stored.entity.id stored alerts else alerts) (sym so ∙ told)
 
 each_under : (alerts : List Change) (items : List Stored) → fold alerts_and alerts items ≡ fold with_entry alerts (map under_id items)
 each_under alerts [] = refl

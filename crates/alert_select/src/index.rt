@@ -1,6 +1,6 @@
 //! The alerts of a feed.
 
-ghost use Rattle.std.specs.Prelude.{◌≡◌, List, [], map, T, if◌then◌else◌, IfOk};
+ghost use Rattle.std.specs.Prelude.{◌≡◌, List, [], map, T, if◌then◌else◌, false, IfOk};
 ghost use Rattle.std.specs.Cmp.Lexicographic.{slice_cmp};
 ghost use Rattle.std.specs.FinMap.{find, is_sorted};
 ghost use Rattle.std.specs.Option.{option_map_or};

@@ -1,5 +1,5 @@
 -- What a message goes on from.
-use Rattle.std.proofs.Common.{◌≡◌, List, [], Bool, true, false, refl, sym, ap, ◌∙◌, subst}
+use Rattle.std.proofs.Common.{◌≡◌, List, [], Bool, true, false, sym, ap, ◌∙◌, subst}
 use Rattle.std.specs.Prelude.{T, if◌then◌else◌}
 use Rattle.std.specs.FinMap.{is_sorted}
 use Rattle.feed_defs.specs.History.{Change}

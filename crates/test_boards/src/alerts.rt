@@ -145,7 +145,12 @@ fn indexes(
     first: &FeedMessage,
     second: &FeedMessage,
 ) -> Result<(AlertIndex, AlertIndex), NoMemory> {
-    let (table, index) = after(alloc, &Table::empty(alloc), &AlertIndex::empty(alloc), first)?;
+    let (table, index) = after(
+        alloc,
+        &Table::empty(alloc),
+        &AlertIndex::empty(alloc),
+        first,
+    )?;
     let (table, index) = after(alloc, &table, &index, second)?;
     let whole = AlertIndex::build(alloc, &table)?;
     Ok((index, whole))

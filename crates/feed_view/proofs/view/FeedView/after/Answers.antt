@@ -15,7 +15,7 @@ use Rattle.feed_view.proofs.view.FeedView.after.Goals as goal
 
 pub loop-entity-init : goal.loop-entity-init
 loop-entity-init c = record {
-  table = refl;
+  table = search rules;
   sorted = begun_sorted c.old.inside.table c.in_ok-table.table (is_full c.args.message) c.in_ok-table.ensures c.sound.ensures;
   alerts = begun_alerts c.old.inside.table c.old.inside.alerts c.in_ok-table.table c.in_ok-alerts.alerts (is_full c.args.message) c.in_ok-table.ensures c.in_ok-alerts.ensures c.old.invariant.2;
 }
@@ -23,10 +23,16 @@ loop-entity-init c = record {
 pub loop-entity-preserved : goal.loop-entity-preserved
 loop-entity-preserved c =
     let stored : Stored = c.in_ok-stored.stored in
+    let copy : Stored = c.in_ok-copy.field-0 in
+    let same : copy ≡ stored = c.in_ok-copy.ensures in
     let step : c.in_ok-changed.changed.table ≡ changes_with c.loop-entity.table (stored.entity.id, stored) =
-    c.in_ok-changed.ensures.table ∙ ap (λ (s : Stored). changes_with c.loop-entity.table (s.entity.id, s)) c.in_ok-copy.ensures in
+    c.in_ok-changed.ensures.table
+    ∙ ap (λ es. changes_with es (copy.entity.id, copy)) c.table-in-loop-entity.view_is
+    ∙ ap (λ (s : Stored). changes_with c.loop-entity.table (s.entity.id, s)) same in
     let before : c.in_ok-changed.changed.before ≡ find id_cmp stored.entity.id c.loop-entity.table =
-    c.in_ok-changed.ensures.before ∙ ap (λ (s : Stored). find id_cmp s.entity.id c.loop-entity.table) c.in_ok-copy.ensures in
+    c.in_ok-changed.ensures.before
+    ∙ ap (find id_cmp copy.entity.id) c.table-in-loop-entity.view_is
+    ∙ ap (λ (s : Stored). find id_cmp s.entity.id c.loop-entity.table) same in
     record {
       table = stepped c.loop-entity.table c.in_ok-changed.changed.table _ c.unwrap_or-stamp.result c.in-Some.entity stored c.loop-entity.entity-iterator.rest.items c.next.new.self.rest.items
           c.in-Some.ensures.steps.0 c.in_ok-stored.ensures step c.loop-entity.invariant.table;
