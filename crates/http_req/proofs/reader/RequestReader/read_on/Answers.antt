@@ -1,7 +1,7 @@
 use Rattle.std.proofs.Common.{◌≡◌, length, take, sym, ap, ◌∙◌, arith}
 use Rattle.std.proofs.lemmas.List.{with_items_is}
 use Rattle.http_req.proofs.HoldLemmas.{begins_at}
-use Rattle.http_req.proofs.reader.RequestReader.take.Goals as goal
+use Rattle.http_req.proofs.reader.RequestReader.read_on.Goals as goal
 
 pub returns-in-Ok-clause-answers_what_the_bytes_begin_with :
     goal.returns-in-Ok-clause-answers_what_the_bytes_begin_with
@@ -16,7 +16,7 @@ returns-in-Ok-clause-answers_what_the_bytes_begin_with g c =
     let same_room : length c.next_head.new.headers ≡ headers.len = omega arith in
     let items = with_items_is buffer c.next_head.new.buf same in
     begins_at c.args.self.now _ c.next_head.new.buf c.deref.result.now _ c.in-Head.filled c.next_head.new.headers c.deref-in-Head.result.now _ _ c.in-Head.spans c.in-Ok.request _
-    (ap (take c.self.inside.filled) c.deref_mut.ensures.value ∙ c.self.view_is)
+    (ap (λ (xs : List ℕ). take (c.self.inside.filled - c.self.inside.start) (drop c.self.inside.start xs)) c.deref_mut.ensures.value ∙ c.self.view_is)
     (c.deref.ensures.value ∙ items) items
     (c.deref-in-Head.ensures.value ∙ with_items_is headers c.next_head.new.headers same_room)
-    c.in-Head.ensures.comes.0 c.in-Head.ensures.comes.1 c.in-Ok.ensures c.pass.ensures
+    c.in-Head.ensures.comes.0 c.in-Head.ensures.comes.1 c.in-Ok.ensures (between items_now c.in-Head.spans.len c.in-Head.filled within)
