@@ -1,8 +1,9 @@
--- A head is short, and its place is right before its body.
-use Rattle.std.proofs.Common.{◌≡◌, ℕ, ◌+◌, ◌≤◌, ◌<◌, Bool, true, false, List, ◌++◌, length, codes, arith, length-append}
+-- How long a head is, and what there is once it is put right before its body.
+use Rattle.std.proofs.Common.{◌≡◌, ℕ, ◌+◌, ◌-◌, ◌≤◌, ◌<◌, Bool, true, false, List, [], ◌++◌, length, take, drop, ap, ◌∙◌, codes, arith, length-append, length-drop}
 use Rattle.std.specs.Prelude.{◌^◌}
 use Rattle.std.specs.Fmt.{decimal}
 use Rattle.std.proofs.lemmas.Fmt.{length-decimal-le}
+use Rattle.std.proofs.lemmas.List.{drop_at, drop-drop, length-take-le}
 use Rattle.http_defs.specs.declared.response.Status.{Status}
 use Rattle.http_defs.specs.declared.response.Status.TheVariants.{Ok as Success, BadRequest, NotFound, MethodNotAllowed}
 use Rattle.http_defs.specs.declared.response.BodyKind.{BodyKind}
@@ -64,3 +65,33 @@ head_short status kind size number moment close a b c =
     let connection = text_short (codes "Connection: ") (connection_text close) 12 10 (omega arith) (connection_short close) in
     let end = end_short in
     simp length-append (omega arith)
+
+-- a head that was written after nothing
+pub written_short : (old head : List ℕ) (status : Status) (kind : BodyKind) (size number moment : ℕ) (close : Bool) → old ≡ []
+    → head ≡ old ++ head_bytes status kind size number moment close → size < 2 ^ 64 → number < 2 ^ 64 → moment < 2 ^ 64 → length head ≤ 224
+written_short old head status kind size number moment close empty is a b c =
+    let all = head_bytes status kind size number moment close in
+    let short = head_short status kind size number moment close a b c in
+    omega (arith, ap length is, length-append old all, ap length empty)
+
+-- bytes in whose first ones, of which there is room for some, others were put right before those that follow
+abbrev pub put_in : ℕ → ℕ → List ℕ → List ℕ → List ℕ
+put_in room n bytes head = take (room - n) bytes ++ (head ++ drop (room - (room - n)) (drop (room - n) bytes))
+
+pub put_length : (room n : ℕ) (bytes head : List ℕ) → n ≡ length head → n ≤ room → room ≤ length bytes → length (put_in room n bytes head) ≡ length bytes
+put_length room n bytes head long low high =
+    let rest = drop (room - (room - n)) (drop (room - n) bytes) in
+    omega (
+      arith,
+      length-append (take (room - n) bytes) (head ++ rest),
+      length-append head rest,
+      length-take-le (room - n) bytes (omega arith),
+      length-drop (room - (room - n)) (drop (room - n) bytes),
+      length-drop (room - n) bytes,
+    )
+
+pub put_before : (room n : ℕ) (bytes head : List ℕ) → n ≡ length head → n ≤ room → room ≤ length bytes → drop (room - n) (put_in room n bytes head) ≡ head ++ drop room bytes
+put_before room n bytes head long low high =
+    let whole : room - n + (room - (room - n)) ≡ room = omega arith in
+    drop_at (take (room - n) bytes) _ (room - n) (length-take-le (room - n) bytes (omega arith))
+    ∙ ap (λ rest. head ++ rest) (drop-drop (room - (room - n)) (room - n) bytes ∙ ap (λ m. drop m bytes) whole)

@@ -6,6 +6,7 @@ ghost use Rattle.http_defs.specs.Responses.{allow_line, connection_text, crlf, h
 use crate::NoMemory;
 use http_defs::{BodyKind, Status};
 use itoa::Buffer;
+use std::alloc::Global;
 
 /// The most bytes of a head: of each line its longest text, and numbers of 20 digits.
 pub const LONGEST_HEAD: usize = 224;
@@ -84,16 +85,15 @@ pub fn put_head(
     ensures makes_the_response { IfOk result (λ start. drop start bytes.new.items
         ≡ response status body_kind (drop LONGEST_HEAD bytes.old.items) number moment close) }
 {
-    let mut head = Vec::with_capacity(*bytes.allocator(), LONGEST_HEAD)?;
     let size = (bytes.len() - LONGEST_HEAD) as u64;
-    push_head(
+    let head = head_of(
+        *bytes.allocator(),
         status_of(status),
         body_kind,
         size,
         number,
         moment,
         close,
-        &mut head,
     )?;
     let start = LONGEST_HEAD - head.len();
     bytes[start..LONGEST_HEAD].copy_from_slice(head.as_slice());
@@ -199,7 +199,26 @@ fn push_allowed(status: Status, out: &mut Vec<u8>) -> Result<(), NoMemory>
     }
 }
 
-/// Appends the head of a response with a body of that size.
+/// The head of a response with a body of that size.
+fn head_of(
+    alloc: Global,
+    status: Status,
+    kind: BodyKind,
+    size: u64,
+    number: u64,
+    moment: u64,
+    close: bool,
+) -> Result<Vec<u8>, NoMemory>
+    ensures written { IfOk result (λ head. head.items
+        ≡ head_bytes status kind size number moment close) }
+    ensures short { IfOk result (λ head. length head.items ≤ LONGEST_HEAD) }
+{
+    let mut head = Vec::with_capacity(alloc, LONGEST_HEAD)?;
+    push_head(status, kind, size, number, moment, close, &mut head)?;
+    Ok(head)
+}
+
+/// Appends it, or as much of it as memory allows.
 fn push_head(
     status: Status,
     kind: BodyKind,
