@@ -5,7 +5,8 @@ use Rattle.std.specs.List.{copy_within}
 use Rattle.std.specs.Io.KnownBytes.{Consumes, Keeps, IsAtEnd}
 use Rattle.std.proofs.KnownBytes.{Consumes-nil, Consumes-trans, Consumes-kept}
 use Rattle.std.proofs.lemmas.Bool.Decides.{nat_tests}
-use Rattle.std.proofs.lemmas.List.{drop-take, take-append-le, take-take, length-take-le}
+use Rattle.std.proofs.lemmas.List.{drop-drop, take-append-le, take-take, length-take-le}
+use Rattle.std.proofs.lemmas.Slice.{between_is}
 use Rattle.std.proofs.Common.{length-drop}
 use Rattle.std.proofs.Math.Seq.{take-add}
 use Rattle.httparse.specs.declared.spans.HeaderSpan.{HeaderSpan}
@@ -104,14 +105,11 @@ shifted xs i j low high =
     let long : length (take n (drop i xs)) ≡ n = length-take-le n (drop i xs) enough in
     take-append-le n (take n (drop i xs)) _ (omega arith) ∙ take-take n n (drop i xs) (omega arith)
 
--- the bytes between two places, as the first ones without those before them
-pub between : (xs : List ℕ) (i j : ℕ) → i ≤ j → take (j - i) (drop i xs) ≡ drop i (take j xs)
-between xs i j low =
-    let at : i + (j - i) ≡ j = omega arith in
-    sym (drop-take i (j - i) xs) ∙ ap (λ k. drop i (take k xs)) at
+-- what is between two places once the first of them moved on
+pub moved_on : (xs : List ℕ) (i j n : ℕ) → take (j - (i + n)) (drop (i + n) xs) ≡ drop n (take (j - i) (drop i xs))
+moved_on xs i j n = between_is xs (i + n) j ∙ sym (drop-drop n i (take j xs)) ∙ ap (drop n) (sym (between_is xs i j))
 
--- the request of the head that the bytes held begin with, where held bytes and headers are seen under
--- other names
+-- the request of the head that the bytes held begin with, where these and the headers are seen under other names
 pub begins_held : (held buf : List ℕ) (headers seen_headers : List HeaderSpan) (left : Option (List ℕ)) (spans : RequestSpans) (r : Request)
     (rest : List ℕ) → buf ≡ held → seen_headers ≡ headers → StandsAt buf headers spans
     → ((head : RequestHead) → IsRequestAt buf seen_headers spans head → r ≡ request_of head) → rest ≡ drop spans.len held
@@ -122,8 +120,11 @@ begins_held held buf headers seen_headers left spans r rest same spanned s told 
   record {
     head = s.head;
     begins = record {
-      reads = (s.at.reads.0, append-nil held ∙ sym same ∙ s.at.reads.1
-          ∙ ap (λ xs. print_request s.head ++ xs) (ap (drop spans.len) same ∙ sym behind));
+      reads = (
+        s.at.reads.0,
+        append-nil held ∙ sym same ∙ s.at.reads.1
+            ∙ ap (λ xs. print_request s.head ++ xs) (ap (drop spans.len) same ∙ sym behind),
+      );
       short = s.short;
     };
     is = told s.head (subst (λ (hs : List HeaderSpan). IsRequestAt buf hs spans s.head) (sym spanned) s.at);
