@@ -1,7 +1,8 @@
 #!/usr/bin/env bash
-# The example as a whole: a sender of trams, a folder with a notice, a hub that takes both, and what it answers. Ends by
-# itself, with status 0 exactly where each answer is as it should be. HUB names the program, where it is not ./hub.
-# Needs curl and python3; where protoc is installed, the combined feed is read by it.
+# The example as a whole: a sender of trams, a folder with a notice, a hub that takes both, and what it answers; at the
+# end the sender falls silent, and its delays go away in a quarter of a minute. Ends by itself, with status 0 exactly
+# where each answer is as it should be. HUB names the program, where it is not ./hub. Needs curl and python3; where
+# protoc is installed, the combined feed is read by it.
 set -euo pipefail
 top=$(cd "$(dirname "$0")/../.." && pwd)
 . "$top/samples/serve/functions.sh"
@@ -12,7 +13,7 @@ build_hub
 samples/serve/send.py samples/serve/hub.toml spool "$work/spool" alert
 start_sender
 show_scene late skipped canceled added unmatched
-start_hub hub "$(notices_from "$work/spool")" "$(trams_from "$sender_address")"
+start_hub hub "$(notices_from "$work/spool")" "$(trams_from "$sender_address")" 's/^max_age = .*/max_age = 15/'
 echo "the hub listens on $hub_address"
 wait_for has_accepted "$hub_address" notices trams
 
@@ -59,6 +60,17 @@ fi
 printf '\n== GET /board/city/NO\n'
 curl -sS --max-time 5 -w '%{http_code}\n' "http://$hub_address/board/city/NO" | tee "$work/answer"
 has '^404$'
+
+# has_aged: whether the board of Market, which is kept in the file `answer`, has nothing of what the sender said.
+has_aged() {
+  curl -fsS --max-time 5 -o "$work/answer" "http://$hub_address/board/city/ST" || return 1
+  ! grep -qP '\t(live|skipped|canceled|added)\t' "$work/answer"
+}
+
+stop_process "$sender_process"
+wait_for has_aged
+printf '\n== GET /board/city/ST, once the sender was silent for 15 seconds\n' && cat "$work/answer"
+has '^\d+\t\d+\t-\tscheduled\t7\t'
 
 kill -0 "$hub_process" || fail "the hub has ended"
 printf '\nall came back as it should\n'

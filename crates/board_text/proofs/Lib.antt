@@ -1,2 +1,3 @@
 pub mod Tabs
 pub mod Members
+pub mod Plain

@@ -1,6 +1,7 @@
 //! A list of alerts as text.
 
 ghost use Rattle.std.specs.Prelude.{◌≡◌, [], ◌∷◌, ◌++◌, OnOk, OnErr};
+ghost use Rattle.std.specs.Io.{StartsWith};
 ghost use Rattle.std.specs.List.{flat_map};
 ghost use Rattle.board_text_defs.specs.Alerts.{feed_name, signed, alert_columns, alert_line, alerts_text};
 ghost use Rattle.board_text_defs.specs.Lines.{line_of_fields, number_or_dash};
@@ -20,16 +21,19 @@ pub fn alerts_text(view: &HubView, rows: &[AlertRow], out: &mut Vec<u8>) -> Resu
         (out.new.items ≡ out.old.items ++ alerts_text view.now.plans.feeds rows.now) }
     ensures kept { OnErr result (out.new.items ≡ out.old.items) }
 {
-    // Made aside, since a line that fails leaves a part of itself.
-    let mut text = Vec::new(*out.allocator());
-    push_alerts(view.plans().feeds(), rows, &mut text)?;
-    out.extend_from_slice(text.as_slice())
+    let before = out.len();
+    let written = push_alerts(view.plans().feeds(), rows, out);
+    if written.is_err() {
+        out.truncate(before);
+    }
+    written
 }
 
 /// Appends the list, or as much of it as memory allows.
 #[tactic(auto, unfolding(board_text_defs::specs::Alerts::alerts_text))]
 fn push_alerts(feeds: &[NamedFeed], rows: &[AlertRow], out: &mut Vec<u8>) -> Result<(), NoMemory>
-    ensures { OnOk result (out.new.items ≡ out.old.items ++ alerts_text feeds.now rows.now) }
+    ensures written { OnOk result (out.new.items ≡ out.old.items ++ alerts_text feeds.now rows.now) }
+    ensures begins { StartsWith out.new.items out.old.items }
 {
     push_columns(out)?;
     push_rows(feeds, rows, out)
@@ -37,15 +41,17 @@ fn push_alerts(feeds: &[NamedFeed], rows: &[AlertRow], out: &mut Vec<u8>) -> Res
 
 /// Appends the line with the names of the columns.
 fn push_columns(out: &mut Vec<u8>) -> Result<(), NoMemory>
-    ensures { OnOk result (out.new.items ≡ out.old.items ++ line_of_fields alert_columns) }
+    ensures written { OnOk result (out.new.items ≡ out.old.items ++ line_of_fields alert_columns) }
+    ensures begins { StartsWith out.new.items out.old.items }
 {
     push_line(&["feed", "id", "cause", "effect", "header"], out)
 }
 
 /// Appends a line for each row.
 fn push_rows(feeds: &[NamedFeed], rows: &[AlertRow], out: &mut Vec<u8>) -> Result<(), NoMemory>
-    ensures { OnOk result
+    ensures written { OnOk result
         (out.new.items ≡ out.old.items ++ flat_map (alert_line feeds.now) rows.now) }
+    ensures begins { StartsWith out.new.items out.old.items }
 {
     for row in rows {
         push_row(feeds, row, out)?;
@@ -55,7 +61,8 @@ fn push_rows(feeds: &[NamedFeed], rows: &[AlertRow], out: &mut Vec<u8>) -> Resul
 
 /// Appends the line of a row.
 fn push_row(feeds: &[NamedFeed], row: &AlertRow, out: &mut Vec<u8>) -> Result<(), NoMemory>
-    ensures { OnOk result (out.new.items ≡ out.old.items ++ alert_line feeds.now row.now) }
+    ensures written { OnOk result (out.new.items ≡ out.old.items ++ alert_line feeds.now row.now) }
+    ensures begins { StartsWith out.new.items out.old.items }
 {
     let (mut cause, mut effect) = (Buffer::new(), Buffer::new());
     push_cells(
@@ -75,8 +82,9 @@ fn push_cells<'a>(
     row: &'a AlertRow,
     out: &mut Vec<u8>,
 ) -> Result<(), NoMemory>
-    ensures { OnOk result (out.new.items ≡ out.old.items
+    ensures written { OnOk result (out.new.items ≡ out.old.items
         ++ line_of_fields (feed.now ∷ row.now.id ∷ cause.now ∷ effect.now ∷ row.now.header ∷ [])) }
+    ensures begins { StartsWith out.new.items out.old.items }
 {
     push_line(
         &[feed, row.id.as_str(), cause, effect, row.header.as_str()],

@@ -1,6 +1,7 @@
 //! A board as text.
 
 ghost use Rattle.std.specs.Prelude.{◌≡◌, [], ◌∷◌, ◌++◌, OnOk, OnErr, codes};
+ghost use Rattle.std.specs.Io.{StartsWith};
 ghost use Rattle.std.specs.List.{flat_map};
 ghost use Rattle.board_text_defs.specs.Lines.{line_of_fields};
 ghost use Rattle.board_text_defs.specs.BoardText.{board_text, board_columns, row_line};
@@ -20,17 +21,20 @@ pub fn board_text(stop: &str, name: &str, rows: &[Row], out: &mut Vec<u8>) -> Re
         (out.new.items ≡ out.old.items ++ board_text stop.now name.now rows.now) }
     ensures kept { OnErr result (out.new.items ≡ out.old.items) }
 {
-    // Made aside, since a line that fails leaves a part of itself.
-    let mut text = Vec::new(*out.allocator());
-    push_board(stop, name, rows, &mut text)?;
-    out.extend_from_slice(text.as_slice())
+    let before = out.len();
+    let written = push_board(stop, name, rows, out);
+    if written.is_err() {
+        out.truncate(before);
+    }
+    written
 }
 
 /// Appends the board, or as much of it as memory allows.
 #[tactic(auto, unfolding(board_text_defs::specs::BoardText::board_text))]
 fn push_board(stop: &str, name: &str, rows: &[Row], out: &mut Vec<u8>) -> Result<(), NoMemory>
-    ensures { OnOk result
+    ensures written { OnOk result
         (out.new.items ≡ out.old.items ++ board_text stop.now name.now rows.now) }
+    ensures begins { StartsWith out.new.items out.old.items }
 {
     push_title(stop, name, out)?;
     push_columns(out)?;
@@ -39,15 +43,17 @@ fn push_board(stop: &str, name: &str, rows: &[Row], out: &mut Vec<u8>) -> Result
 
 /// Appends the line with the stop.
 fn push_title<'a>(stop: &'a str, name: &'a str, out: &mut Vec<u8>) -> Result<(), NoMemory>
-    ensures { OnOk result (out.new.items
+    ensures written { OnOk result (out.new.items
         ≡ out.old.items ++ line_of_fields (codes "stop" ∷ stop.now ∷ name.now ∷ [])) }
+    ensures begins { StartsWith out.new.items out.old.items }
 {
     push_line(&["stop", stop, name], out)
 }
 
 /// Appends the line with the names of the columns.
 fn push_columns(out: &mut Vec<u8>) -> Result<(), NoMemory>
-    ensures { OnOk result (out.new.items ≡ out.old.items ++ line_of_fields board_columns) }
+    ensures written { OnOk result (out.new.items ≡ out.old.items ++ line_of_fields board_columns) }
+    ensures begins { StartsWith out.new.items out.old.items }
 {
     push_line(
         &[
@@ -67,7 +73,8 @@ fn push_columns(out: &mut Vec<u8>) -> Result<(), NoMemory>
 
 /// Appends a line for each row.
 fn push_rows(rows: &[Row], out: &mut Vec<u8>) -> Result<(), NoMemory>
-    ensures { OnOk result (out.new.items ≡ out.old.items ++ flat_map row_line rows.now) }
+    ensures written { OnOk result (out.new.items ≡ out.old.items ++ flat_map row_line rows.now) }
+    ensures begins { StartsWith out.new.items out.old.items }
 {
     for row in rows {
         push_row(row, out)?;
@@ -77,7 +84,8 @@ fn push_rows(rows: &[Row], out: &mut Vec<u8>) -> Result<(), NoMemory>
 
 /// Appends the line of a row.
 fn push_row(row: &Row, out: &mut Vec<u8>) -> Result<(), NoMemory>
-    ensures { OnOk result (out.new.items ≡ out.old.items ++ row_line row.now) }
+    ensures written { OnOk result (out.new.items ≡ out.old.items ++ row_line row.now) }
+    ensures begins { StartsWith out.new.items out.old.items }
 {
     let (mut expected, mut scheduled, mut delay) = (Buffer::new(), Buffer::new(), Buffer::new());
     push_cells(
@@ -97,8 +105,9 @@ fn push_cells<'a>(
     row: &'a Row,
     out: &mut Vec<u8>,
 ) -> Result<(), NoMemory>
-    ensures { OnOk result (out.new.items ≡ out.old.items
+    ensures written { OnOk result (out.new.items ≡ out.old.items
         ++ line_of_fields (expected.now ∷ scheduled.now ∷ delay.now ∷ worded row.now)) }
+    ensures begins { StartsWith out.new.items out.old.items }
 {
     let state: &'a str = word_of(row.state);
     push_line(

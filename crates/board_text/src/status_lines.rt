@@ -2,6 +2,7 @@
 
 ghost use Rattle.std.specs.Prelude.{◌≡◌, [], ◌∷◌, ◌++◌, codes, OnOk, OnErr};
 ghost use Rattle.std.specs.Fmt.{decimal};
+ghost use Rattle.std.specs.Io.{StartsWith};
 ghost use Rattle.std.specs.List.{flat_map};
 ghost use Rattle.board_defs.specs.Views.{folds_of};
 ghost use Rattle.board_text_defs.specs.Lines.{line_of_fields};
@@ -20,17 +21,20 @@ pub fn status_text(view: &HubView, out: &mut Vec<u8>) -> Result<(), NoMemory>
         (out.new.items ≡ out.old.items ++ status_text view.now.plans.feeds (folds_of view.now)) }
     ensures kept { OnErr result (out.new.items ≡ out.old.items) }
 {
-    // Made aside, since a line that fails leaves a part of itself.
-    let mut text = Vec::new(*out.allocator());
-    push_status(view, &mut text)?;
-    out.extend_from_slice(text.as_slice())
+    let before = out.len();
+    let written = push_status(view, out);
+    if written.is_err() {
+        out.truncate(before);
+    }
+    written
 }
 
 /// Appends the status, or as much of it as memory allows.
 #[tactic(auto, unfolding(board_text_defs::specs::Status::status_text))]
 fn push_status(view: &HubView, out: &mut Vec<u8>) -> Result<(), NoMemory>
-    ensures { OnOk result
+    ensures written { OnOk result
         (out.new.items ≡ out.old.items ++ status_text view.now.plans.feeds (folds_of view.now)) }
+    ensures begins { StartsWith out.new.items out.old.items }
 {
     view.sound();
     push_entries(view.entries(), out)?;
@@ -40,8 +44,9 @@ fn push_status(view: &HubView, out: &mut Vec<u8>) -> Result<(), NoMemory>
 
 /// Appends the line with how many messages were accepted.
 fn push_entries(entries: u64, out: &mut Vec<u8>) -> Result<(), NoMemory>
-    ensures { OnOk result (out.new.items ≡ out.old.items
+    ensures written { OnOk result (out.new.items ≡ out.old.items
         ++ line_of_fields (codes "entries" ∷ decimal entries ∷ [])) }
+    ensures begins { StartsWith out.new.items out.old.items }
 {
     let mut buffer = Buffer::new();
     push_pair(buffer.format(entries), out)
@@ -49,22 +54,25 @@ fn push_entries(entries: u64, out: &mut Vec<u8>) -> Result<(), NoMemory>
 
 /// The same of a number that is spelled already.
 fn push_pair<'a>(entries: &'a str, out: &mut Vec<u8>) -> Result<(), NoMemory>
-    ensures { OnOk result (out.new.items ≡ out.old.items
+    ensures written { OnOk result (out.new.items ≡ out.old.items
         ++ line_of_fields (codes "entries" ∷ entries.now ∷ [])) }
+    ensures begins { StartsWith out.new.items out.old.items }
 {
     push_line(&["entries", entries], out)
 }
 
 /// Appends the line with the names of the columns.
 fn push_columns(out: &mut Vec<u8>) -> Result<(), NoMemory>
-    ensures { OnOk result (out.new.items ≡ out.old.items ++ line_of_fields status_columns) }
+    ensures written { OnOk result (out.new.items ≡ out.old.items ++ line_of_fields status_columns) }
+    ensures begins { StartsWith out.new.items out.old.items }
 {
     push_line(&["feed", "accepted", "last", "entities"], out)
 }
 
 /// Appends a line for each feed.
 fn push_feeds(feeds: HubFeeds<'_>, out: &mut Vec<u8>) -> Result<(), NoMemory>
-    ensures { OnOk result (out.new.items ≡ out.old.items ++ flat_map status_line feeds.entry) }
+    ensures written { OnOk result (out.new.items ≡ out.old.items ++ flat_map status_line feeds.entry) }
+    ensures begins { StartsWith out.new.items out.old.items }
 {
     for feed in feeds {
         push_feed(&feed, out)?;
@@ -74,7 +82,8 @@ fn push_feeds(feeds: HubFeeds<'_>, out: &mut Vec<u8>) -> Result<(), NoMemory>
 
 /// Appends the line of a feed.
 fn push_feed(feed: &HubFeed<'_>, out: &mut Vec<u8>) -> Result<(), NoMemory>
-    ensures { OnOk result (out.new.items ≡ out.old.items ++ status_line feed.now) }
+    ensures written { OnOk result (out.new.items ≡ out.old.items ++ status_line feed.now) }
+    ensures begins { StartsWith out.new.items out.old.items }
 {
     let view = feed.view();
     let (mut count, mut stamp, mut entities) = (Buffer::new(), Buffer::new(), Buffer::new());
@@ -95,8 +104,9 @@ fn push_cells<'a>(
     entities: &'a str,
     out: &mut Vec<u8>,
 ) -> Result<(), NoMemory>
-    ensures { OnOk result (out.new.items ≡ out.old.items
+    ensures written { OnOk result (out.new.items ≡ out.old.items
         ++ line_of_fields (name.now ∷ count.now ∷ stamp.now ∷ entities.now ∷ [])) }
+    ensures begins { StartsWith out.new.items out.old.items }
 {
     push_line(&[name, count, stamp, entities], out)
 }

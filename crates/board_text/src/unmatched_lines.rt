@@ -1,6 +1,7 @@
 //! A list of unmatched trips as text.
 
 ghost use Rattle.std.specs.Prelude.{◌≡◌, [], ◌∷◌, ◌++◌, OnOk, OnErr};
+ghost use Rattle.std.specs.Io.{StartsWith};
 ghost use Rattle.std.specs.List.{flat_map};
 ghost use Rattle.board_text_defs.specs.Lines.{line_of_fields};
 ghost use Rattle.board_text_defs.specs.UnmatchedText.{why_word, kind_word, unmatched_columns, unmatched_line, unmatched_text};
@@ -20,10 +21,12 @@ pub fn unmatched_text(view: &HubView, rows: &[Unmatched], out: &mut Vec<u8>) -> 
         (out.new.items ≡ out.old.items ++ unmatched_text view.now.plans.feeds rows.now) }
     ensures kept { OnErr result (out.new.items ≡ out.old.items) }
 {
-    // Made aside, since a line that fails leaves a part of itself.
-    let mut text = Vec::new(*out.allocator());
-    push_unmatched(view.plans().feeds(), rows, &mut text)?;
-    out.extend_from_slice(text.as_slice())
+    let before = out.len();
+    let written = push_unmatched(view.plans().feeds(), rows, out);
+    if written.is_err() {
+        out.truncate(before);
+    }
+    written
 }
 
 /// Appends the list, or as much of it as memory allows.
@@ -33,7 +36,8 @@ fn push_unmatched(
     rows: &[Unmatched],
     out: &mut Vec<u8>,
 ) -> Result<(), NoMemory>
-    ensures { OnOk result (out.new.items ≡ out.old.items ++ unmatched_text feeds.now rows.now) }
+    ensures written { OnOk result (out.new.items ≡ out.old.items ++ unmatched_text feeds.now rows.now) }
+    ensures begins { StartsWith out.new.items out.old.items }
 {
     push_columns(out)?;
     push_rows(feeds, rows, out)
@@ -41,15 +45,17 @@ fn push_unmatched(
 
 /// Appends the line with the names of the columns.
 fn push_columns(out: &mut Vec<u8>) -> Result<(), NoMemory>
-    ensures { OnOk result (out.new.items ≡ out.old.items ++ line_of_fields unmatched_columns) }
+    ensures written { OnOk result (out.new.items ≡ out.old.items ++ line_of_fields unmatched_columns) }
+    ensures begins { StartsWith out.new.items out.old.items }
 {
     push_line(&["feed", "id", "kind", "reason"], out)
 }
 
 /// Appends a line for each row.
 fn push_rows(feeds: &[NamedFeed], rows: &[Unmatched], out: &mut Vec<u8>) -> Result<(), NoMemory>
-    ensures { OnOk result
+    ensures written { OnOk result
         (out.new.items ≡ out.old.items ++ flat_map (unmatched_line feeds.now) rows.now) }
+    ensures begins { StartsWith out.new.items out.old.items }
 {
     for row in rows {
         push_row(feed_name(feeds, row.feed), row, out)?;
@@ -59,9 +65,10 @@ fn push_rows(feeds: &[NamedFeed], rows: &[Unmatched], out: &mut Vec<u8>) -> Resu
 
 /// Appends the line of a row of the feed of that name.
 fn push_row<'a>(feed: &'a str, row: &'a Unmatched, out: &mut Vec<u8>) -> Result<(), NoMemory>
-    ensures { OnOk result (out.new.items ≡ out.old.items
+    ensures written { OnOk result (out.new.items ≡ out.old.items
         ++ line_of_fields (feed.now ∷ row.now.id ∷ kind_word row.now.vehicle ∷ why_word row.now.why
         ∷ [])) }
+    ensures begins { StartsWith out.new.items out.old.items }
 {
     let kind: &'a str = kind_of(row.vehicle);
     let why: &'a str = word_of(row.why);

@@ -5,7 +5,8 @@ use Rattle.std.specs.List.{copy_within}
 use Rattle.std.specs.Io.KnownBytes.{Consumes, Keeps, IsAtEnd}
 use Rattle.std.proofs.KnownBytes.{Consumes-nil, Consumes-trans, Consumes-kept}
 use Rattle.std.proofs.lemmas.Bool.Decides.{nat_tests}
-use Rattle.std.proofs.lemmas.List.{drop-take, take-append-le, take-take, length-take-le}
+use Rattle.std.proofs.lemmas.List.{drop-drop, take-append-le, take-take, length-take-le}
+use Rattle.std.proofs.lemmas.Slice.{between_is}
 use Rattle.std.proofs.Common.{length-drop}
 use Rattle.std.proofs.Math.Seq.{take-add}
 use Rattle.httparse.specs.declared.spans.HeaderSpan.{HeaderSpan}
@@ -96,15 +97,39 @@ end_cause filled before after h = by (filled == 0)
     by true = h
     by false = h
 
--- the bytes behind a place, moved to the front
-pub shifted : (xs : List ℕ) (i j : ℕ) → i ≤ j → j ≤ length xs → take (j - i) (copy_within xs i j 0) ≡ drop i (take j xs)
+-- the bytes between two places, moved to the front
+pub shifted : (xs : List ℕ) (i j : ℕ) → i ≤ j → j ≤ length xs → take (j - i) (copy_within xs i j 0) ≡ take (j - i) (drop i xs)
 shifted xs i j low high =
     let n = j - i in
-    let at : i + n ≡ j = omega arith in
     let enough : n ≤ length (drop i xs) = omega (arith, length-drop i xs) in
     let long : length (take n (drop i xs)) ≡ n = length-take-le n (drop i xs) enough in
-    take-append-le n (take n (drop i xs)) _ (omega arith) ∙ take-take n n (drop i xs) (omega arith) ∙ sym (drop-take i n xs)
-    ∙ ap (λ k. drop i (take k xs)) at
+    take-append-le n (take n (drop i xs)) _ (omega arith) ∙ take-take n n (drop i xs) (omega arith)
+
+-- what is between two places once the first of them moved on
+pub moved_on : (xs : List ℕ) (i j n : ℕ) → take (j - (i + n)) (drop (i + n) xs) ≡ drop n (take (j - i) (drop i xs))
+moved_on xs i j n = between_is xs (i + n) j ∙ sym (drop-drop n i (take j xs)) ∙ ap (drop n) (sym (between_is xs i j))
+
+-- the request of the head that the bytes held begin with, where these and the headers are seen under other names
+pub begins_held : (held buf : List ℕ) (headers seen_headers : List HeaderSpan) (left : Option (List ℕ)) (spans : RequestSpans) (r : Request)
+    (rest : List ℕ) → buf ≡ held → seen_headers ≡ headers → StandsAt buf headers spans
+    → ((head : RequestHead) → IsRequestAt buf seen_headers spans head → r ≡ request_of head) → rest ≡ drop spans.len held
+    → (bytes : List ℕ) × Consumes left left bytes × Begins (held ++ bytes) r rest
+begins_held held buf headers seen_headers left spans r rest same spanned s told behind = (
+  [],
+  Consumes-nil left,
+  record {
+    head = s.head;
+    begins = record {
+      reads = (
+        s.at.reads.0,
+        append-nil held ∙ sym same ∙ s.at.reads.1
+            ∙ ap (λ xs. print_request s.head ++ xs) (ap (drop spans.len) same ∙ sym behind),
+      );
+      short = s.short;
+    };
+    is = told s.head (subst (λ (hs : List HeaderSpan). IsRequestAt buf hs spans s.head) (sym spanned) s.at);
+  },
+)
 
 -- the request of the head that the buffer begins with, where the buffer, the bytes held and the spans
 -- are seen under other names

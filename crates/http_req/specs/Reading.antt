@@ -17,8 +17,9 @@ use Rattle.http_req.specs.declared.reader.Taken.TheVariants.{Request, End, Bad, 
 
 -- a reader's buffer has room for the longest head and for its fields
 pub record IsReader
-    (buffer : Vec ℕ Global) (filled : ℕ) (headers : Vec HeaderSpan Global) : Type 0 where
+    (buffer : Vec ℕ Global) (start filled : ℕ) (headers : Vec HeaderSpan Global) : Type 0 where
   pub full : vec_len buffer ≡ 8192
+  pub within : start ≤ filled
   pub fits : filled ≤ 8192
   pub room : vec_len headers ≡ 2731
 

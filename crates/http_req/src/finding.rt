@@ -1,9 +1,9 @@
 //! Heads in bytes that were read.
-ghost use Rattle.std.specs.Prelude.{◌≡◌, ◌≤◌, List, length};
+ghost use Rattle.std.specs.Prelude.{◌≡◌, ◌≤◌, List, length, IfSome};
 ghost use Rattle.httparse.specs.declared.spans.HeaderSpan.{HeaderSpan};
 ghost use Rattle.http_defs.specs.Requests.{NoHead};
 ghost use Rattle.http_req.specs.Progress.{progress_of};
-ghost use Rattle.http_req.specs.Reading.{FoundIs};
+ghost use Rattle.http_req.specs.Reading.{FoundIs, StandsAt};
 
 use crate::progress::Progress;
 use httparse::Status;
@@ -23,6 +23,18 @@ pub(crate) enum Found {
     More,
     /// No head, whatever follows.
     Never,
+}
+
+/// The head that stands whole at the front of some bytes.
+pub(crate) fn head_in(bytes: &[u8], headers: &mut [HeaderSpan]) -> Option<RequestSpans>
+    requires fits { length bytes.now ≤ 8192 }
+    requires room { 2731 ≤ length headers.old }
+    ensures { IfSome result (StandsAt bytes.now headers.new) }
+{
+    match look(Progress::START.after(bytes), bytes, headers) {
+        Found::Head(spans) => Some(spans),
+        Found::More | Found::Never => None,
+    }
 }
 
 /// Looks for a head at the front of the bytes read so far.

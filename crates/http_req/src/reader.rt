@@ -1,10 +1,10 @@
 //! The reader of a connection's requests.
-ghost use Rattle.std.specs.Prelude.{◌≡◌, ◌≤◌, [], length, drop, IfOk, is_some};
+ghost use Rattle.std.specs.Prelude.{◌≡◌, [], IfOk, is_some};
 ghost use Rattle.http_req.specs.Reading.{Takes, HasTakeCause};
 
 use crate::NoMemory;
 use crate::filling::{Next, next_head};
-use crate::finding::{HEAD_LIMIT, MOST_FIELDS};
+use crate::finding::{HEAD_LIMIT, MOST_FIELDS, head_in};
 use crate::making::request_at;
 use http_defs::Request;
 use httparse::spans::{EMPTY_HEADER_SPAN, HeaderSpan};
@@ -32,20 +32,22 @@ pub enum Taken {
 #[derive(Drop)]
 pub struct RequestReader {
     buffer: Vec<u8>,
-    // How many bytes at the front of the buffer are held.
+    // The bytes held are those between these places of the buffer. Taking a request doesn't move what
+    // came after it: that is done once, before more is read.
+    start: usize,
     filled: usize,
     headers: Vec<HeaderSpan>,
 }
 
 impl Model for RequestReader {
-    ghost use Rattle.std.specs.Prelude.{ℕ, List, take};
+    ghost use Rattle.std.specs.Prelude.{ℕ, ◌-◌, List, take, drop};
     ghost use Rattle.http_req.specs.Reading.{IsReader};
 
     ghost Value = { List ℕ };
 
-    ghost view = { λ r. take r.filled r.buffer.items };
+    ghost view = { λ r. take (r.filled - r.start) (drop r.start r.buffer.items) };
 
-    ghost invariant = { λ r. IsReader r.buffer r.filled r.headers };
+    ghost invariant = { λ r. IsReader r.buffer r.start r.filled r.headers };
 }
 
 impl RequestReader {
@@ -56,6 +58,7 @@ impl RequestReader {
     {
         Ok(RequestReader {
             buffer: vec![in alloc; 0; HEAD_LIMIT]?,
+            start: 0,
             filled: 0,
             headers: vec![in alloc; EMPTY_HEADER_SPAN; MOST_FIELDS]?,
         })
@@ -71,12 +74,35 @@ impl RequestReader {
         ensures fault_has_a_cause { HasTakeCause result (S.faults source.old)
             (S.faults source.new) }
     {
-        match next_head(&mut self.buffer, self.filled, &mut self.headers, source) {
+        let held = &self.buffer[self.start..self.filled];
+        let Some(spans) = head_in(held, &mut self.headers) else {
+            return self.read_on(alloc, source);
+        };
+        let Ok(request) = request_at(alloc, held, &self.headers, spans) else {
+            return Taken::NoMemory;
+        };
+        self.start += spans.len;
+        Taken::Request(request)
+    }
+
+    /// The same, where the bytes held are moved to the front of the buffer first, to have room.
+    fn read_on<S: Source>(&mut self, alloc: Global, source: &mut S) -> Taken
+        ensures answers_what_the_bytes_begin_with { Takes self.old self.new (S.left source.old)
+            (S.left source.new) result }
+        ensures source_goes_on_telling { is_some (S.left source.new)
+            ≡ is_some (S.left source.old) }
+        ensures fault_has_a_cause { HasTakeCause result (S.faults source.old)
+            (S.faults source.new) }
+    {
+        let held = self.filled - self.start;
+        self.buffer.copy_within(self.start..self.filled, 0);
+        self.start = 0;
+        match next_head(&mut self.buffer, held, &mut self.headers, source) {
             Next::Head(spans, filled) => {
                 self.filled = filled;
                 match request_at(alloc, &self.buffer[..filled], &self.headers, spans) {
                     Ok(request) => {
-                        self.pass(spans.len);
+                        self.start = spans.len;
                         Taken::Request(request)
                     }
                     Err(_) => Taken::NoMemory,
@@ -101,15 +127,7 @@ impl RequestReader {
     pub fn clear(&mut self)
         ensures nothing_is_held { self.new ≡ [] }
     {
+        self.start = 0;
         self.filled = 0;
-    }
-
-    /// Lets go of the first bytes held.
-    fn pass(&mut self, count: usize)
-        requires { count ≤ length self.old }
-        ensures { self.new ≡ drop count self.old }
-    {
-        self.buffer.copy_within(count..self.filled, 0);
-        self.filled -= count;
     }
 }

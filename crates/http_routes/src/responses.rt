@@ -1,18 +1,20 @@
 //! The bytes of responses.
-ghost use Rattle.std.specs.Prelude.{◌≡◌, ◌==◌, ◌||◌, ◌++◌, true, length, string_bytes, IfOk, OnOk, OnErr};
+ghost use Rattle.std.specs.Prelude.{◌≡◌, ◌≤◌, ◌==◌, ◌||◌, ◌++◌, true, length, drop, IfOk, OnOk, OnErr};
+ghost use Rattle.std.specs.Io.{StartsWith};
 ghost use Rattle.http_defs.specs.Responses.{allow_line, connection_text, crlf, head_bytes, number_line, refusal_text, response, status_of, status_text, text_line, type_text};
 
 use crate::NoMemory;
 use http_defs::{BodyKind, Status};
+use itoa::Buffer;
 use std::alloc::Global;
 
-const LINE_END: &str = "\r\n";
+/// The most bytes of a head: of each line its longest text, and numbers of 20 digits.
+pub const LONGEST_HEAD: usize = 224;
 
 /// Appends a response to `out`: its status, 200, 400, 404 or 405, its head and its body. `number`
 /// is that of the last message that the body knows of, `moment` the second since 1970 for which it
 /// holds, and `close` says that the connection closes behind it. After want of memory `out` holds
 /// what it held.
-#[tactic(auto, unfolding(http_defs::specs::Responses::response))]
 pub fn response_bytes(
     status: u16,
     body_kind: BodyKind,
@@ -28,11 +30,64 @@ pub fn response_bytes(
         ++ response status body_kind body.now number moment close) }
     ensures leaves_what_was_held { OnErr result (out.new.items ≡ out.old.items) }
 {
-    let alloc = *out.allocator();
     let held = out.len();
+    let written = push_response(status, body_kind, body, number, moment, close, out);
+    if written.is_err() {
+        out.truncate(held);
+    }
+    written
+}
+
+/// Appends a response, or as much of it as memory allows.
+#[tactic(auto, unfolding(http_defs::specs::Responses::response))]
+fn push_response(
+    status: u16,
+    body_kind: BodyKind,
+    body: &[u8],
+    number: u64,
+    moment: u64,
+    close: bool,
+    out: &mut Vec<u8>,
+) -> Result<(), NoMemory>
+    ensures written { OnOk result (out.new.items ≡ out.old.items
+        ++ response status body_kind body.now number moment close) }
+    ensures begins { StartsWith out.new.items out.old.items }
+{
     let size = body.len() as u64;
+    push_head(
+        status_of(status),
+        body_kind,
+        size,
+        number,
+        moment,
+        close,
+        out,
+    )?;
+    out.extend_from_slice(body)
+}
+
+/// Puts the head of a response before its body, which is there after room for [`LONGEST_HEAD`]
+/// bytes, and answers where the response begins; or runs out of memory for the head. What is before
+/// the response counts for nothing.
+#[tactic(auto, unfolding(http_defs::specs::Responses::response))]
+pub fn put_head(
+    status: u16,
+    body_kind: BodyKind,
+    number: u64,
+    moment: u64,
+    close: bool,
+    bytes: &mut Vec<u8>,
+) -> Result<usize, NoMemory>
+    requires status_is_known { (status == 200) || (status == 400) || (status == 404)
+        || (status == 405) ≡ true }
+    requires room_for_a_head { LONGEST_HEAD ≤ length bytes.old.items }
+    ensures begins_within { IfOk result (λ start. start ≤ length bytes.new.items) }
+    ensures makes_the_response { IfOk result (λ start. drop start bytes.new.items
+        ≡ response status body_kind (drop LONGEST_HEAD bytes.old.items) number moment close) }
+{
+    let size = (bytes.len() - LONGEST_HEAD) as u64;
     let head = head_of(
-        alloc,
+        *bytes.allocator(),
         status_of(status),
         body_kind,
         size,
@@ -40,12 +95,9 @@ pub fn response_bytes(
         moment,
         close,
     )?;
-    out.extend_from_slice(head.as_bytes())?;
-    if out.extend_from_slice(body).is_err() {
-        out.truncate(held);
-        return Err(NoMemory);
-    }
-    Ok(())
+    let start = LONGEST_HEAD - head.len();
+    bytes[start..LONGEST_HEAD].copy_from_slice(head.as_slice());
+    Ok(start)
 }
 
 /// The body of a refusal by its status, 400, 404 or 405.
@@ -103,48 +155,51 @@ fn connection_text(close: bool) -> &'static str
     if close { "close" } else { "keep-alive" }
 }
 
+/// Appends the line feed of a head's line, or as much of it as memory allows, as all below do.
 #[tactic(auto, unfolding(http_defs::specs::Responses::crlf))]
-fn end_line(head: &mut String) -> Result<(), NoMemory>
-    ensures { OnOk result (string_bytes head.new ≡ string_bytes head.old ++ crlf) }
+fn end_line(out: &mut Vec<u8>) -> Result<(), NoMemory>
+    ensures written { OnOk result (out.new.items ≡ out.old.items ++ crlf) }
+    ensures begins { StartsWith out.new.items out.old.items }
 {
-    head.push_str(LINE_END)
+    out.extend_from_slice(b"\r\n")
 }
 
+/// Appends a line that says a text.
 #[tactic(auto, unfolding(http_defs::specs::Responses::text_line))]
-fn add_text(head: &mut String, name: &str, text: &str) -> Result<(), NoMemory>
-    ensures { OnOk result (string_bytes head.new
-        ≡ string_bytes head.old ++ text_line name.now text.now) }
+fn push_text(name: &str, text: &str, out: &mut Vec<u8>) -> Result<(), NoMemory>
+    ensures written { OnOk result
+        (out.new.items ≡ out.old.items ++ text_line name.now text.now) }
+    ensures begins { StartsWith out.new.items out.old.items }
 {
-    head.push_str(name)?;
-    head.push_str(text)?;
-    end_line(head)
+    out.extend_from_slice(name.as_bytes())?;
+    out.extend_from_slice(text.as_bytes())?;
+    end_line(out)
 }
 
-#[tactic(auto, unfolding(http_defs::specs::Responses::number_line))]
-fn add_number(alloc: Global, head: &mut String, name: &str, number: u64) -> Result<(), NoMemory>
-    ensures { OnOk result (string_bytes head.new
-        ≡ string_bytes head.old ++ number_line name.now number) }
+/// Appends a line that says a number.
+#[tactic(auto, unfolding(http_defs::specs::Responses::text_line, http_defs::specs::Responses::number_line))]
+fn push_number(name: &str, number: u64, out: &mut Vec<u8>) -> Result<(), NoMemory>
+    ensures written { OnOk result
+        (out.new.items ≡ out.old.items ++ number_line name.now number) }
+    ensures begins { StartsWith out.new.items out.old.items }
 {
-    let text = number.to_string(alloc)?;
-    head.push_str(name)?;
-    head.push_str(text.as_str())?;
-    end_line(head)
+    let mut digits = Buffer::new();
+    push_text(name, digits.format(number), out)
 }
 
-#[tactic(auto, unfolding(http_defs::specs::Responses::allow_line))]
-fn add_allowed(head: &mut String, status: Status) -> Result<(), NoMemory>
-    ensures { OnOk result (string_bytes head.new ≡ string_bytes head.old ++ allow_line status) }
+/// Appends the methods that there are, where another one was asked.
+#[tactic(auto, unfolding(http_defs::specs::Responses::text_line, http_defs::specs::Responses::allow_line))]
+fn push_allowed(status: Status, out: &mut Vec<u8>) -> Result<(), NoMemory>
+    ensures written { OnOk result (out.new.items ≡ out.old.items ++ allow_line status) }
+    ensures begins { StartsWith out.new.items out.old.items }
 {
     match status {
-        Status::MethodNotAllowed => {
-            head.push_str("Allow: GET")?;
-            end_line(head)
-        }
+        Status::MethodNotAllowed => push_text("Allow: ", "GET", out),
         Status::Ok | Status::BadRequest | Status::NotFound => Ok(()),
     }
 }
 
-#[tactic(auto, unfolding(http_defs::specs::Responses::head_bytes))]
+/// The head of a response with a body of that size.
 fn head_of(
     alloc: Global,
     status: Status,
@@ -153,18 +208,36 @@ fn head_of(
     number: u64,
     moment: u64,
     close: bool,
-) -> Result<String, NoMemory>
-    ensures { IfOk result (λ head. string_bytes head
+) -> Result<Vec<u8>, NoMemory>
+    ensures written { IfOk result (λ head. head.items
         ≡ head_bytes status kind size number moment close) }
+    ensures short { IfOk result (λ head. length head.items ≤ LONGEST_HEAD) }
 {
-    let mut head = String::new(alloc);
-    add_text(&mut head, "HTTP/1.1 ", status_text(status))?;
-    add_text(&mut head, "Content-Type: ", type_text(kind))?;
-    add_number(alloc, &mut head, "Content-Length: ", size)?;
-    add_allowed(&mut head, status)?;
-    add_number(alloc, &mut head, "X-Hub-Sequence: ", number)?;
-    add_number(alloc, &mut head, "X-Hub-Moment: ", moment)?;
-    add_text(&mut head, "Connection: ", connection_text(close))?;
-    end_line(&mut head)?;
+    let mut head = Vec::with_capacity(alloc, LONGEST_HEAD)?;
+    push_head(status, kind, size, number, moment, close, &mut head)?;
     Ok(head)
+}
+
+/// Appends it, or as much of it as memory allows.
+fn push_head(
+    status: Status,
+    kind: BodyKind,
+    size: u64,
+    number: u64,
+    moment: u64,
+    close: bool,
+    out: &mut Vec<u8>,
+) -> Result<(), NoMemory>
+    ensures written { OnOk result (out.new.items
+        ≡ out.old.items ++ head_bytes status kind size number moment close) }
+    ensures begins { StartsWith out.new.items out.old.items }
+{
+    push_text("HTTP/1.1 ", status_text(status), out)?;
+    push_text("Content-Type: ", type_text(kind), out)?;
+    push_number("Content-Length: ", size, out)?;
+    push_allowed(status, out)?;
+    push_number("X-Hub-Sequence: ", number, out)?;
+    push_number("X-Hub-Moment: ", moment, out)?;
+    push_text("Connection: ", connection_text(close), out)?;
+    end_line(out)
 }

@@ -1,5 +1,6 @@
 pub mod Chains
 pub mod OnWay
 pub mod Ends
+pub mod Bodies
 pub mod OneReply
 pub mod Standing

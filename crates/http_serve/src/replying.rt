@@ -20,7 +20,8 @@ pub(crate) enum Unwritten {
     Starved,
 }
 
-/// Answers the item at a place of its connection, and lets go of the view that was looked up for it.
+/// Answers the item at a place of its connection, and lets go of the view that was looked up for it
+/// and of the room that a large response took.
 pub(crate) fn reply<K: Sink, O: Oracle, C: Clock>(
     place: u16,
     item: &Item,
@@ -38,6 +39,7 @@ pub(crate) fn reply<K: Sink, O: Oracle, C: Clock>(
         item.now (noted_in notes.old) (noted_in notes.new) result }
 {
     let replied = reply_once(place, item, responder, notes, sink, oracle, clock);
+    responder.release();
     oracle.release();
     replied
 }
@@ -68,10 +70,10 @@ fn reply_once<K: Sink, O: Oracle, C: Clock>(
     };
     let moment = clock.now();
     let thousandth = place == LAST_PLACE;
-    let Ok(()) = responder.respond(oracle.view(), item, thousandth, number, moment) else {
+    let Ok(start) = responder.respond(oracle.view(), item, thousandth, number, moment) else {
         return Err(Unwritten::Starved);
     };
-    let Ok(()) = write_all(sink, responder.response.as_slice()) else {
+    let Ok(()) = write_all(sink, responder.response(start)) else {
         return Err(Unwritten::Cut);
     };
     notes.note(number, moment);

@@ -1,16 +1,16 @@
-//! Responses, made whole in a buffer.
-ghost use Rattle.std.specs.Prelude.{◌≡◌, ◌≤◌, [], true, IfOk, OnOk};
+//! Responses, made whole in one buffer, in which they are sent.
+ghost use Rattle.std.specs.Prelude.{◌≡◌, ◌≤◌, true, length, drop, IfOk};
 ghost use Rattle.text_defs.specs.Moments.{last_moment};
 ghost use Rattle.board_defs.specs.Views.{folds_of};
 ghost use Rattle.http_serve_defs.specs.Questions.{is_status, is_refusal, IsAskable};
 ghost use Rattle.http_serve_defs.specs.Answers.{answer, refused, query_answered, item_answered, closes_behind};
-ghost use Rattle.http_serve.specs.Headings.{answered_by};
+ghost use Rattle.http_serve.specs.Headings.{Appends};
 
 use crate::NoMemory;
 use crate::questions::{kind_of, question_of, refusal_code};
 use board_parts::HubView;
 use http_defs::{BodyKind, Item, Query};
-use http_routes::{Routes, refusal_body, response_bytes};
+use http_routes::{LONGEST_HEAD, Routes, put_head, refusal_body};
 use std::alloc::Global;
 use view_answers::answer;
 
@@ -21,13 +21,17 @@ pub(crate) struct Heading {
     kind: BodyKind,
 }
 
-/// What responses are made with, and the last one.
+/// The most room that is kept from response to response, in bytes: that of a combined feed of some
+/// 4,000 entities. Who asks for more once does not hold it while the connection waits.
+const MOST_KEPT: usize = 1 << 20;
+
+/// What responses are made with.
 #[derive(Drop)]
 pub(crate) struct Responder {
     routes: Routes,
-    body: Vec<u8>,
-    /// The bytes of the last response.
-    pub(crate) response: Vec<u8>,
+    head: Vec<u8>,
+    // Room for a head, and then the last body.
+    bytes: Vec<u8>,
 }
 
 impl Responder {
@@ -35,13 +39,15 @@ impl Responder {
     pub(crate) fn new(alloc: Global) -> Result<Responder, NoMemory> {
         Ok(Responder {
             routes: Routes::new(alloc)?,
-            body: Vec::new(alloc),
-            response: Vec::new(alloc),
+            head: Vec::new(alloc),
+            bytes: Vec::new(alloc),
         })
     }
 
     /// Makes the response to an item, which may be the thousandth of its connection, of the messages
-    /// that the view holds, at a moment up to the end of the year 9999; or wants memory.
+    /// that the view holds, at a moment up to the end of the year 9999; or wants memory. The body is
+    /// written where it is sent from, and its head then before it: the response stands in `bytes`
+    /// from the place on that is answered.
     #[tactic(auto, unfolding(http_serve_defs::specs::Answers::answer))]
     pub(crate) fn respond(
         &mut self,
@@ -50,86 +56,98 @@ impl Responder {
         thousandth: bool,
         number: u64,
         moment: u64,
-    ) -> Result<(), NoMemory>
+    ) -> Result<usize, NoMemory>
         requires { moment ≤ last_moment }
-        ensures { OnOk result (self.new.response.items ≡ answer view.now.plans item.now thousandth
-            moment number (folds_of view.now)) }
+        ensures begins_within { IfOk result (λ start. start ≤ length self.new.bytes.items) }
+        ensures made { IfOk result (λ start. drop start self.new.bytes.items
+            ≡ answer view.now.plans item.now thousandth moment number (folds_of view.now)) }
     {
-        self.body.clear();
-        self.response.clear();
-        let heading = answer_item(&self.routes, view, item, moment, &mut self.body)?;
-        response_bytes(
+        self.bytes.resize(LONGEST_HEAD, 0)?;
+        let heading = answer_item(&self.routes, view, item, moment, &mut self.bytes)?;
+        put_head(
             heading.status,
             heading.kind,
-            self.body.as_slice(),
             number,
             moment,
             closes_behind(item, thousandth),
-            &mut self.response,
+            &mut self.head,
+            &mut self.bytes,
         )
+    }
+
+    /// The response that begins at that place.
+    pub(crate) fn response(&self, start: usize) -> &[u8]
+        requires { start ≤ length self.now.bytes.items }
+        ensures { result.now ≡ drop start self.now.bytes.items }
+    {
+        &self.bytes[start..]
+    }
+
+    /// Lets go of the room of a response that took more than is kept.
+    pub(crate) fn release(&mut self) {
+        if self.bytes.capacity() > MOST_KEPT {
+            self.bytes = Vec::new(*self.bytes.allocator());
+        }
     }
 }
 
-/// Puts the body of the answer to an item into an empty buffer.
+/// Appends the body of the answer to an item.
 fn answer_item(
     routes: &Routes,
     view: &HubView,
     item: &Item,
     moment: u64,
-    body: &mut Vec<u8>,
+    bytes: &mut Vec<u8>,
 ) -> Result<Heading, NoMemory>
-    requires moment { moment ≤ last_moment }
-    requires empty { body.old.items ≡ [] }
-    ensures answered { IfOk result (λ heading. answered_by heading body.new.items
-        ≡ item_answered view.now.plans (folds_of view.now) item.now moment) }
+    requires { moment ≤ last_moment }
+    ensures answered { IfOk result (λ heading. Appends heading bytes.old.items bytes.new.items
+        (item_answered view.now.plans (folds_of view.now) item.now moment)) }
     ensures status { IfOk result (λ heading. is_status heading.status ≡ true) }
 {
     match item {
-        Item::Malformed => refuse(400, body),
+        Item::Malformed => refuse(400, bytes),
         Item::Asked(request) => {
-            let alloc = *body.allocator();
+            let alloc = *bytes.allocator();
             let query = routes.query(alloc, request)?;
-            answer_query(alloc, view, &query, moment, body)
+            answer_query(alloc, view, &query, moment, bytes)
         }
     }
 }
 
-/// Puts the body of the answer to a query into an empty buffer.
+/// Appends the body of the answer to a query.
 fn answer_query(
     alloc: Global,
     view: &HubView,
     query: &Query,
     moment: u64,
-    body: &mut Vec<u8>,
+    bytes: &mut Vec<u8>,
 ) -> Result<Heading, NoMemory>
     requires askable { IsAskable query.now }
     requires moment { moment ≤ last_moment }
-    requires empty { body.old.items ≡ [] }
-    ensures answered { IfOk result (λ heading. answered_by heading body.new.items
-        ≡ query_answered view.now.plans (folds_of view.now) query.now moment) }
+    ensures answered { IfOk result (λ heading. Appends heading bytes.old.items bytes.new.items
+        (query_answered view.now.plans (folds_of view.now) query.now moment)) }
     ensures status { IfOk result (λ heading. is_status heading.status ≡ true) }
 {
     let Some(question) = question_of(query, moment) else {
-        return refuse(refusal_code(query), body);
+        return refuse(refusal_code(query), bytes);
     };
-    if answer(alloc, view, &question, body)? {
+    if answer(alloc, view, &question, bytes)? {
         return Ok(Heading {
             status: 200,
             kind: kind_of(&question),
         });
     }
-    refuse(404, body)
+    refuse(404, bytes)
 }
 
-/// Puts the body of a refusal with that status into an empty buffer.
-fn refuse(status: u16, body: &mut Vec<u8>) -> Result<Heading, NoMemory>
-    requires known { is_refusal status ≡ true }
-    requires empty { body.old.items ≡ [] }
-    ensures answered { IfOk result (λ heading. answered_by heading body.new.items
-        ≡ refused status) }
+/// Appends the body of a refusal with that status.
+fn refuse(status: u16, bytes: &mut Vec<u8>) -> Result<Heading, NoMemory>
+    requires { is_refusal status ≡ true }
+    ensures answered { IfOk result (λ heading. Appends heading bytes.old.items bytes.new.items
+        (refused status)) }
     ensures status { IfOk result (λ heading. is_status heading.status ≡ true) }
 {
-    body.extend_from_slice(refusal_body(status))?;
+    bytes.extend_from_slice(refusal_body(status))?;
     Ok(Heading {
         status,
         kind: BodyKind::Text,

@@ -20,7 +20,7 @@ use board_defs::{BoardQuery, Row};
 use board_lists::{alerts, unmatched};
 use board_text::{alerts_json, alerts_text, board_json, board_text, status_text, unmatched_text};
 use board_text_defs::BoardAsked;
-use feed_out::combined;
+use feed_out::push_combined;
 use rt_types::Text;
 use std::alloc::Global;
 
@@ -95,8 +95,7 @@ fn push_feed(alloc: Global, view: &HubView, plan: u32, out: &mut Vec<u8>) -> Res
     ensures { Replies (Some (combined_feed view.now.plans plan (folds_of view.now)))
         out.old.items out.new.items result }
 {
-    let bytes = combined(alloc, view, plan)?;
-    out.extend_from_slice(bytes.as_slice())?;
+    push_combined(alloc, view, plan, out)?;
     Ok(true)
 }
 

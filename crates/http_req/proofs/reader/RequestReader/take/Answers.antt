@@ -1,22 +1,17 @@
-use Rattle.std.proofs.Common.{◌≡◌, length, take, sym, ap, ◌∙◌, arith}
+-- A request that is whole already.
+use Rattle.std.proofs.Common.{◌≡◌, ◌-◌, length, take, drop, sym, ap, ◌∙◌, arith}
 use Rattle.std.proofs.lemmas.List.{with_items_is}
-use Rattle.http_req.proofs.HoldLemmas.{begins_at}
+use Rattle.http_req.proofs.HoldLemmas.{moved_on, begins_held}
 use Rattle.http_req.proofs.reader.RequestReader.take.Goals as goal
 
-pub returns-in-Ok-clause-answers_what_the_bytes_begin_with :
-    goal.returns-in-Ok-clause-answers_what_the_bytes_begin_with
-returns-in-Ok-clause-answers_what_the_bytes_begin_with g c =
-    let buffer = c.self.inside.buffer in
-    let headers = c.self.inside.headers in
+pub returns-clause-answers_what_the_bytes_begin_with : goal.returns-clause-answers_what_the_bytes_begin_with
+returns-clause-answers_what_the_bytes_begin_with g c =
+    let old = c.self.inside in
     let lent = ap length c.deref_mut.ensures.value in
-    let lent_headers = ap length c.deref_mut-2.ensures.value in
-    let full : length buffer.items ≡ buffer.len = sym buffer.ok.0 in
-    let room : length headers.items ≡ headers.len = sym headers.ok.0 in
-    let same : length c.next_head.new.buf ≡ buffer.len = omega arith in
-    let same_room : length c.next_head.new.headers ≡ headers.len = omega arith in
-    let items = with_items_is buffer c.next_head.new.buf same in
-    begins_at c.args.self.now _ c.next_head.new.buf c.deref.result.now _ c.in-Head.filled c.next_head.new.headers c.deref-in-Head.result.now _ _ c.in-Head.spans c.in-Ok.request _
-    (ap (take c.self.inside.filled) c.deref_mut.ensures.value ∙ c.self.view_is)
-    (c.deref.ensures.value ∙ items) items
-    (c.deref-in-Head.ensures.value ∙ with_items_is headers c.next_head.new.headers same_room)
-    c.in-Head.ensures.comes.0 c.in-Head.ensures.comes.1 c.in-Ok.ensures c.pass.ensures
+    let room : length old.headers.items ≡ old.headers.len = sym old.headers.ok.0 in
+    let same_room : length c.head_in.new.headers ≡ old.headers.len = omega arith in
+    begins_held c.args.self.now _ c.head_in.new.headers c.deref-2.result.now _ c.in-Some.spans c.in-Ok.request _
+    (ap (λ xs. take (old.filled - old.start) (drop old.start xs)) c.deref.ensures.value ∙ c.self.view_is)
+    (c.deref-2.ensures.value ∙ with_items_is old.headers c.head_in.new.headers same_room)
+    c.in-Some.ensures c.in-Ok.ensures
+    (moved_on old.buffer.items old.start old.filled c.in-Some.spans.len ∙ ap (drop c.in-Some.spans.len) c.self.view_is)
