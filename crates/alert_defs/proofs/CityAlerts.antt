@@ -251,7 +251,7 @@ where_a_row_is : listed_at (lift_alert (record (of_stop (codes "S3")) { route_id
 unfolding alerts is_active concerns touches fold_of messages_of since_full changes_by_id entities_of chosen added_updates match_of by_near date_in is_day date_plus next_day states all_runs run_rows board_at board inserted ordered digits
 where_a_row_is = refl
 
--- an alert counts up to its feed's max_age behind the stamp of its message, which is 5
+-- an alert counts up to its feed's max_age after the stamp of its message, which is 5
 abbrev listed_with : ℕ → ℕ → Option (List AlertRow)
 listed_with max_age at =
     alerts (record schedules { feeds = record { name = codes "a"; plan = 0; max_age = max_age } ∷ [] }) (fold_of 1 (lift_alert (of_stop (codes "S3") ∷ [])))

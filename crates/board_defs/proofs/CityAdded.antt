@@ -103,3 +103,24 @@ once : board_after (from_harbour 1743314500 ∷ added_by 1 (stop_at (codes "S3")
     ≡ Some (row_at 1743314500 ∷ first_row ∷ [])
 unfolding fold_of messages_of since_full changes_by_id entities_of chosen added_updates match_of by_near date_in is_day date_plus next_day states all_runs run_rows added_trip_rows board_at board inserted ordered digits
 once = refl
+
+-- two feeds tell of it at 1743314000; a has a max_age of a minute, b none
+abbrev told_by : List Entry → ℕ → Option (List Row)
+told_by history at =
+    rows
+    (record schedules { feeds = record { name = codes "a"; plan = 0; max_age = 60 } ∷ record { name = codes "b"; plan = 0; max_age = 0 } ∷ [] })
+    (fold_of 2 history) (record { plan = 0; stop = codes "S3"; at = at; span = 3600; limit = 50 })
+
+-- what a tells is shown up to its max_age after its stamp
+aged :
+    (told_by (from_harbour 1743314500 ∷ []) 1743314060 ≡ Some (row_at 1743314500 ∷ first_row ∷ []))
+    × (told_by (from_harbour 1743314500 ∷ []) 1743314061 ≡ Some (first_row ∷ []))
+unfolding fold_of messages_of since_full changes_by_id entities_of chosen added_updates match_of by_near date_in is_day date_plus next_day states all_runs run_rows added_trip_rows board_at board inserted ordered digits
+aged = (refl, refl)
+
+-- and what b tells after that
+other_feed_follows :
+    told_by (from_harbour 1743314500 ∷ added_by 1 (stop_at (codes "S3") (at 1743314560) None) ∷ []) 1743314061
+    ≡ Some (row_at 1743314560 ∷ first_row ∷ [])
+unfolding fold_of messages_of since_full changes_by_id entities_of chosen added_updates match_of by_near date_in is_day date_plus next_day states all_runs run_rows added_trip_rows board_at board inserted ordered digits
+other_feed_follows = refl

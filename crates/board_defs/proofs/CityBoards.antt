@@ -1,5 +1,5 @@
 -- Boards of the small city: each line computes.
-use Rattle.std.specs.Prelude.{◌≡◌, ℕ, ◌+◌, Some, None, Option, List, [], ◌∷◌, refl, pos, codes}
+use Rattle.std.specs.Prelude.{◌≡◌, ℕ, ◌+◌, Some, None, Option, List, [], ◌∷◌, length, refl, pos, codes}
 use Rattle.std.specs.Fmt.{digits}
 use Rattle.rt_types.specs.declared.enums.StopRelation.TheVariants.{Skipped}
 use Rattle.rt_types.specs.declared.enums.TripRelation.{TripRelation}
@@ -10,6 +10,7 @@ use Rattle.feed_defs.specs.declared.history.Entry.{Entry}
 use Rattle.feed_defs.specs.History.{messages_of, since_full, changes_by_id, entities_of}
 use Rattle.sched_types.specs.City.{city}
 use Rattle.sched_types.specs.Schedules.{Schedules}
+use Rattle.sched_types.specs.declared.plans.NamedFeed.{NamedFeed}
 use Rattle.trip_match_defs.specs.Matching.{match_of, by_near}
 use Rattle.delay_rule_defs.specs.Delays.{states}
 use Rattle.order.specs.Order.{inserted, ordered}
@@ -103,13 +104,19 @@ no_stop = refl
 
 -- ---- ageing
 
--- T1 is told to be late by 300 seconds at 1743314000, by a feed of that max_age, and asked for at a moment
-abbrev told_with : ℕ → ℕ → Option (List Row)
-told_with max_age at =
-    rows (record schedules { feeds = record { name = codes "a"; plan = 0; max_age = max_age } ∷ [] }) (fold_of 1 (updated 0 (codes "u") None (late_from_first 300) ∷ []))
-    (record (query 1) { at = at })
+-- the first departure that is shown at a moment, of feeds of those ages
+abbrev first_at : List NamedFeed → List Entry → ℕ → Option (List Row)
+first_at feeds history at =
+    rows (record schedules { feeds = feeds }) (fold_of (length feeds) history) (record (query 1) { at = at })
 
--- an update counts up to its max_age behind its stamp
+abbrev of_age : List ℕ → ℕ → NamedFeed
+of_age name max_age = record { name = name; plan = 0; max_age = max_age }
+
+-- T1 is told to be late by 300 seconds at 1743314000, by a feed of that max_age
+abbrev told_with : ℕ → ℕ → Option (List Row)
+told_with max_age at = first_at (of_age (codes "a") max_age ∷ []) (updated 0 (codes "u") None (late_from_first 300) ∷ []) at
+
+-- an update without a stamp of its own counts up to its feed's max_age after its message's
 at_its_last_second : told_with 60 1743314060 ≡ Some (late_row 1743314400 300 (codes "S1") ∷ [])
 unfolding fold_of messages_of since_full changes_by_id entities_of chosen added_updates match_of by_near date_in is_day date_plus next_day states all_runs run_rows board_at board inserted ordered digits
 at_its_last_second = refl
@@ -123,3 +130,44 @@ too_old = refl
 never_too_old : told_with 0 1743314061 ≡ Some (late_row 1743314400 300 (codes "S1") ∷ [])
 unfolding fold_of messages_of since_full changes_by_id entities_of chosen added_updates match_of by_near date_in is_day date_plus next_day states all_runs run_rows board_at board inserted ordered digits
 never_too_old = refl
+
+-- the same by an update with a stamp of its own, in a message of that stamp, by a feed whose max_age is a minute
+abbrev stamped : ℕ → ℕ → ℕ → Option (List Row)
+stamped message own at =
+    first_at (of_age (codes "a") 60 ∷ [])
+    (entry_of 0 (message_at message (entity_of (codes "u") (record (trip_update (first_trip None) (late_from_first 300)) { timestamp = Some own }) ∷ [])) ∷ [])
+    at
+
+-- its own stamp counts, whether its message's is later
+older_than_its_message :
+    (stamped 1743314030 1743314000 1743314060 ≡ Some (late_row 1743314400 300 (codes "S1") ∷ []))
+    × (stamped 1743314030 1743314000 1743314061 ≡ Some (departure_of 1743314400 (codes "T1") (codes "S1") ∷ []))
+unfolding fold_of messages_of since_full changes_by_id entities_of chosen added_updates match_of by_near date_in is_day date_plus next_day states all_runs run_rows board_at board inserted ordered digits
+older_than_its_message = (refl, refl)
+
+-- or earlier
+later_than_its_message :
+    (stamped 1743313000 1743314000 1743314060 ≡ Some (late_row 1743314400 300 (codes "S1") ∷ []))
+    × (stamped 1743313000 1743314000 1743314061 ≡ Some (departure_of 1743314400 (codes "T1") (codes "S1") ∷ []))
+unfolding fold_of messages_of since_full changes_by_id entities_of chosen added_updates match_of by_near date_in is_day date_plus next_day states all_runs run_rows board_at board inserted ordered digits
+later_than_its_message = (refl, refl)
+
+-- one that is no moment doesn't
+no_moment_of_its_own :
+    (stamped 1743314000 0 1743314060 ≡ Some (late_row 1743314400 300 (codes "S1") ∷ []))
+    × (stamped 1743314000 0 1743314061 ≡ Some (departure_of 1743314400 (codes "T1") (codes "S1") ∷ []))
+unfolding fold_of messages_of since_full changes_by_id entities_of chosen added_updates match_of by_near date_in is_day date_plus next_day states all_runs run_rows board_at board inserted ordered digits
+no_moment_of_its_own = (refl, refl)
+
+-- two feeds tell other delays with one stamp; a has a max_age of a minute, b none
+abbrev of_two : ℕ → Option (List Row)
+of_two at =
+    first_at (of_age (codes "a") 60 ∷ of_age (codes "b") 0 ∷ [])
+    (updated 0 (codes "u") None (late_from_first 60) ∷ updated 1 (codes "u") None (late_from_first 120) ∷ []) at
+
+-- the update of b counts once that of a is too old
+other_feed_follows :
+    (of_two 1743314060 ≡ Some (late_row 1743314400 60 (codes "S1") ∷ []))
+    × (of_two 1743314061 ≡ Some (late_row 1743314400 120 (codes "S1") ∷ []))
+unfolding fold_of messages_of since_full changes_by_id entities_of chosen added_updates match_of by_near date_in is_day date_plus next_day states all_runs run_rows board_at board inserted ordered digits
+other_feed_follows = (refl, refl)

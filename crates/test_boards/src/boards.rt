@@ -1,6 +1,7 @@
 //! A hub with the small city's timetable and two feeds, and its boards.
 
-ghost use Rattle.std.specs.Prelude.{◌≡◌, Some, IfOk};
+ghost use Rattle.std.specs.Prelude.{◌≡◌, ◌≤◌, Some, IfOk};
+ghost use Rattle.text_defs.specs.Moments.{last_moment};
 
 use board_core::{BoardQuery, HubView, Row, RowState, RowsFault, Subject, rows, subjects};
 use rt_types::{
@@ -8,15 +9,17 @@ use rt_types::{
     TripRelation, TripUpdate,
 };
 use sample_city::{NoMemory, dataset_of, last_stamp, no_bytes, two_feeds, view_after};
+use sched_types::Plans;
 use std::alloc::{AllocError, Global};
+use std::sync::Arc;
 use std::test::Fail;
 
-/// 07:53:20 on 30 March 2025, when the messages are made and the boards begin.
+/// 07:53:20 on 30 March 2025, when the messages are made and boards begin.
 const MOMENT: u64 = 1_743_314_000;
 
 /// What a test's message says of the first place of trip T1.
 #[derive(Clone, Copy)]
-struct Told {
+pub(crate) struct Told {
     relation: Option<TripRelation>,
     delay: Option<i32>,
     place: Option<StopRelation>,
@@ -90,19 +93,32 @@ fn after(alloc: Global, view: &HubView, feed: u32, told: Told) -> Result<HubView
     view_after(alloc, view, feed, message(alloc, told)?)
 }
 
-/// The rows at a stop in the hour from that moment on.
-fn board(alloc: Global, view: &HubView, stop: &str, limit: u32) -> Result<Vec<Row>, RowsFault> {
+/// The rows at a stop in the hour from a moment on.
+fn board_at(
+    alloc: Global,
+    view: &HubView,
+    stop: &str,
+    at: u64,
+    limit: u32,
+) -> Result<Vec<Row>, RowsFault>
+    requires { at ≤ last_moment }
+{
     if view.plans().plans().is_empty() {
         return Err(RowsFault::NoMemory);
     }
     let query = BoardQuery {
         plan: 0,
         stop: Text::new(alloc, stop)?,
-        at: MOMENT,
+        at,
         span: 3600,
         limit,
     };
     rows(alloc, view, &query)
+}
+
+/// The rows in the hour after the messages.
+fn board(alloc: Global, view: &HubView, stop: &str, limit: u32) -> Result<Vec<Row>, RowsFault> {
+    board_at(alloc, view, stop, MOMENT, limit)
 }
 
 /// How many rows that board has, by what they are about; a row of an added trip counts for none.
@@ -128,7 +144,7 @@ fn runs_at(alloc: Global, view: &HubView, stop: &str) -> Result<usize, RowsFault
 
 /// What a test wants of a row.
 #[derive(Clone, Copy)]
-struct Wanted {
+pub(crate) struct Wanted {
     expected: i64,
     state: RowState,
     trip: &'static str,
@@ -149,7 +165,7 @@ fn are_wanted(rows: &[Row], wanted: &[Wanted]) -> bool {
     rows.len() == wanted.len() && rows.iter().zip(wanted).all(|(row, w)| is_wanted(row, w))
 }
 
-const FIRST: Wanted = Wanted {
+pub(crate) const FIRST: Wanted = Wanted {
     expected: 1743314400,
     state: RowState::Scheduled,
     trip: "T1",
@@ -171,7 +187,7 @@ const OTHER: Wanted = Wanted {
 };
 
 /// The first departure so late.
-const fn late(expected: i64) -> Wanted {
+pub(crate) const fn late(expected: i64) -> Wanted {
     Wanted {
         expected,
         state: RowState::Live,
@@ -180,7 +196,22 @@ const fn late(expected: i64) -> Wanted {
     }
 }
 
-/// The board of the market after a message of the feed a, and after one of b where there is one.
+/// The view of a hub after a message of the feed a, and after one of b where there is one.
+fn told(
+    alloc: Global,
+    plans: Arc<Plans>,
+    first: Told,
+    second: Option<Told>,
+) -> Result<HubView, NoMemory> {
+    let view = HubView::first(alloc, plans)?;
+    let view = after(alloc, &view, 0, first)?;
+    match second {
+        Some(second) => after(alloc, &view, 1, second),
+        None => Ok(view),
+    }
+}
+
+/// Whether the board of the market has these rows after such messages.
 fn shows(
     alloc: Global,
     first: Told,
@@ -188,18 +219,32 @@ fn shows(
     limit: u32,
     wanted: &[Wanted],
 ) -> Result<bool, RowsFault> {
-    let view = HubView::first(alloc, two_feeds(alloc)?)?;
-    let view = after(alloc, &view, 0, first)?;
-    let view = match second {
-        Some(told) => after(alloc, &view, 1, told)?,
-        None => view,
-    };
+    let view = told(alloc, two_feeds(alloc)?, first, second)?;
     let rows = board(alloc, &view, "ST", limit)?;
     Ok(are_wanted(rows.as_slice(), wanted))
 }
 
+/// Whether the board of the market at a moment begins with that row after such messages.
+pub(crate) fn begins_with(
+    alloc: Global,
+    plans: Arc<Plans>,
+    first: Told,
+    second: Option<Told>,
+    at: u64,
+    wanted: Wanted,
+) -> Result<bool, RowsFault>
+    requires { at ≤ last_moment }
+{
+    let view = told(alloc, plans, first, second)?;
+    let rows = board_at(alloc, &view, "ST", at, 50)?;
+    Ok(match rows.first() {
+        Some(row) => is_wanted(row, &wanted),
+        None => false,
+    })
+}
+
 /// An update with that relation, late by so many seconds.
-fn said(relation: Option<TripRelation>, seconds: i32) -> Told {
+pub(crate) fn said(relation: Option<TripRelation>, seconds: i32) -> Told {
     Told {
         relation,
         delay: Some(seconds),

@@ -7,6 +7,8 @@
 #![tactic(auto)]
 
 #[cfg(test)]
+mod ageing;
+#[cfg(test)]
 mod alerts;
 #[cfg(test)]
 mod answers;

@@ -23,6 +23,14 @@ fn window_has(alloc: Global, window: &str, line: &str) -> Result<bool, NoMemory>
     has_fault(alloc, text.as_str(), line)
 }
 
+/// The same of one feed with that max_age.
+fn age_has(alloc: Global, max_age: &str, line: &str) -> Result<bool, NoMemory> {
+    let text = format!(in alloc;
+        "[[schedule]]\nname = \"city\"\nfolder = \"f\"\nzone = \"UTC0\"\nfirst = \"20240229\"\ndays = 1\n[[feed]]\nname = \"a\"\nschedule = \"city\"\nmax_age = {max_age}"
+    )?;
+    has_fault(alloc, text.as_str(), line)
+}
+
 /// The same of the city between some more lines.
 fn city_has(alloc: Global, before: &str, after: &str, line: &str) -> Result<bool, NoMemory> {
     let text = format!(in alloc; "{before}\n{CITY}{after}")?;
@@ -53,11 +61,12 @@ fn reads_its_feeds(rt: HostRuntime) -> Result<(), Fail> {
     assert_eq!(rt; feeds[1].schedule, 0);
     assert_eq!(rt; feeds[1].kind, PortKind::Nothing);
     assert_eq!(rt; feeds[1].place.as_str(), "");
+    assert_eq!(rt; feeds[1].max_age, 0);
     Ok(())
 }
 
 const FULL: &str =
-    "readers = 64\nconnections = 1000000000\nschedule = [{ name = \"a\", folder = \"f\", zone = \"UTC0\", first = \"19700201\", days = 1 }, { name = \"b_9\", folder = \"\", zone = \"\", first = \"29991231\", days = 400, prefix = \"12345678901234567890123456789012\" }]\nfeed = [{ name = \"a\", schedule = \"b_9\", kind = \"stream\", place = \"127.0.0.1:9\" }]\n";
+    "readers = 64\nconnections = 1000000000\nschedule = [{ name = \"a\", folder = \"f\", zone = \"UTC0\", first = \"19700201\", days = 1 }, { name = \"b_9\", folder = \"\", zone = \"\", first = \"29991231\", days = 400, prefix = \"12345678901234567890123456789012\" }]\nfeed = [{ name = \"a\", schedule = \"b_9\", kind = \"stream\", place = \"127.0.0.1:9\", max_age = 31622400 }]\n";
 
 #[test]
 fn reads_every_key(rt: HostRuntime) -> Result<(), Fail> {
@@ -70,6 +79,7 @@ fn reads_every_key(rt: HostRuntime) -> Result<(), Fail> {
     assert_eq!(rt; feeds[0].schedule, 1);
     assert_eq!(rt; feeds[0].kind, PortKind::Stream);
     assert_eq!(rt; feeds[0].place.as_str(), "127.0.0.1:9");
+    assert_eq!(rt; feeds[0].max_age, 31_622_400);
     Ok(())
 }
 
@@ -179,6 +189,20 @@ fn refuses_feeds(rt: HostRuntime) -> Result<(), Fail> {
     ];
     for (before, after, line) in cases {
         assert!(rt; city_has(rt.alloc(), before, after, line)?, "{line}");
+    }
+    Ok(())
+}
+
+#[test]
+fn refuses_ages(rt: HostRuntime) -> Result<(), Fail> {
+    let cases: [(&str, &str); 4] = [
+        ("0", "ok"),
+        ("31622400", "ok"),
+        ("31622401", "hub: config feed 1 max_age bad"),
+        ("-1", "hub: config feed 1 max_age bad"),
+    ];
+    for (max_age, line) in cases {
+        assert!(rt; age_has(rt.alloc(), max_age, line)?, "{line}");
     }
     Ok(())
 }
