@@ -1,6 +1,7 @@
 //! The message, and its bytes.
 
-ghost use Rattle.std.specs.Prelude.{◌≡◌, ◌<◌, ◌++◌, List, length, true, Ok, IfOk, OnOk};
+ghost use Rattle.std.specs.Prelude.{◌≡◌, ◌<◌, ◌++◌, List, length, true, Ok, OnOk, OnErr};
+ghost use Rattle.std.specs.Io.{StartsWith};
 ghost use Rattle.std.specs.Str.{is_utf8};
 ghost use Rattle.feed_defs.specs.declared.history.Entry.{Entry};
 ghost use Rattle.feed_defs.specs.History.{WereRead};
@@ -15,26 +16,44 @@ use crate::entities::push_entities;
 use board_parts::{HubView, ScheduleFeeds};
 use feed_write::write_message;
 use rt_types::{Bytes, Entities, FeedMessage, Header, Incrementality, Text};
-use std::alloc::Global;
 
-/// The bytes of the combined feed of the schedule of that number (GTFS Realtime 2.0, FeedMessage), of what the
-/// hub's feeds hold; or want of memory. Where the hub's messages were read, they read as the message that they
-/// are written of.
-pub fn combined(alloc: Global, view: &HubView, plan: u32) -> Result<Vec<u8>, NoMemory>
+/// Appends the combined feed of the schedule of that number (GTFS Realtime 2.0, FeedMessage), of what
+/// the hub's feeds hold. Where the hub's messages were read, it reads as the message that it is written
+/// of. Out of memory leaves `out` as it was.
+pub fn push_combined(view: &HubView, plan: u32, out: &mut Vec<u8>) -> Result<(), NoMemory>
     requires { plan < length view.now.plans.plans }
-    ensures feed { IfOk result (λ bytes. bytes.items ≡ combined_feed view.now.plans plan (folds_of view.now)) }
-    ensures stands { (h : List Entry) → StandsFor h view.now → IfOk result (λ bytes. bytes.items
-        ≡ combined_feed view.now.plans plan (fold_of (length view.now.plans.feeds) h)) }
-    ensures again { (h : List Entry) → WereRead h → StandsFor h view.now → IfOk result (λ bytes. read bytes.items
+    ensures feed { OnOk result (out.new.items
+        ≡ out.old.items ++ combined_feed view.now.plans plan (folds_of view.now)) }
+    ensures stands { (h : List Entry) → StandsFor h view.now → OnOk result (out.new.items
+        ≡ out.old.items ++ combined_feed view.now.plans plan (fold_of (length view.now.plans.feeds) h)) }
+    ensures again { (h : List Entry) → WereRead h → StandsFor h view.now → OnOk result
+        (read (combined_feed view.now.plans plan (folds_of view.now))
         ≡ Ok (schedule_message view.now.plans plan (folds_of view.now))) }
+    ensures kept { OnErr result (out.new.items ≡ out.old.items) }
+{
+    let before = out.len();
+    let written = push_message(view, plan, out);
+    if written.is_err() {
+        out.truncate(before);
+    }
+    written
+}
+
+/// Appends it, or as much of it as memory allows.
+fn push_message(view: &HubView, plan: u32, out: &mut Vec<u8>) -> Result<(), NoMemory>
+    requires { plan < length view.now.plans.plans }
+    ensures feed { OnOk result (out.new.items
+        ≡ out.old.items ++ combined_feed view.now.plans plan (folds_of view.now)) }
+    ensures again { (h : List Entry) → WereRead h → StandsFor h view.now → OnOk result
+        (read (combined_feed view.now.plans plan (folds_of view.now))
+        ≡ Ok (schedule_message view.now.plans plan (folds_of view.now))) }
+    ensures begins { StartsWith out.new.items out.old.items }
 {
     view.sound();
     let prefix = view.plans().plans()[plan as usize].prefix.as_str();
     is_text(prefix);
-    let mut bytes = Vec::new(alloc);
-    push_header(alloc, newest(view.feeds_of(plan)), &mut bytes)?;
-    push_entities(prefix, view.entities_of(plan), &mut bytes)?;
-    Ok(bytes)
+    push_header(newest(view.feeds_of(plan)), out)?;
+    push_entities(prefix, view.entities_of(plan), out)
 }
 
 /// Does nothing; its contract tells that a text is UTF-8.
@@ -42,11 +61,13 @@ fn is_text(_text: &str)
     ensures { is_utf8 _text.now ≡ true }
 {}
 
-/// Appends the header of a whole data set of that stamp: a message of no entities, behind which those follow as
-/// further fields.
-fn push_header(alloc: Global, newest: u64, out: &mut Vec<u8>) -> Result<(), NoMemory>
-    ensures { OnOk result (out.new.items ≡ out.old.items ++ write (header_of newest)) }
+/// Appends the header of a whole data set of that stamp: a message of no entities, which follow it as further
+/// fields.
+fn push_header(newest: u64, out: &mut Vec<u8>) -> Result<(), NoMemory>
+    ensures written { OnOk result (out.new.items ≡ out.old.items ++ write (header_of newest)) }
+    ensures begins { StartsWith out.new.items out.old.items }
 {
+    let alloc = *out.allocator();
     let message = FeedMessage {
         header: Header {
             version: Text::new(alloc, "2.0")?,

@@ -20,8 +20,7 @@ pub(crate) enum Unwritten {
     Starved,
 }
 
-/// Answers the item at a place of its connection, and lets go of the view that was looked up for it
-/// and of the room that a large response took.
+/// Answers the item at a place of its connection, and drops the view that was looked up for it.
 pub(crate) fn reply<K: Sink, O: Oracle, C: Clock>(
     place: u16,
     item: &Item,
@@ -39,7 +38,6 @@ pub(crate) fn reply<K: Sink, O: Oracle, C: Clock>(
         item.now (noted_in notes.old) (noted_in notes.new) result }
 {
     let replied = reply_once(place, item, responder, notes, sink, oracle, clock);
-    responder.release();
     oracle.release();
     replied
 }
@@ -73,7 +71,7 @@ fn reply_once<K: Sink, O: Oracle, C: Clock>(
     let Ok(start) = responder.respond(oracle.view(), item, thousandth, number, moment) else {
         return Err(Unwritten::Starved);
     };
-    let Ok(()) = write_all(sink, responder.response(start)) else {
+    let Ok(()) = write_all(sink, responder.bytes_from(start)) else {
         return Err(Unwritten::Cut);
     };
     notes.note(number, moment);

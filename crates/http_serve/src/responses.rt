@@ -21,16 +21,11 @@ pub(crate) struct Heading {
     kind: BodyKind,
 }
 
-/// The most room that is kept from response to response, in bytes: that of a combined feed of some
-/// 4,000 entities. Who asks for more once does not hold it while the connection waits.
-const MOST_KEPT: usize = 1 << 20;
-
-/// What responses are made with.
+/// What responses are made with, and the last one.
 #[derive(Drop)]
 pub(crate) struct Responder {
     routes: Routes,
-    head: Vec<u8>,
-    // Room for a head, and then the last body.
+    // Room for a head, and after it a body.
     bytes: Vec<u8>,
 }
 
@@ -39,15 +34,14 @@ impl Responder {
     pub(crate) fn new(alloc: Global) -> Result<Responder, NoMemory> {
         Ok(Responder {
             routes: Routes::new(alloc)?,
-            head: Vec::new(alloc),
             bytes: Vec::new(alloc),
         })
     }
 
     /// Makes the response to an item, which may be the thousandth of its connection, of the messages
-    /// that the view holds, at a moment up to the end of the year 9999; or wants memory. The body is
-    /// written where it is sent from, and its head then before it: the response stands in `bytes`
-    /// from the place on that is answered.
+    /// that the view holds, at a moment up to the end of the year 9999; or runs out of memory. Answers
+    /// where in `bytes` it begins: the body is written where it is sent from, and then its head is put
+    /// before it.
     #[tactic(auto, unfolding(http_serve_defs::specs::Answers::answer))]
     pub(crate) fn respond(
         &mut self,
@@ -70,24 +64,16 @@ impl Responder {
             number,
             moment,
             closes_behind(item, thousandth),
-            &mut self.head,
             &mut self.bytes,
         )
     }
 
-    /// The response that begins at that place.
-    pub(crate) fn response(&self, start: usize) -> &[u8]
+    /// The bytes from a place on.
+    pub(crate) fn bytes_from(&self, start: usize) -> &[u8]
         requires { start ≤ length self.now.bytes.items }
         ensures { result.now ≡ drop start self.now.bytes.items }
     {
         &self.bytes[start..]
-    }
-
-    /// Lets go of the room of a response that took more than is kept.
-    pub(crate) fn release(&mut self) {
-        if self.bytes.capacity() > MOST_KEPT {
-            self.bytes = Vec::new(*self.bytes.allocator());
-        }
     }
 }
 

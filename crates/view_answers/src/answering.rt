@@ -62,7 +62,7 @@ fn answer_of(
         out.old.items out.new.items result }
 {
     match *question {
-        Question::Feed { .. } => push_feed(alloc, view, plan, out),
+        Question::Feed { .. } => push_feed(view, plan, out),
         Question::Board(asked) => {
             let query = query_of(alloc, plan, &asked)?;
             push_board(alloc, view, &query, asked.json, out)
@@ -90,12 +90,12 @@ fn query_of(alloc: Global, plan: u32, asked: &BoardAsked<'_>) -> Result<BoardQue
 }
 
 /// Appends the combined feed of the schedule of that number.
-fn push_feed(alloc: Global, view: &HubView, plan: u32, out: &mut Vec<u8>) -> Result<bool, NoMemory>
+fn push_feed(view: &HubView, plan: u32, out: &mut Vec<u8>) -> Result<bool, NoMemory>
     requires { plan < length view.now.plans.plans }
     ensures { Replies (Some (combined_feed view.now.plans plan (folds_of view.now)))
         out.old.items out.new.items result }
 {
-    push_combined(alloc, view, plan, out)?;
+    push_combined(view, plan, out)?;
     Ok(true)
 }
 

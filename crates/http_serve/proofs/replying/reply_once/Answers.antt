@@ -37,16 +37,16 @@ returns-in_default-respond g c =
 pub returns-in_default-write_all : goal.returns-in_default-write_all
 returns-in_default-write_all g c =
     let cut = response_cut c.args.place (setting (g.K.Sink.written c.args.sink.now) (g.K.Sink.faults c.args.sink.now) (g.C.Clock.ahead c.args.clock.now) (g.O.Oracle.plans c.args.oracle.now) (g.O.Oracle.history c.args.oracle.now) (g.O.Oracle.reads c.args.oracle.now) (g.O.Oracle.steady c.args.oracle.now))
-    (setting (g.K.Sink.written c.write_all.new.out) (g.K.Sink.faults c.write_all.new.out) (g.C.Clock.ahead c.now-moment.new.self) (g.O.Oracle.plans c.look.new.self) (g.O.Oracle.history c.look.new.self) (g.O.Oracle.reads c.look.new.self) (g.O.Oracle.steady c.look.new.self)) c.in-Ok-look.number c.now-moment.result c.args.item.now c.response.result.now
+    (setting (g.K.Sink.written c.write_all.new.out) (g.K.Sink.faults c.write_all.new.out) (g.C.Clock.ahead c.now-moment.new.self) (g.O.Oracle.plans c.look.new.self) (g.O.Oracle.history c.look.new.self) (g.O.Oracle.reads c.look.new.self) (g.O.Oracle.steady c.look.new.self)) c.in-Ok-look.number c.now-moment.result c.args.item.now c.bytes_from.result.now
     (looks_and_reads (g.K.Sink.written c.args.sink.now) (g.K.Sink.written c.write_all.new.out) (g.K.Sink.faults c.args.sink.now) (g.K.Sink.faults c.write_all.new.out)
     (g.C.Clock.ahead c.args.clock.now) (g.C.Clock.ahead c.now-moment.new.self) (g.O.Oracle.plans c.args.oracle.now) (g.O.Oracle.plans c.look.new.self)
     (g.O.Oracle.history c.args.oracle.now) (g.O.Oracle.history c.look.new.self) (g.O.Oracle.shown c.args.oracle.now) (g.O.Oracle.shown c.look.new.self)
     (g.O.Oracle.reads c.args.oracle.now) (g.O.Oracle.reads c.look.new.self) (g.O.Oracle.steady c.args.oracle.now) (g.O.Oracle.steady c.look.new.self)
     c.in-Ok-look.number c.now-moment.result c.in-Ok-look.ensures.looked c.look.ensures.plans c.look.ensures.steady c.now-moment.ensures.reading c.now-moment.ensures.ahead)
     (view_answers (g.O.Oracle.plans c.args.oracle.now) (g.O.Oracle.history c.look.new.self) (g.O.Oracle.shown c.look.new.self) c.view.result.now
-    c.args.place c.now-moment.result c.in-Ok-look.number c.args.item.now (c.args.place == last_place) c.response.result.now
+    c.args.place c.now-moment.result c.in-Ok-look.number c.args.item.now (c.args.place == last_place) c.bytes_from.result.now
     c.in-Ok-look.ensures.looked.found.1 c.view.ensures.view (c.view.ensures.plans ∙ c.look.ensures.plans) c.in-Ok-look.ensures.looked.found.0
-    refl (c.response.ensures ∙ c.in-Ok-respond.ensures.made))
+    refl (c.bytes_from.ensures ∙ c.in-Ok-respond.ensures.made))
     c.in_default-write_all.ensures.bytes c.in_default-write_all.ensures.cause.1
     in
     (cut.0, cut.1, cut.2, c.make_room.ensures.same)
@@ -54,7 +54,7 @@ returns-in_default-write_all g c =
 pub returns : goal.returns
 returns g c =
     response_whole c.args.place (setting (g.K.Sink.written c.args.sink.now) (g.K.Sink.faults c.args.sink.now) (g.C.Clock.ahead c.args.clock.now) (g.O.Oracle.plans c.args.oracle.now) (g.O.Oracle.history c.args.oracle.now) (g.O.Oracle.reads c.args.oracle.now) (g.O.Oracle.steady c.args.oracle.now))
-    (setting (g.K.Sink.written c.write_all.new.out) (g.K.Sink.faults c.write_all.new.out) (g.C.Clock.ahead c.now-moment.new.self) (g.O.Oracle.plans c.look.new.self) (g.O.Oracle.history c.look.new.self) (g.O.Oracle.reads c.look.new.self) (g.O.Oracle.steady c.look.new.self)) c.in-Ok-look.number c.now-moment.result c.args.item.now c.response.result.now
+    (setting (g.K.Sink.written c.write_all.new.out) (g.K.Sink.faults c.write_all.new.out) (g.C.Clock.ahead c.now-moment.new.self) (g.O.Oracle.plans c.look.new.self) (g.O.Oracle.history c.look.new.self) (g.O.Oracle.reads c.look.new.self) (g.O.Oracle.steady c.look.new.self)) c.in-Ok-look.number c.now-moment.result c.args.item.now c.bytes_from.result.now
     (noted_in c.args.notes.now) (noted_in c.note.new.self)
     (looks_and_reads (g.K.Sink.written c.args.sink.now) (g.K.Sink.written c.write_all.new.out) (g.K.Sink.faults c.args.sink.now) (g.K.Sink.faults c.write_all.new.out)
     (g.C.Clock.ahead c.args.clock.now) (g.C.Clock.ahead c.now-moment.new.self) (g.O.Oracle.plans c.args.oracle.now) (g.O.Oracle.plans c.look.new.self)
@@ -62,8 +62,8 @@ returns g c =
     (g.O.Oracle.reads c.args.oracle.now) (g.O.Oracle.reads c.look.new.self) (g.O.Oracle.steady c.args.oracle.now) (g.O.Oracle.steady c.look.new.self)
     c.in-Ok-look.number c.now-moment.result c.in-Ok-look.ensures.looked c.look.ensures.plans c.look.ensures.steady c.now-moment.ensures.reading c.now-moment.ensures.ahead)
     (view_answers (g.O.Oracle.plans c.args.oracle.now) (g.O.Oracle.history c.look.new.self) (g.O.Oracle.shown c.look.new.self) c.view.result.now
-    c.args.place c.now-moment.result c.in-Ok-look.number c.args.item.now (c.args.place == last_place) c.response.result.now
+    c.args.place c.now-moment.result c.in-Ok-look.number c.args.item.now (c.args.place == last_place) c.bytes_from.result.now
     c.in-Ok-look.ensures.looked.found.1 c.view.ensures.view (c.view.ensures.plans ∙ c.look.ensures.plans) c.in-Ok-look.ensures.looked.found.0
-    refl (c.response.ensures ∙ c.in-Ok-respond.ensures.made))
+    refl (c.bytes_from.ensures ∙ c.in-Ok-respond.ensures.made))
     c.in-Ok-write_all.ensures.bytes c.in-Ok-write_all.ensures.cause
     (c.note.ensures ∙ ap (λ (n : Noted). record { numbers = n.numbers ++ c.in-Ok-look.number ∷ []; moments = n.moments ++ c.now-moment.result ∷ [] }) c.make_room.ensures.same)
