@@ -37,8 +37,8 @@ bytes_are kept schedules plans plan named prefix feeds entities newest before he
     (head ∙ ap (λ n. before ++ write (header_of n)) (stamp ∙ ap newest_of its_feeds))
     ∙ append_assoc before (write (header_of (newest_of ours))) (flat_map (combined_field prefix) entities)
     ∙ ap (λ bytes. before ++ bytes) (
-      ap (λ bytes. write (header_of (newest_of ours)) ++ bytes)
-      (ap (flat_map (combined_field prefix)) its_entities ∙ sym (flat_map-map entity_field (combined_entity prefix) (held_in ours)))
-      ∙ sym (message_grows (header_of (newest_of ours)).header (map (combined_entity prefix) (held_in ours)))
-      ∙ ap (λ p. write (feed_message p ours)) (prefix_is kept schedules plans plan named prefix whole its_plans within is)
+    ap (λ bytes. write (header_of (newest_of ours)) ++ bytes)
+    (ap (flat_map (combined_field prefix)) its_entities ∙ sym (flat_map-map entity_field (combined_entity prefix) (held_in ours)))
+    ∙ sym (message_grows (header_of (newest_of ours)).header (map (combined_entity prefix) (held_in ours)))
+    ∙ ap (λ p. write (feed_message p ours)) (prefix_is kept schedules plans plan named prefix whole its_plans within is)
     )

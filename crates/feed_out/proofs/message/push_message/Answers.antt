@@ -21,8 +21,8 @@ returns-clause-again c =
     let fits : length c.push_entities.new.out.items < 2 ^ 64 = search rules in
     λ h were stands. on_ok_weaker c.push_entities.result
     (λ (is : c.push_entities.new.out.items ≡ c.args.out.now.items ++ feed).
-        let small : length feed < 2 ^ 64 = omega (arith, ap length is, length-append c.args.out.now.items feed) in
-        bytes_again c.args.view.now c.args.plan c.feeds_of.result c.newest.result feed c.as_str-prefix.result.now refl small
-        (prefix_is c.args.view.now c.plans.result.now c.plans-2.result.now c.args.plan c.index-plans-plan.result c.as_str-prefix.result.now c.plans.ensures c.plans-2.ensures c.requires c.as_str-prefix.ensures)
-        c.is_text.ensures c.sound.ensures.plans c.feeds_of.ensures c.newest.ensures low h were stands)
+    let small : length feed < 2 ^ 64 = omega (arith, ap length is, length-append c.args.out.now.items feed) in
+    bytes_again c.args.view.now c.args.plan c.feeds_of.result c.newest.result feed c.as_str-prefix.result.now refl small
+    (prefix_is c.args.view.now c.plans.result.now c.plans-2.result.now c.args.plan c.index-plans-plan.result c.as_str-prefix.result.now c.plans.ensures c.plans-2.ensures c.requires c.as_str-prefix.ensures)
+    c.is_text.ensures c.sound.ensures.plans c.feeds_of.ensures c.newest.ensures low h were stands)
     (returns-clause-feed c)
