@@ -1,5 +1,5 @@
 -- The line that answers an offered message.
-use Rattle.std.specs.Prelude.{◌≡◌, ℕ, List, Option, Some, None, Result, Ok, Err, ⊥}
+use Rattle.std.specs.Prelude.{◌≡◌, ℕ, List, Option, Some, None, Result, Ok, Err}
 use Rattle.feed_defs.specs.History.{Refusal as Cause}
 use Rattle.hub_core.specs.Answers.{cause_of}
 use Rattle.hub_core.specs.declared.refusal.Refusal.{Refusal}

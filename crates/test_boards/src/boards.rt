@@ -197,7 +197,7 @@ pub(crate) const fn late(expected: i64) -> Wanted {
 }
 
 /// The view of a hub after a message of the feed a, and after one of b where there is one.
-fn told(
+fn view_of(
     alloc: Global,
     plans: Arc<Plans>,
     first: Told,
@@ -219,7 +219,7 @@ fn shows(
     limit: u32,
     wanted: &[Wanted],
 ) -> Result<bool, RowsFault> {
-    let view = told(alloc, two_feeds(alloc)?, first, second)?;
+    let view = view_of(alloc, two_feeds(alloc)?, first, second)?;
     let rows = board(alloc, &view, "ST", limit)?;
     Ok(are_wanted(rows.as_slice(), wanted))
 }
@@ -235,7 +235,7 @@ pub(crate) fn begins_with(
 ) -> Result<bool, RowsFault>
     requires { at ≤ last_moment }
 {
-    let view = told(alloc, plans, first, second)?;
+    let view = view_of(alloc, plans, first, second)?;
     let rows = board_at(alloc, &view, "ST", at, 50)?;
     Ok(match rows.first() {
         Some(row) => is_wanted(row, &wanted),
