@@ -7,20 +7,18 @@ use Rattle.feed_defs.specs.declared.history.Stored.{Stored}
 use Rattle.feed_defs.specs.History.{is_full, stamp_of, changes_with}
 use Rattle.feed_defs.proofs.Kept.{id_cmp}
 use Rattle.feed_defs.proofs.Applied.{sorted_changed}
-use Rattle.entity_table.proofs.TableLemmas.{after_each, stepped, change_end}
+use Rattle.entity_table.proofs.TableLemmas.{stepped, change_end}
 use Rattle.board_defs.specs.Views.{FeedKept}
 use Rattle.alert_select.specs.FeedAlerts.{alerts_of}
 use Rattle.feed_view.proofs.Begun.{begun_sorted, begun_alerts}
 use Rattle.feed_view.proofs.view.FeedView.after.Goals as goal
 
 pub loop-entity-init : goal.loop-entity-init
-loop-entity-init c =
-    let items : c.into_iter-entity-iterator.result.rest.items ≡ c.args.message.entity = search rules in
-    record {
-      table = ap (after_each c.unwrap_or-stamp.result c.in_ok-table.table) items;
-      sorted = begun_sorted c.old.inside.table c.in_ok-table.table (is_full c.args.message) c.in_ok-table.ensures c.sound.ensures;
-      alerts = begun_alerts c.old.inside.table c.old.inside.alerts c.in_ok-table.table c.in_ok-alerts.alerts (is_full c.args.message) c.in_ok-table.ensures c.in_ok-alerts.ensures c.old.invariant.2;
-    }
+loop-entity-init c = record {
+  table = search rules;
+  sorted = begun_sorted c.old.inside.table c.in_ok-table.table (is_full c.args.message) c.in_ok-table.ensures c.sound.ensures;
+  alerts = begun_alerts c.old.inside.table c.old.inside.alerts c.in_ok-table.table c.in_ok-alerts.alerts (is_full c.args.message) c.in_ok-table.ensures c.in_ok-alerts.ensures c.old.invariant.2;
+}
 
 pub loop-entity-preserved : goal.loop-entity-preserved
 loop-entity-preserved c =
