@@ -2,7 +2,8 @@
 //!
 //! `push_combined` appends the bytes of a whole data set of version 2.0, with the greatest of the feeds' last
 //! stamps, and the entities of the schedule's feeds by feed and then by id. Each has its own id under its feed's
-//! name, as `<feed>:<id>`, and the ids of the timetable in it under the schedule's prefix.
+//! name, as `<feed>:<id>`, and the ids of the timetable in it under the schedule's prefix. `combined` gives them by
+//! themselves.
 //!
 //! It stands on `board_parts` for what the feeds hold, and on `feed_write` for the bytes.
 #![tactic(auto)]
@@ -10,5 +11,5 @@
 mod entities;
 mod message;
 
-pub use message::push_combined;
+pub use message::{combined, push_combined};
 pub use std::alloc::AllocError as NoMemory;

@@ -1,6 +1,6 @@
 //! The message, and its bytes.
 
-ghost use Rattle.std.specs.Prelude.{◌≡◌, ◌<◌, ◌++◌, List, length, true, Ok, OnOk, OnErr};
+ghost use Rattle.std.specs.Prelude.{◌≡◌, ◌<◌, ◌++◌, List, length, true, Ok, IfOk, OnOk, OnErr};
 ghost use Rattle.std.specs.Io.{StartsWith};
 ghost use Rattle.std.specs.Str.{is_utf8};
 ghost use Rattle.feed_defs.specs.declared.history.Entry.{Entry};
@@ -16,6 +16,23 @@ use crate::entities::push_entities;
 use board_parts::{HubView, ScheduleFeeds};
 use feed_write::write_message;
 use rt_types::{Bytes, Entities, FeedMessage, Header, Incrementality, Text};
+use std::alloc::Global;
+
+/// The bytes of the combined feed of the schedule of that number by themselves: what [`push_combined`]
+/// appends; or out of memory.
+pub fn combined(alloc: Global, view: &HubView, plan: u32) -> Result<Vec<u8>, NoMemory>
+    requires { plan < length view.now.plans.plans }
+    ensures feed { IfOk result (λ bytes. bytes.items
+        ≡ combined_feed view.now.plans plan (folds_of view.now)) }
+    ensures stands { (h : List Entry) → StandsFor h view.now → IfOk result (λ bytes. bytes.items
+        ≡ combined_feed view.now.plans plan (fold_of (length view.now.plans.feeds) h)) }
+    ensures again { (h : List Entry) → WereRead h → StandsFor h view.now → IfOk result (λ bytes.
+        read bytes.items ≡ Ok (schedule_message view.now.plans plan (folds_of view.now))) }
+{
+    let mut bytes = Vec::new(alloc);
+    push_combined(view, plan, &mut bytes)?;
+    Ok(bytes)
+}
 
 /// Appends the combined feed of the schedule of that number (GTFS Realtime 2.0, FeedMessage), of what
 /// the hub's feeds hold. Where the hub's messages were read, it reads as the message that it is written
@@ -32,11 +49,13 @@ pub fn push_combined(view: &HubView, plan: u32, out: &mut Vec<u8>) -> Result<(),
     ensures kept { OnErr result (out.new.items ≡ out.old.items) }
 {
     let before = out.len();
-    let written = push_message(view, plan, out);
-    if written.is_err() {
-        out.truncate(before);
+    match push_message(view, plan, out) {
+        Ok(()) => Ok(()),
+        Err(fault) => {
+            out.truncate(before);
+            Err(fault)
+        }
     }
-    written
 }
 
 /// Appends it, or as much of it as memory allows.

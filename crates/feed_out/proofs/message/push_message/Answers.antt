@@ -1,5 +1,5 @@
 -- The bytes are those of the message of what the view holds.
-use Rattle.std.proofs.Common.{◌≡◌, ◌<◌, ◌^◌, ◌++◌, length, length-append, ap, refl, arith}
+use Rattle.std.proofs.Common.{◌≡◌, ◌<◌, ◌^◌, ◌++◌, length, length-append, ap, refl, arith, rules}
 use Rattle.std.proofs.lemmas.Result.{on_ok_weaker}
 use Rattle.board_defs.specs.Feed.{combined_feed}
 use Rattle.board_defs.specs.Views.{folds_of}
