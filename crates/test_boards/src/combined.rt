@@ -5,7 +5,7 @@ ghost use Rattle.std.specs.Arc.{arc_value};
 ghost use Rattle.board_defs.specs.Views.{hub_first};
 
 use board_parts::HubView;
-use feed_out::{NoMemory, push_combined};
+use feed_out::{NoMemory, combined};
 use feed_view::FeedView;
 use rt_types::{Entity, Shared, Text, Vehicle};
 use sample_city::{dataset_of, no_bytes};
@@ -94,9 +94,7 @@ fn combined_after(
     let first = HubView::first(alloc, two_schedules(alloc)?)?;
     let entities = vec![in alloc; entity(alloc, vehicle)?]?;
     let view = first.with_feed(alloc, feed, sent(alloc, entities)?)?;
-    let mut bytes = Vec::new(alloc);
-    push_combined(&view, plan, &mut bytes)?;
-    Ok(bytes)
+    Ok(combined(alloc, &view, plan)?)
 }
 
 #[test]
