@@ -57,10 +57,6 @@ all_runs t =
     (range_with_len 0 (length t.trips)))
     (range_with_len 0 (length t.bases)))
 
--- the stop at which a place of a run stands
-abbrev pub stands_at : Place → ℕ
-stands_at place = place.stop
-
 -- the stop is the asked one, or names it as its parent_station (GTFS Schedule, stops.txt)
 abbrev pub is_asked : Timetable → ℕ → ℕ → Bool
 is_asked t asked stop = (stop == asked) || names_parent asked (slice_get t.stops stop)
@@ -76,30 +72,35 @@ departures_of t trip = let places = places_of t trip in
 
 -- ---- what a board says of a place
 
--- a state, and a delay where it is known
+-- a state, a delay where it is known, and a stop where it is moved to one
 pub record Shown : Type 0 where
   pub state : RowState
   pub delay : Option ℤ
+  pub stop : Option ℕ
+
+abbrev pub by_delay : Option ℤ → Option ℕ → Shown
+by_delay None stop = record { state = state.Scheduled; delay = None; stop = stop }
+by_delay (Some delay) stop = record { state = state.Live; delay = Some delay; stop = stop }
 
 abbrev pub as_scheduled : Shown
-as_scheduled = record { state = state.Scheduled; delay = None }
-
-abbrev pub by_delay : Option ℤ → Shown
-by_delay None = as_scheduled
-by_delay (Some delay) = record { state = state.Live; delay = Some delay }
+as_scheduled = by_delay None None
 
 -- by the state of the place under the run's update
 abbrev pub by_state : Option StopState → Shown
 by_state None = as_scheduled
 by_state (Some s) =
-    if s.skipped then record { state = state.Skipped; delay = None } else by_delay s.departure
+    if s.skipped
+    then record { state = state.Skipped; delay = None; stop = s.stop }
+    else by_delay s.departure s.stop
 
--- by the relation of the run's update: a deleted run is not shown, a canceled one keeps its times
+-- By the relation of the run's update: a deleted run is not shown, and a canceled one keeps its times and its
+-- stops.
 abbrev pub by_relation : TripRelation → Option StopState → Option Shown
 by_relation relation.Scheduled s = Some (by_state s)
 by_relation relation.Added s = Some (by_state s)
 by_relation relation.Unscheduled s = Some (by_state s)
-by_relation relation.Canceled s = Some (record { state = state.Canceled; delay = None })
+by_relation relation.Canceled s =
+    Some (record { state = state.Canceled; delay = None; stop = None })
 by_relation relation.Replacement s = Some (by_state s)
 by_relation relation.Duplicated s = Some (by_state s)
 by_relation relation.Deleted s = None
@@ -109,6 +110,10 @@ abbrev pub shown_at : Timetable → Run → Option Update → ℕ → Option Sho
 shown_at t run None i = Some as_scheduled
 shown_at t run (Some u) i =
     by_relation (relation_of u.update.trip) (slice_get (states t run u.update) i)
+
+-- the stop at which a place of a run stands: the one to which it is moved, else the timetable's
+abbrev pub stands_at : Place → Shown → ℕ
+stands_at place shown = unwrap_or shown.stop place.stop
 
 -- ---- the row of a place
 
@@ -141,21 +146,28 @@ row_of t run place shown = let trip = slice_get t.trips run.trip in record {
   headsign = unwrap_or (option_map (λ x. x.headsign) trip) [];
   trip = unwrap_or (option_map (λ x. x.id) trip) [];
   date = date_text t run.day;
-  platform = stop_id_of t (stands_at place);
+  platform = stop_id_of t (stands_at place shown);
 }
 
-abbrev pub place_row : Timetable → ℕ → Run → Option Update → ℕ × Place → Option BoardRow
-place_row t asked run update (i, place) =
-    if may_board place && is_asked t asked (stands_at place)
+-- and with what it is about, where the place stands at the asked stop
+abbrev pub shown_row : Timetable → ℕ → Run → ℕ × Place → Shown → Option BoardRow
+shown_row t asked run (i, place) shown =
+    if is_asked t asked (stands_at place shown)
     then
-    option_map
-    (λ shown. record {
+    Some
+    (record {
       row = row_of t run place shown;
       subject = RunOf run;
       place = i;
-      stop = stands_at place;
+      stop = stands_at place shown;
     })
-    (shown_at t run update i)
+    else None
+
+-- a place at which passengers may board, by the update that counts for its run
+abbrev pub place_row : Timetable → ℕ → Run → Option Update → ℕ × Place → Option BoardRow
+place_row t asked run update (i, place) =
+    if may_board place
+    then option_and_then (shown_row t asked run (i, place)) (shown_at t run update i)
     else None
 
 -- the rows of a run at the asked stop

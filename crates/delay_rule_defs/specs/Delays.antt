@@ -2,10 +2,11 @@
 -- Updates"). Delays are seconds behind the timetable; None is an unknown one.
 use Rattle.std.specs.Prelude.{ℕ, ◌+◌, Bool, true, false, ◌==◌, nat_lt, if◌then◌else◌, Option, Some, None, unwrap_or, List, [], ◌∷◌, length, map, filter, filter_map, drop, ℤ, pos, ◌-ℤ◌}
 use Rattle.std.specs.List.{find, last_or, position_from, range_with_len}
-use Rattle.std.specs.Option.{option_or, option_map}
+use Rattle.std.specs.Option.{option_or, option_map, option_and_then}
 use Rattle.rt_types.specs.declared.enums.StopRelation.{StopRelation}
 use Rattle.rt_types.specs.declared.enums.StopRelation.TheVariants.{Scheduled, Skipped, NoData, Unscheduled}
 use Rattle.rt_types.specs.declared.trip_update.Event.{Event}
+use Rattle.rt_types.specs.declared.trip_update.StopProps.{StopProps}
 use Rattle.rt_types.specs.declared.trip_update.StopUpdate.{StopUpdate}
 use Rattle.rt_types.specs.declared.trip_update.TripUpdate.{TripUpdate}
 use Rattle.text_defs.specs.Moments.{is_instant}
@@ -76,6 +77,18 @@ event_delays_at t run i update = record {
 abbrev pub relation_of : StopUpdate → StopRelation
 relation_of update = unwrap_or update.relation Scheduled
 
+-- ---- where the vehicle stops
+
+-- the stop of an assigned_stop_id, where it is one of stops.txt (GTFS Realtime, StopTimeProperties)
+abbrev pub assigned_in : Timetable → Option StopProps → Option ℕ
+assigned_in t None = None
+assigned_in t (Some properties) =
+    option_and_then (number_of (λ stop. stop.id) t.stops) properties.assigned_stop_id
+
+-- the stop that an update names for its place
+abbrev pub assigned_stop : Timetable → StopUpdate → Option ℕ
+assigned_stop t update = assigned_in t update.properties
+
 -- ---- what is carried from place to place
 
 -- What an update says of the places behind it, if it says something: that nothing is known, or a delay.
@@ -101,25 +114,30 @@ carry_at t run pairs delay i =
 
 -- a place that no update says anything about
 abbrev pub plain : Option ℤ → StopState
-plain carry = record { skipped = false; arrival = carry; departure = carry }
+plain carry = record { skipped = false; arrival = carry; departure = carry; stop = None }
 
--- A place that an update takes, by the update's relation, the delays that it tells, and the delay that is
--- carried to it. Where a SCHEDULED update tells no arrival, the carried delay counts; where it tells no
--- departure, the arrival's.
-abbrev pub state_by : StopRelation → EventDelays → Option ℤ → StopState
-state_by Skipped told carry = record { skipped = true; arrival = carry; departure = carry }
-state_by NoData told carry = plain None
-state_by Unscheduled told carry = plain None
-state_by Scheduled told carry = record {
+-- A place that an update takes, by the update's relation, the delays that it tells, the stop that it names,
+-- and the delay that is carried to the place. Where a SCHEDULED update tells no arrival, the carried delay
+-- counts; where it tells no departure, the arrival's. It moves its place to the stop that it names, whether it
+-- tells a delay or not. The other relations move none, and the stop is not carried on: both are rules of this
+-- project.
+abbrev pub state_by : StopRelation → EventDelays → Option ℕ → Option ℤ → StopState
+state_by Skipped told stop carry =
+    record { skipped = true; arrival = carry; departure = carry; stop = None }
+state_by NoData told stop carry = plain None
+state_by Unscheduled told stop carry = plain None
+state_by Scheduled told stop carry = record {
   skipped = false;
   arrival = option_or told.arrival carry;
   departure = option_or told.departure (option_or told.arrival carry);
+  stop = stop;
 }
 
 abbrev pub state_with : Timetable → Run → Option (ℕ × StopUpdate) → Option ℤ → StopState
 state_with t run None carry = plain carry
 state_with t run (Some pair) carry =
-    state_by (relation_of pair.1) (event_delays_at t run pair.0 pair.1) carry
+    state_by (relation_of pair.1) (event_delays_at t run pair.0 pair.1) (assigned_stop t pair.1)
+    carry
 
 abbrev pub state_at : Timetable → Run → List (ℕ × StopUpdate) → Option ℤ → ℕ → StopState
 state_at t run pairs delay i =
