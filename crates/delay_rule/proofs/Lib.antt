@@ -3,3 +3,4 @@ pub mod Ranges
 pub mod PassLaw
 pub mod StepLaw
 pub mod NearLaw
+pub mod StopsThere

@@ -12,7 +12,7 @@ use Rattle.rt_types.specs.declared.trip_update.TripUpdate.{TripUpdate}
 use Rattle.sched_types.specs.declared.rows.Place.{Place}
 use Rattle.sched_types.specs.declared.rows.Run.{Run}
 use Rattle.sched_types.specs.Timetable.{Timetable, places_of, base_of}
-use Rattle.delay_rule_defs.specs.Delays.{EventDelays, fits, placements_of, taken, event_delays_at, relation_of, carry_of, carry_of_update, carry_at, plain, state_by, state_with, state_at, states}
+use Rattle.delay_rule_defs.specs.Delays.{EventDelays, fits, placements_of, taken, event_delays_at, assigned_stop, relation_of, carry_of, carry_of_update, carry_at, plain, state_by, state_with, state_at, states}
 use Rattle.delay_rule.specs.Pass.{state_here, turned, walked}
 use Rattle.delay_rule.proofs.Ranges.{map_split, map_same, map_constant}
 use Rattle.delay_rule.proofs.Search.{found_within}
@@ -24,11 +24,11 @@ carried_departure (Some d) arrival carry = refl
 carried_departure None (Some a) carry = refl
 carried_departure None None carry = refl
 
-departure_carried : (relation : StopRelation) (told : EventDelays) (carry : Option ℤ) → (state_by relation told carry).departure ≡ unwrap_or (carry_of relation told) carry
-departure_carried Scheduled told carry = carried_departure told.departure told.arrival carry
-departure_carried Skipped told carry = refl
-departure_carried NoData told carry = refl
-departure_carried Unscheduled told carry = refl
+departure_carried : (relation : StopRelation) (told : EventDelays) (stop : Option ℕ) (carry : Option ℤ) → (state_by relation told stop carry).departure ≡ unwrap_or (carry_of relation told) carry
+departure_carried Scheduled told stop carry = carried_departure told.departure told.arrival carry
+departure_carried Skipped told stop carry = refl
+departure_carried NoData told stop carry = refl
+departure_carried Unscheduled told stop carry = refl
 
 last_there : {A : Type 0} (x : A) (xs : List A) (a b : A) → unwrap_or (last_or (Some x) xs) a ≡ unwrap_or (last_or (Some x) xs) b
 last_there x [] a b = refl
@@ -85,12 +85,12 @@ module _ (t : Timetable) (run : Run) where
 
   module _ (i : ℕ) (update : StopUpdate) (pairs : List (ℕ × StopUpdate)) (carry : Option ℤ) (behind : AllFrom (i + 1) pairs) where
     -- at the place that an update takes, it decides
-    state_taken : state_at t run ((i, update) ∷ pairs) carry i ≡ state_by (relation_of update) (event_delays_at t run i update) carry
+    state_taken : state_at t run ((i, update) ∷ pairs) carry i ≡ state_by (relation_of update) (event_delays_at t run i update) (assigned_stop t update) carry
     state_taken =
         let found : find (λ pair. nat_eq pair.0 i) ((i, update) ∷ pairs) ≡ Some (i, update) = rw (is_same i) refl in
         let set : filter (λ pair. nat_lt pair.0 i) ((i, update) ∷ pairs) ≡ [] = rw (not_before i i (omega arith)) (none_before (i + 1) i pairs behind (omega arith)) in
         ap (λ pair. state_with t run pair (carry_at t run ((i, update) ∷ pairs) carry i)) found
-        ∙ ap (λ set. state_by (relation_of update) (event_delays_at t run i update) (unwrap_or (last_or None (filter_map (carry_of_update t run) set)) carry)) set
+        ∙ ap (λ set. state_by (relation_of update) (event_delays_at t run i update) (assigned_stop t update) (unwrap_or (last_or None (filter_map (carry_of_update t run) set)) carry)) set
 
     -- behind it, what it carries on
     state_behind : (j : ℕ) → i < j → state_at t run ((i, update) ∷ pairs) carry j ≡ state_at t run pairs (unwrap_or (carry_of_update t run (i, update)) carry) j
@@ -116,7 +116,7 @@ module _ (t : Timetable) (run : Run) where
 
   -- ---- the state at a place that is there
 
-  state_there : (i : ℕ) (update : StopUpdate) (carry : Option ℤ) (place : Place) → slice_get (places_of t run.trip) i ≡ Some place → state_here (base_of t run.day) update carry (slice_get (places_of t run.trip) i) ≡ state_by (relation_of update) (event_delays_at t run i update) carry
+  state_there : (i : ℕ) (update : StopUpdate) (carry : Option ℤ) (place : Place) → slice_get (places_of t run.trip) i ≡ Some place → state_here t (base_of t run.day) update carry (slice_get (places_of t run.trip) i) ≡ state_by (relation_of update) (event_delays_at t run i update) (assigned_stop t update) carry
   state_there i update carry place at = rw at refl
 
   -- ---- the law
@@ -128,7 +128,7 @@ module _ (t : Timetable) (run : Run) where
 
   turn : (update : StopUpdate) (updates : List StopUpdate) (from : ℕ) (carry : Option ℤ) → from ≤ length (places_of t run.trip) → (o : Option ℕ) → position_from (fits t update) from (drop from (places_of t run.trip)) ≡ o
       → ((next : ℕ) (delay : Option ℤ) → next ≤ length (places_of t run.trip) → Goes updates next delay)
-      → turned (places_of t run.trip) (base_of t run.day) update (λ next delay. walked t (places_of t run.trip) (base_of t run.day) updates next delay) from carry o
+      → turned t (places_of t run.trip) (base_of t run.day) update (λ next delay. walked t (places_of t run.trip) (base_of t run.day) updates next delay) from carry o
       ≡ map (state_at t run (taken o update (λ next. placements_of t run.trip updates next) from) carry) (range_with_len from (length (places_of t run.trip) - from))
   turn update updates from carry h None at goes = goes from carry h
   turn update updates from carry h (Some i) at goes =
@@ -141,9 +141,9 @@ module _ (t : Timetable) (run : Run) where
       let whole : AllFrom i ((i, update) ∷ pairs) = (omega arith, all_earlier (i + 1) i pairs (omega arith) all) in
       let own = get_or places i (record { stop = 0; sequence = 0; arrival = 0; departure = 0; pickup = 0 }) in
       let there : slice_get places i ≡ Some own = slice_get-get_or places i (record { stop = 0; sequence = 0; arrival = 0; departure = 0; pickup = 0 }) before in
-      let state = state_here (base_of t run.day) update carry (slice_get places i) in
+      let state = state_here t (base_of t run.day) update carry (slice_get places i) in
       let state_is = state_there i update carry own there in
-      let on : state.departure ≡ unwrap_or (carry_of_update t run (i, update)) carry = ap (λ s. s.departure) state_is ∙ departure_carried (relation_of update) (event_delays_at t run i update) carry in
+      let on : state.departure ≡ unwrap_or (carry_of_update t run (i, update)) carry = ap (λ s. s.departure) state_is ∙ departure_carried (relation_of update) (event_delays_at t run i update) (assigned_stop t update) carry in
       let f = state_at t run ((i, update) ∷ pairs) carry in
       ap (λ rest. replicate (i - from) (plain carry) ++ (state ∷ rest))
       (goes (i + 1) state.departure (omega arith)

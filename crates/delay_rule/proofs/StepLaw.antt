@@ -7,7 +7,7 @@ use Rattle.rt_types.specs.declared.trip_update.TripUpdate.{TripUpdate}
 use Rattle.sched_types.specs.declared.rows.Run.{Run}
 use Rattle.sched_types.specs.Timetable.{Timetable, places_of}
 use Rattle.delay_rule_defs.specs.declared.state.StopState.{StopState}
-use Rattle.delay_rule_defs.specs.Delays.{fits, relation_of, plain, state_by, states}
+use Rattle.delay_rule_defs.specs.Delays.{fits, assigned_stop, relation_of, plain, state_by, states}
 use Rattle.delay_rule.specs.Near.{IsNear, AddsNear}
 use Rattle.delay_rule.specs.Pass.{told_by, state_here, turned, walked, StartsWith}
 use Rattle.delay_rule.proofs.NearLaw.{adds_on}
@@ -17,20 +17,20 @@ pub goes_nowhere : (t : Timetable) (places : List Place) (base : ℤ) (update : 
     → (more : List StopUpdate) → old ++ walked t places base more from carry ≡ old ++ walked t places base (update ∷ more) from carry
 unfolding walked
 goes_nowhere t places base update from carry old found more =
-    ap (λ o. old ++ turned places base update (λ next delay. walked t places base more next delay) from carry o) found
+    ap (λ o. old ++ turned t places base update (λ next delay. walked t places base more next delay) from carry o) found
 
 pub goes_further : (t : Timetable) (places : List Place) (base : ℤ) (update : StopUpdate) (from : ℕ) (carry : Option ℤ) (old mid new : List StopState) (i : ℕ) (place : Place) (state : StopState) → Some i ≡ position_from (fits t update) from (drop from places)
-    → slice_get places i ≡ Some place → mid ≡ old ++ replicate (i - from) (plain carry) → state ≡ state_by (relation_of update) (told_by base place update) carry → new ≡ mid ++ state ∷ []
+    → slice_get places i ≡ Some place → mid ≡ old ++ replicate (i - from) (plain carry) → state ≡ state_by (relation_of update) (told_by base place update) (assigned_stop t update) carry → new ≡ mid ++ state ∷ []
     → (more : List StopUpdate) → new ++ walked t places base more (i + 1) state.departure ≡ old ++ walked t places base (update ∷ more) from carry
 unfolding walked
 goes_further t places base update from carry old mid new i place state found at passed told pushed more =
-    let same : state ≡ state_here base update carry (slice_get places i) = told ∙ sym (ap (state_here base update carry) at) in
+    let same : state ≡ state_here t base update carry (slice_get places i) = told ∙ sym (ap (state_here t base update carry) at) in
     ap (λ xs. xs ++ walked t places base more (i + 1) state.departure) pushed
     ∙ append_assoc mid (state ∷ []) (walked t places base more (i + 1) state.departure)
     ∙ ap (λ xs. xs ++ (state ∷ walked t places base more (i + 1) state.departure)) passed
     ∙ append_assoc old (replicate (i - from) (plain carry)) (state ∷ walked t places base more (i + 1) state.departure)
     ∙ ap (λ s. old ++ (replicate (i - from) (plain carry) ++ (s ∷ walked t places base more (i + 1) s.departure))) same
-    ∙ ap (λ o. old ++ turned places base update (λ next delay. walked t places base more next delay) from carry o) found
+    ∙ ap (λ o. old ++ turned t places base update (λ next delay. walked t places base more next delay) from carry o) found
 
 -- ---- how far the pass has come
 

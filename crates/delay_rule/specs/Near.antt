@@ -1,6 +1,7 @@
--- How large the delays are that the pass writes.
-use Rattle.std.specs.Prelude.{◌≡◌, List, ◌++◌, IfSome, ℤ, pos, negsuc, ◌≤ℤ◌}
+-- How large the delays are that the pass writes, and which stops.
+use Rattle.std.specs.Prelude.{◌≡◌, ◌<◌, List, ◌++◌, length, IfSome, ℤ, pos, negsuc, ◌≤ℤ◌}
 use Rattle.std.specs.List.{All}
+use Rattle.sched_types.specs.Timetable.{Timetable}
 use Rattle.delay_rule_defs.specs.declared.state.StopState.{StopState}
 
 -- within two trillion seconds, so that its sum with a scheduled instant stays far within 64 bits
@@ -12,6 +13,10 @@ pub record IsNear (seconds : ℤ) : Type 0 where
 pub record IsNearState (state : StopState) : Type 0 where
   pub arrival : IfSome state.arrival IsNear
   pub departure : IfSome state.departure IsNear
+
+-- the stop to which a place is moved, if it is, is one of the timetable
+abbrev pub IsAtStop : Timetable → StopState → Type 0
+IsAtStop t state = IfSome state.stop (λ stop. stop < length t.stops)
 
 -- the new states are the old ones and some with such delays behind them
 pub record AddsNear (old new : List StopState) : Type 0 where

@@ -3,13 +3,14 @@ ghost use Rattle.std.specs.Prelude.{◌≡◌, true, pos, ◌+ℤ◌, ◌-ℤ◌
 ghost use Rattle.text_defs.specs.Moments.{is_instant};
 ghost use Rattle.sched_types.specs.Timetable.{IsSmall};
 ghost use Rattle.delay_rule_defs.specs.Delays as rule;
-ghost use Rattle.delay_rule_defs.specs.Delays.{relation_of, state_by};
+ghost use Rattle.delay_rule_defs.specs.Delays.{assigned_stop, relation_of, state_by};
 ghost use Rattle.delay_rule.specs.Near.{IsNear, IsNearState};
 ghost use Rattle.delay_rule.specs.Pass.{told_by};
 
+use crate::places::assigned_stop;
 use delay_rule_defs::StopState;
 use rt_types::{Event, StopRelation, StopUpdate};
-use sched_types::Place;
+use sched_types::{Place, Plan};
 use texts::is_instant;
 
 /// How far a time that counts lies behind what is scheduled so many seconds after `base`.
@@ -56,12 +57,14 @@ pub(crate) fn plain(carry: Option<i64>) -> StopState
         skipped: false,
         arrival: carry,
         departure: carry,
+        stop: None,
     }
 }
 
 /// The state of a place that an update takes, with the delay that is carried to it. The departure's delay
 /// is what is carried on.
 pub(crate) fn state_of(
+    plan: &Plan,
     update: &StopUpdate,
     place: Place,
     base: i64,
@@ -70,7 +73,8 @@ pub(crate) fn state_of(
     requires small { IsSmall base }
     requires carry { IfSome carry IsNear }
     ensures value { result
-        ≡ state_by (relation_of update.now) (told_by base place update.now) carry }
+        ≡ state_by (relation_of update.now) (told_by base place update.now)
+        (assigned_stop plan.now update.now) carry }
     ensures near { IsNearState result }
 {
     match update.relation.unwrap_or(StopRelation::Scheduled) {
@@ -78,6 +82,7 @@ pub(crate) fn state_of(
             skipped: true,
             arrival: carry,
             departure: carry,
+            stop: None,
         },
         StopRelation::NoData | StopRelation::Unscheduled => plain(None),
         StopRelation::Scheduled => {
@@ -87,6 +92,7 @@ pub(crate) fn state_of(
                 skipped: false,
                 arrival,
                 departure,
+                stop: assigned_stop(plan, update),
             }
         }
     }

@@ -5,7 +5,7 @@ ghost use Rattle.rt_types.specs.declared.trip_update.StopUpdate.{StopUpdate};
 ghost use Rattle.sched_types.specs.Timetable.{IsSmall, is_run};
 ghost use Rattle.delay_rule_defs.specs.Delays as rule;
 ghost use Rattle.delay_rule_defs.specs.Delays.{states};
-ghost use Rattle.delay_rule.specs.Near.{IsNear, IsNearState, AddsNear};
+ghost use Rattle.delay_rule.specs.Near.{IsNear, IsNearState, IsAtStop, AddsNear};
 ghost use Rattle.delay_rule.specs.Pass.{SequencesRise, StartsWith, walked};
 
 use crate::delays::{plain, state_of, widened};
@@ -62,7 +62,7 @@ fn step(
         Some(found) => {
             add_plain(out, found - reached.place, reached.carry)?;
             let place = places[found];
-            let state = state_of(update, place, base, reached.carry);
+            let state = state_of(plan, update, place, base, reached.carry);
             out.push(state)?;
             Ok(Reached {
                 place: found + 1,
@@ -85,6 +85,7 @@ fn fill(
         ++ states plan.now run update.now) }
     ensures begins { StartsWith out.old.items out.new.items }
     ensures near { OnOk result (All IsNearState (states plan.now run update.now)) }
+    ensures there { OnOk result (All (IsAtStop plan.now) (states plan.now run update.now)) }
 {
     plan.sound();
     let places = plan.stop_times(run.trip);
@@ -105,7 +106,8 @@ fn fill(
 /// states are as they were before, and the step is added all the same.
 ///
 /// The rules are those of GTFS Realtime (TripUpdate) as `delay_rule_defs` says them: updates take places in
-/// order, and a delay holds up to the next place with one. Each delay is within two trillion seconds.
+/// order, a delay holds up to the next place with one, and an assigned stop holds for its place alone. Each delay
+/// is within two trillion seconds, and each stop is one of the timetable.
 pub fn walk<L: Ledger>(
     plan: &Plan,
     run: Run,
@@ -117,6 +119,7 @@ pub fn walk<L: Ledger>(
     ensures written { OnOk result (out.new.items ≡ out.old.items
         ++ states plan.now run update.now) }
     ensures near { OnOk result (All IsNearState (states plan.now run update.now)) }
+    ensures there { OnOk result (All (IsAtStop plan.now) (states plan.now run update.now)) }
     ensures kept { OnErr result (out.new.items ≡ out.old.items) }
     ensures counted { steps.new ≡ steps.old + 1 }
 {

@@ -1,6 +1,7 @@
-// Which place of a trip an update is about.
+// Which place of a trip an update is about, and to which stop it moves it.
 ghost use Rattle.std.specs.Prelude.{◌≡◌, ◌<◌, ◌≤◌, ◌==◌, length, drop, IfSome};
 ghost use Rattle.std.specs.List.{position_from};
+ghost use Rattle.delay_rule_defs.specs.Delays as rule;
 ghost use Rattle.delay_rule_defs.specs.Delays.{fits, is_at};
 ghost use Rattle.delay_rule.specs.Pass.{SequencesRise};
 
@@ -49,6 +50,21 @@ fn with_stop_id(plan: &Plan, places: &[Place], from: usize, id: &Option<Text>) -
     match id {
         Some(id) => match plan.stop_of(id.as_str()) {
             Some(stop) => at_stop(places, from, stop),
+            None => None,
+        },
+        None => None,
+    }
+}
+
+/// The number of the stop that an update names for its place, if it names one of the timetable (GTFS Realtime,
+/// StopTimeProperties, assigned_stop_id).
+pub fn assigned_stop(plan: &Plan, update: &StopUpdate) -> Option<u32>
+    ensures value { result ≡ rule.assigned_stop plan.now update.now }
+    ensures within { IfSome result (λ stop. stop < length plan.now.stops) }
+{
+    match &update.properties {
+        Some(properties) => match &properties.assigned_stop_id {
+            Some(id) => plan.stop_of(id.as_str()),
             None => None,
         },
         None => None,

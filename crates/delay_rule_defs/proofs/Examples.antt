@@ -60,10 +60,10 @@ late_state seconds = plain (Some (pos seconds))
 
 -- one place with a delay of its arrival and one of its departure
 abbrev stop_state : Option ℤ → Option ℤ → StopState
-stop_state arrival departure = record { skipped = false; arrival = arrival; departure = departure }
+stop_state arrival departure = record { skipped = false; arrival = arrival; departure = departure; stop = None }
 
 abbrev skipped_state : Option ℤ → StopState
-skipped_state carry = record { skipped = true; arrival = carry; departure = carry }
+skipped_state carry = record { skipped = true; arrival = carry; departure = carry; stop = None }
 
 -- a delay holds from its place on up to the next one; before the first nothing is known, and from NO_DATA on
 delays_go_on : states line run (update None (three ∷ eight ∷ ten ∷ []))

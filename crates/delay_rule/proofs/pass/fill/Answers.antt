@@ -4,6 +4,7 @@ use Rattle.std.proofs.lemmas.List.{drop_all, drop_more}
 use Rattle.sched_types.proofs.Lists.{fits_seconds}
 use Rattle.delay_rule.proofs.NearLaw.{adds_plain, adds_on, near_added}
 use Rattle.delay_rule.proofs.StepLaw.{ends, begins_on, goes_by}
+use Rattle.delay_rule.proofs.StopsThere.{states_there}
 use Rattle.delay_rule.proofs.pass.fill.Goals as goal
 
 pub returns-clause-written : goal.returns-clause-written
@@ -33,3 +34,6 @@ returns-clause-near c =
     near_added c.args.out.now.items c.add_plain.new.out.items _ (returns-clause-written c)
     (adds_on c.args.out.now.items c.loop-stop_update.out.items c.add_plain.new.out.items c.loop-stop_update.invariant.near
     (adds_plain c.loop-stop_update.out.items c.add_plain.new.out.items _ c.loop-stop_update.reached.carry c.loop-stop_update.invariant.carried c.in_ok-add_plain.ensures.added))
+
+pub returns-clause-there : goal.returns-clause-there
+returns-clause-there c = states_there c.args.plan.now c.args.run c.args.update.now

@@ -3,7 +3,7 @@ use Rattle.std.proofs.lemmas.Int.{to_z-of_z}
 use Rattle.std.proofs.lemmas.Option.{slice_get-get_or}
 use Rattle.sched_types.specs.declared.rows.Place.{Place}
 use Rattle.sched_types.proofs.Lists.{fits_seconds}
-use Rattle.delay_rule_defs.specs.Delays.{relation_of, state_by}
+use Rattle.delay_rule_defs.specs.Delays.{assigned_stop, relation_of, state_by}
 use Rattle.delay_rule.specs.Pass.{told_by}
 use Rattle.delay_rule.proofs.NearLaw.{adds_plain, adds_one}
 use Rattle.delay_rule.proofs.StepLaw.{goes_nowhere, goes_further}
@@ -15,7 +15,7 @@ returns-in_ok-push-in-Some-clause-goes_on c =
     let place = get_or c.args.places.now c.in-Some.found none in
     goes_further c.args.plan.now c.args.places.now c.args.base c.args.update.now c.args.reached.place c.args.reached.carry c.args.out.now.items _ _ c.in-Some.found place c.state_of-state.result c.in-Some.ensures.value
     (slice_get-get_or c.args.places.now c.in-Some.found none c.in-Some.ensures.within) c.in_ok-add_plain-in-Some.ensures.added
-    (c.state_of-state.ensures.value ∙ ap (λ base. state_by (relation_of c.args.update.now) (told_by base place c.args.update.now) c.args.reached.carry) (to_z-of_z w64 c.args.base (fits_seconds c.args.base c.requires.small)))
+    (c.state_of-state.ensures.value ∙ ap (λ base. state_by (relation_of c.args.update.now) (told_by base place c.args.update.now) (assigned_stop c.args.plan.now c.args.update.now) c.args.reached.carry) (to_z-of_z w64 c.args.base (fits_seconds c.args.base c.requires.small)))
     c.in_ok-push-in-Some.ensures.items
 
 pub returns-in-None-clause-goes_on : goal.returns-in-None-clause-goes_on
