@@ -251,6 +251,50 @@ where_a_row_is : listed_at (lift_alert (record (of_stop (codes "S3")) { route_id
 unfolding alerts is_active concerns touches fold_of messages_of since_full changes_by_id entities_of chosen added_updates match_of by_near date_in is_day date_plus next_day states all_runs run_rows board_at board inserted ordered digits
 where_a_row_is = refl
 
+-- an alert for the departures of the route at a platform, and T1, whose first place is at another stop, if one is told
+abbrev at_platform : List ℕ → Option (List ℕ) → List Entry
+at_platform platform stop =
+    sent (record (bare (codes "w")) { alert = Some (lift_out [] (record (of_stop platform) { route_id = Some (codes "R7") } ∷ [])) } ∷ record (bare (codes "u")) {
+      trip_update = Some (record {
+        trip = named (codes "T1") (Some (codes "20250330")) None;
+        stop_time_update = record {
+          stop_sequence = Some 1;
+          arrival = None;
+          departure = None;
+          stop_id = None;
+          relation = None;
+          properties = Some (record { assigned_stop_id = stop; unknown = [] });
+          unknown = [];
+        } ∷ [];
+        vehicle = None;
+        timestamp = None;
+        delay = None;
+        unknown = [];
+      });
+    } ∷ [])
+
+-- next to a board of the market on which T1 is the only departure
+abbrev next_to_first : List Entry → Option (List AlertRow)
+next_to_first history =
+    alerts schedules (fold_of 2 history) (record { plan = 0; stop = codes "ST"; at = 1743314400; span = 60; limit = 50 })
+
+abbrev lift_row : AlertRow
+lift_row = record { feed = 0; id = codes "w"; cause = None; effect = None; header = codes "Lift out" }
+
+-- an alert touches a departure by the platform at which it leaves
+by_its_platform :
+    (next_to_first (at_platform (codes "S1") None) ≡ Some (lift_row ∷ []))
+    × (next_to_first (at_platform (codes "S2") None) ≡ Some [])
+unfolding alerts is_active concerns touches fold_of messages_of since_full changes_by_id entities_of chosen added_updates match_of by_near date_in is_day date_plus next_day states all_runs run_rows board_at board inserted ordered digits
+by_its_platform = (refl, refl)
+
+-- and no more by that of the timetable
+by_its_new_platform :
+    (next_to_first (at_platform (codes "S1") (Some (codes "S2"))) ≡ Some [])
+    × (next_to_first (at_platform (codes "S2") (Some (codes "S2"))) ≡ Some (lift_row ∷ []))
+unfolding alerts is_active concerns touches fold_of messages_of since_full changes_by_id entities_of chosen added_updates match_of by_near date_in is_day date_plus next_day states all_runs run_rows board_at board inserted ordered digits
+by_its_new_platform = (refl, refl)
+
 -- an alert counts up to its feed's max_age after the stamp of its message, which is 5
 abbrev listed_with : ℕ → ℕ → Option (List AlertRow)
 listed_with max_age at =

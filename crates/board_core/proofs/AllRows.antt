@@ -1,19 +1,21 @@
 -- The rows that the code goes over are those that are defined.
-use Rattle.std.proofs.Common.{◌≡◌, ℕ, zero, suc, ◌+◌, ◌-◌, Bool, true, false, ◌&&◌, ◌||◌, cond, Option, Some, None, List, [], ◌∷◌, ◌++◌, length, map, filter, take, refl, sym, ap, ◌∙◌}
+use Rattle.std.proofs.Common.{◌≡◌, ℕ, Bool, true, false, cond, Option, Some, None, List, [], ◌∷◌, ◌++◌, length, map, filter, refl, sym, ap, ◌∙◌}
 use Rattle.std.specs.Prelude.{if◌then◌else◌}
-use Rattle.std.specs.List.{cons_option, flat_map, list_any, enumerate_from, range_with_len}
+use Rattle.std.specs.List.{flat_map, range_with_len}
 use Rattle.std.specs.Option.{option_map, option_and_then}
 use Rattle.std.proofs.lemmas.List.Concat.{flat_map-append}
 use Rattle.std.proofs.lemmas.List.Folds.{flat_map-map}
 use Rattle.sched_types.specs.declared.rows.Place.{Place}
 use Rattle.sched_types.specs.declared.rows.Run.{Run}
-use Rattle.sched_types.specs.Timetable.{Timetable, is_run, places_of}
+use Rattle.sched_types.specs.Timetable.{Timetable, is_run}
 use Rattle.board_defs.specs.Choice.{Update, chosen}
-use Rattle.board_defs.specs.Rows.{BoardRow, RunOf, Shown, all_runs, run_rows, place_row, row_of, shown_at, departures_of, is_within, is_asked, may_board, stands_at}
-use Rattle.board_core.specs.RunUpdates.{UpdateOfRun, update_for, AreChoices}
-use Rattle.board_core.specs.Departures.{shown_with, in_window, row_by, rows_at, rows_of_run, run_on, rows_on_day, counts_at, calls_at, rows_there}
+use Rattle.board_defs.specs.Rows.{BoardRow, all_runs, run_rows, place_row, shown_row, shown_at, departures_of, is_within, may_board}
+use Rattle.board_core.specs.Calling.{may_call}
+use Rattle.board_core.specs.RunUpdates.{UpdateOfRun, AreChoices}
+use Rattle.board_core.specs.Departures.{shown_with, in_window, row_by, rows_at, rows_of_run, run_on, rows_on_day, rows_there}
 use Rattle.board_core.specs.declared.departure.Asked.{Asked}
 use Rattle.board_core.proofs.Choices.{choice_is}
+use Rattle.board_core.proofs.Elsewhere.{no_calls}
 use Rattle.board_parts.proofs.Lists.{kept, filter_each, filter_flat}
 
 -- ---- lists
@@ -40,23 +42,19 @@ module _ (t : Timetable) (asked : Asked) where
   shown_is run None i = refl
   shown_is run (Some u) i = refl
 
-  module _ (run : Run) (i : ℕ) (place : Place) where
-    row_shown : (s : Option Shown)
-        → option_and_then (λ s. in_window asked (record { row = row_of t run place s; subject = RunOf run; place = i; stop = stands_at place })) s
-        ≡ kept within (option_map (λ s. record { row = row_of t run place s; subject = RunOf run; place = i; stop = stands_at place }) s)
-    row_shown None = refl
-    row_shown (Some s) = refl
-
-    row_tested : (b : Bool) (s : Option Shown)
-        → (if b then option_and_then (λ s. in_window asked (record { row = row_of t run place s; subject = RunOf run; place = i; stop = stands_at place })) s else None)
-        ≡ kept within (if b then option_map (λ s. record { row = row_of t run place s; subject = RunOf run; place = i; stop = stands_at place }) s else None)
-    row_tested true s = row_shown s
-    row_tested false s = refl
+  row_kept : (row : Option BoardRow) → option_and_then (in_window asked) row ≡ kept within row
+  row_kept None = refl
+  row_kept (Some row) = refl
 
   row_is : (run : Run) (update : Option Update) (pair : ℕ × Place) → row_by t asked run (shown_with t run (option_map (λ x. x.update) update) pair.0) pair ≡ kept within (place_row t asked.stop run update pair)
   row_is run update (i, place) =
       ap (λ s. row_by t asked run s (i, place)) (shown_is run update i)
-      ∙ row_tested run i place (may_board place && is_asked t asked.stop (stands_at place)) (shown_at t run update i)
+      ∙ by_test (may_board place)
+    where
+      by_test : (b : Bool) → (if b then option_and_then (in_window asked) (option_and_then (shown_row t asked.stop run (i, place)) (shown_at t run update i)) else None)
+          ≡ kept within (if b then option_and_then (shown_row t asked.stop run (i, place)) (shown_at t run update i) else None)
+      by_test true = row_kept (option_and_then (shown_row t asked.stop run (i, place)) (shown_at t run update i))
+      by_test false = refl
 
   -- ---- a run
 
@@ -68,30 +66,6 @@ module _ (t : Timetable) (asked : Asked) where
         ∙ ap (λ rows. if is_run t run then rows else [])
         (filter_each within (place_row t asked.stop run (chosen t updates run)) (λ pair. row_by t asked run (shown_with t run (option_map (λ x. x.update) (chosen t updates run)) pair.0) pair)
         (departures_of t run.trip) (row_is run (chosen t updates run)))
-
-    -- ---- a trip without a place at the stop
-
-    front : (a b : Bool) → (a || b) ≡ false → (a ≡ false) × (b ≡ false)
-    front true b e = cc
-    front false b e = (refl, e)
-
-    no_rows : (run : Run) (shown : ℕ → Option Shown) (places : List Place) (n m : ℕ) → list_any (counts_at t asked.stop) places ≡ false → rows_at t asked run shown (enumerate_from n (take m places)) ≡ []
-    no_rows run shown places n zero none = refl
-    no_rows run shown [] n (suc m) none = refl
-    no_rows run shown (place ∷ places) n (suc m) none =
-        let parts = front (counts_at t asked.stop place) (list_any (counts_at t asked.stop) places) none in
-        ap
-        (λ b. cons_option
-        (if b then option_and_then (λ s. in_window asked (record { row = row_of t run place s; subject = RunOf run; place = n; stop = stands_at place })) (shown n) else None)
-        (rows_at t asked run shown (enumerate_from (n + 1) (take m places))))
-        parts.0
-        ∙ no_rows run shown places (n + 1) m parts.1
-
-    no_calls : (run : Run) → calls_at t asked.stop run.trip ≡ false → rows_of_run t asked of_runs run ≡ []
-    no_calls run none = by_test (is_run t run) where
-      by_test : (b : Bool) → (if b then rows_at t asked run (shown_with t run (update_for of_runs run)) (departures_of t run.trip) else []) ≡ []
-      by_test true = no_rows run (shown_with t run (update_for of_runs run)) (places_of t run.trip) 0 (length (places_of t run.trip) - 1) none
-      by_test false = refl
 
     -- ---- all days
 
@@ -107,7 +81,7 @@ module _ (t : Timetable) (asked : Asked) where
     rows_are =
         let trips = range_with_len 0 (length t.trips) in
         let days = range_with_len 0 (length t.bases) in
-        flat_same (rows_on_day t asked of_runs (filter (calls_at t asked.stop) trips)) (rows_on_day t asked of_runs trips) days
-        (λ day. flat_filter (λ trip. rows_of_run t asked of_runs (run_on day trip)) (calls_at t asked.stop) trips (λ trip none. no_calls (run_on day trip) none))
+        flat_same (rows_on_day t asked of_runs (filter (may_call t asked.stop of_runs) trips)) (rows_on_day t asked of_runs trips) days
+        (λ day. flat_filter (λ trip. rows_of_run t asked of_runs (run_on day trip)) (may_call t asked.stop of_runs) trips (λ trip none. no_calls t asked (run_on day trip) of_runs none))
         ∙ sym (days_flat (rows_of_run t asked of_runs) trips days)
         ∙ filter_flat within (is_run t) (run_rows t asked.stop updates) (rows_of_run t asked of_runs) (flat_map (λ day. map (run_on day) trips) days) run_is

@@ -41,7 +41,7 @@ equal_then Greater Equal = refl
 equal_then Greater Greater = refl
 
 -- it is about that run
-of_run_is : (run other : Run) → is_eq (run_cmp (key_of other) (key_of run)) ≡ (nat_eq other.trip run.trip && nat_eq other.day run.day)
+pub of_run_is : (run other : Run) → is_eq (run_cmp (key_of other) (key_of run)) ≡ (nat_eq other.trip run.trip && nat_eq other.day run.day)
 of_run_is run other =
     equal_then (nat_cmp other.day run.day) (nat_cmp other.trip run.trip)
     ∙ ap (λ b. b && is_eq (nat_cmp other.day run.day)) (equal_number other.trip run.trip)

@@ -1,5 +1,8 @@
 pub mod OrderedMap
 pub mod Choices
+pub mod Moved
+pub mod ShownStops
+pub mod Elsewhere
 pub mod AllRows
 pub mod RowOrder
 pub mod Days

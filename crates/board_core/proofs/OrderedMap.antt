@@ -1,5 +1,5 @@
 -- What becomes of items that are put in order, or of the greatest of them, where each becomes another.
-use Rattle.std.proofs.Common.{◌≡◌, Bool, true, false, Option, Some, None, List, [], ◌∷◌, map, refl, sym, ap, ◌∙◌}
+use Rattle.std.proofs.Common.{◌≡◌, Bool, true, false, Option, Some, None, List, [], ◌∷◌, map, IfSome, refl, sym, ap, ◌∙◌}
 use Rattle.std.specs.Prelude.{if◌then◌else◌, fold}
 use Rattle.std.specs.List.{AllByRecursion}
 use Rattle.std.specs.Option.{option_map}
@@ -63,3 +63,20 @@ module _ {X Y : Type 0} (f : X → Y) (cmp : X → X → Ordering) (other : Y �
     -- the greatest of items that become others
     pub map_greatest : (xs : List X) → option_map f (greatest cmp xs) ≡ greatest other (map f xs)
     map_greatest xs = fold_greater None xs
+
+-- ---- what is true of each is true of the greatest
+
+module _ {X : Type 0} (cmp : X → X → Ordering) (P : X → Type 0) where
+  each_greater : (best : Option X) (x : X) → IfSome best P → P x → IfSome (greater cmp best x) P
+  each_greater None x b p = p
+  each_greater (Some best) x b p = by_test (is_gt (cmp x best)) where
+    by_test : (t : Bool) → IfSome (if t then Some x else Some best) P
+    by_test true = p
+    by_test false = b
+
+  each_folded : (best : Option X) (xs : List X) → IfSome best P → AllByRecursion P xs → IfSome (fold (greater cmp) best xs) P
+  each_folded best [] b all = b
+  each_folded best (x ∷ xs) b all = each_folded (greater cmp best x) xs (each_greater best x b all.0) all.1
+
+  pub each_greatest : (xs : List X) → AllByRecursion P xs → IfSome (greatest cmp xs) P
+  each_greatest xs all = each_folded None xs tt all

@@ -1,6 +1,6 @@
 -- The rows of a board before their texts are made.
-use Rattle.std.specs.Prelude.{◌≡◌, ℕ, ◌<◌, ◌&&◌, Bool, if◌then◌else◌, List, [], length, filter, slice_get, Option, Some, None, unwrap_or, IfSome}
-use Rattle.std.specs.List.{All, filter_map, flat_map, list_any, range_with_len}
+use Rattle.std.specs.Prelude.{◌≡◌, ℕ, ◌<◌, if◌then◌else◌, List, [], length, filter, slice_get, Option, Some, None, unwrap_or, IfSome}
+use Rattle.std.specs.List.{All, filter_map, flat_map, range_with_len}
 use Rattle.std.specs.Option.{option_map, option_and_then}
 use Rattle.std.specs.Ordering.{int_cmp, nat_cmp, ordering_then}
 use Rattle.std.specs.declared.cmp.Ordering.{Ordering}
@@ -9,9 +9,10 @@ use Rattle.sched_types.specs.declared.rows.Place.{Place}
 use Rattle.sched_types.specs.declared.rows.Run.{Run}
 use Rattle.sched_types.specs.Timetable.{Timetable, is_run, places_of}
 use Rattle.delay_rule_defs.specs.Delays.{states}
-use Rattle.delay_rule.specs.Near.{IsNearState}
+use Rattle.delay_rule.specs.Near.{IsNearState, IsAtStop}
 use Rattle.trip_match_defs.specs.Matching.{relation_of}
-use Rattle.board_defs.specs.Rows.{BoardRow, RunOf, Shown, as_scheduled, by_relation, is_within, is_asked, may_board, stands_at, departures_of, row_of, route_text, stop_id_of, date_text}
+use Rattle.board_defs.specs.Rows.{BoardRow, RunOf, Shown, as_scheduled, by_relation, is_within, may_board, departures_of, shown_row, route_text, stop_id_of, date_text}
+use Rattle.board_core.specs.Calling.{may_call}
 use Rattle.board_core.specs.RunUpdates.{UpdateOfRun, update_for}
 use Rattle.board_core.specs.declared.departure.Asked.{Asked}
 use Rattle.board_core.specs.declared.departure.Departure.{Departure}
@@ -32,13 +33,14 @@ shown_by None i = Some as_scheduled
 shown_by (Some known) i = by_relation known.relation (slice_get known.states.items i)
 
 abbrev pub as_shown : Sign → Shown
-as_shown sign = record { state = sign.state; delay = sign.delay }
+as_shown sign = record { state = sign.state; delay = sign.delay; stop = sign.stop }
 
--- what is known is what the update tells, and its delays are near
+-- what is known is what the update tells, its delays are near, and its stops are those of the timetable
 pub record Knows (t : Timetable) (run : Run) (update : Option TripUpdate)
     (known : Option Known) : Type 0 where
   pub shows : (i : ℕ) → shown_by known i ≡ shown_with t run update i
   pub near : IfSome known (λ k. All IsNearState k.states.items)
+  pub there : IfSome known (λ k. All (IsAtStop t) k.states.items)
 
 -- ---- departures
 
@@ -80,18 +82,11 @@ in_window asked row = if is_within asked.at asked.span row then Some row else No
 
 -- the row of a place of a run, if it is one of the board
 abbrev pub row_by : Timetable → Asked → Run → Option Shown → ℕ × Place → Option BoardRow
-row_by t asked run shown (i, place) =
-    if may_board place && is_asked t asked.stop (stands_at place)
+row_by t asked run shown pair =
+    if may_board pair.1
     then
-    option_and_then
-    (λ s. in_window asked
-    (record {
-      row = row_of t run place s;
-      subject = RunOf run;
-      place = i;
-      stop = stands_at place;
-    }))
-    shown
+    option_and_then (in_window asked)
+    (option_and_then (shown_row t asked.stop run pair) shown)
     else None
 
 -- the rows of some places of a run
@@ -114,16 +109,9 @@ abbrev pub rows_on_day : Timetable → Asked → List UpdateOfRun → List ℕ �
 rows_on_day t asked updates trips day =
     flat_map (λ trip. rows_of_run t asked updates (run_on day trip)) trips
 
--- a trip has a place at the asked stop at which passengers may board
-abbrev pub counts_at : Timetable → ℕ → Place → Bool
-counts_at t stop place = may_board place && is_asked t stop (stands_at place)
-
-abbrev pub calls_at : Timetable → ℕ → ℕ → Bool
-calls_at t stop trip = list_any (counts_at t stop) (places_of t trip)
-
--- all rows of the board, in no order
+-- all rows of the board, in no order: those of the trips that may call at the stop
 abbrev pub rows_there : Timetable → Asked → List UpdateOfRun → List BoardRow
 rows_there t asked updates =
     flat_map (rows_on_day t asked updates
-    (filter (calls_at t asked.stop) (range_with_len 0 (length t.trips)))) (range_with_len 0
-    (length t.bases))
+    (filter (may_call t asked.stop updates) (range_with_len 0 (length t.trips)))) (range_with_len
+    0 (length t.bases))

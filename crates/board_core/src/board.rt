@@ -115,11 +115,12 @@ fn subjects_at<'a>(
 /// The rows of the asked board, of what the hub's feeds hold: the places, but the last of a trip, at which
 /// passengers may board at the stop or at a stop that names it as `parent_station`, of all runs of the
 /// timetable, and the calls there, but the last of a trip, of added trips, by the expected instant, the trip_id,
-/// the date, runs before added trips, and the place.
+/// the date, runs before added trips, and the place. A place is at the stop that its run's update assigns to it, and
+/// else at that of the timetable.
 ///
-/// It goes once over all places of the timetable, looks once for what each update is about, and goes, for each day
-/// of the window, over the trips with a place at the stop; a run whose update counts is walked once. Texts are made
-/// for the rows that are shown.
+/// It goes once over all places of the timetable, looks once for what each update is about, and goes once over the
+/// stops that these updates name. Then it goes, for each day of the window, over the trips with a place at the stop or
+/// an update that names it; a run whose update counts is walked once. Texts are made for the rows that are shown.
 pub fn rows(alloc: Global, view: &HubView, query: &BoardQuery) -> Result<Vec<Row>, RowsFault>
     requires plan { query.now.plan < length view.now.plans.plans }
     requires moment { query.now.at ≤ last_moment }

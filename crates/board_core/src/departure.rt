@@ -2,13 +2,13 @@
 
 ghost use Rattle.std.specs.Prelude.{◌≡◌, ◌+◌, ◌<◌, ◌≤◌, ◌++◌, Some, length, ℤ, pos, ◌+ℤ◌, unwrap_or, IfSome, OnOk};
 ghost use Rattle.std.specs.List.{All};
-ghost use Rattle.std.specs.Option.{option_map, option_to_list};
+ghost use Rattle.std.specs.Option.{option_map, option_and_then, option_to_list};
 ghost use Rattle.text_defs.specs.Moments.{last_moment};
 ghost use Rattle.sched_types.specs.Timetable.{IsSmall, places_of};
-ghost use Rattle.delay_rule.specs.Near.{IsNear, IsNearState};
-ghost use Rattle.board_defs.specs.Rows.{departures_of, row_of, RunOf};
+ghost use Rattle.delay_rule.specs.Near.{IsNear, IsNearState, IsAtStop};
+ghost use Rattle.board_defs.specs.Rows.{may_board, stands_at, departures_of, shown_row};
 ghost use Rattle.board_parts.specs.Appended.{Adds};
-ghost use Rattle.board_core.specs.Departures.{as_row, as_shown, shown_by, in_window, row_by, rows_at, counts_at, IsThere};
+ghost use Rattle.board_core.specs.Departures.{as_row, as_shown, shown_by, in_window, row_by, rows_at, IsThere};
 
 use crate::NoMemory;
 use crate::known::{Known, Sign, shown};
@@ -24,7 +24,8 @@ pub(crate) struct Asked {
     pub(crate) span: u32,
 }
 
-/// A departure, with the numbers of its run, its place and its stop. Instants and delays are in seconds.
+/// A departure, with the numbers of its run, its place, and the stop at which it leaves. Instants and delays are in
+/// seconds.
 #[derive(Clone, Copy)]
 pub(crate) struct Departure {
     pub(crate) expected: i64,
@@ -36,12 +37,11 @@ pub(crate) struct Departure {
     pub(crate) state: RowState,
 }
 
-/// Whether passengers may board at a place, and it is at the asked stop.
-pub(crate) fn counts_at(plan: &Plan, asked: u32, place: Place) -> bool
-    requires { place.stop < length plan.now.stops }
-    ensures { result ≡ counts_at plan.now asked place }
+/// Whether passengers may board at a place (GTFS Schedule, stop_times.txt, pickup_type: 1 is no pickup).
+pub(crate) fn may_board(place: Place) -> bool
+    ensures { result ≡ may_board place }
 {
-    place.pickup != 1 && is_asked(plan, asked, place.stop)
+    place.pickup != 1
 }
 
 /// When a place is left by the timetable, on a day that begins at `base`.
@@ -61,7 +61,7 @@ fn expected_at(base: i64, place: Place, delay: Option<i64>) -> i64
     base + i64::from(place.departure) + delay.unwrap_or(0)
 }
 
-/// The departure from a place, if it lies in the window.
+/// The departure from a place, if it leaves at the asked stop, and in the window.
 fn departing(
     plan: &Plan,
     asked: Asked,
@@ -72,19 +72,18 @@ fn departing(
 ) -> Option<Departure>
     requires trip { run.trip < length plan.now.trips }
     requires day { run.day < length plan.now.bases }
-    requires stop { place.stop < length plan.now.stops }
+    requires stop { stands_at place (as_shown sign) < length plan.now.stops }
     requires moment { asked.at ≤ last_moment }
     requires near { IfSome sign.delay IsNear }
     ensures value { option_map (as_row plan.now) result
-        ≡ in_window asked
-        (record {
-          row = row_of plan.now run place (as_shown sign);
-          subject = RunOf run;
-          place = number;
-          stop = place.stop;
-        }) }
+        ≡ option_and_then (in_window asked)
+        (shown_row plan.now asked.stop run (number, place) (as_shown sign)) }
     ensures there { IfSome result (IsThere plan.now) }
 {
+    let stop = sign.stop.unwrap_or(place.stop);
+    if !is_asked(plan, asked.stop, stop) {
+        return None;
+    }
     let base = plan.base(run.day);
     let expected = expected_at(base, place, sign.delay);
     if is_within(asked.at, asked.span, expected) {
@@ -92,7 +91,7 @@ fn departing(
             expected,
             run,
             place: number,
-            stop: place.stop,
+            stop,
             scheduled: scheduled_at(base, place),
             delay: sign.delay,
             state: sign.state,
@@ -116,11 +115,12 @@ fn departure_at(
     requires stop { place.stop < length plan.now.stops }
     requires moment { asked.at ≤ last_moment }
     requires near { IfSome known.now (λ k. All IsNearState k.states.items) }
+    requires there { IfSome known.now (λ k. All (IsAtStop plan.now) k.states.items) }
     ensures value { option_map (as_row plan.now) result
         ≡ row_by plan.now asked run (shown_by known.now number) (number, place) }
     ensures there { IfSome result (IsThere plan.now) }
 {
-    if !counts_at(plan, asked.stop, place) {
+    if !may_board(place) {
         return None;
     }
     match shown(known, number as usize) {
@@ -152,6 +152,7 @@ pub(crate) fn push_places(
     requires many { 1 < length (places_of plan.now run.trip) }
     requires moment { asked.at ≤ last_moment }
     requires near { IfSome known.now (λ k. All IsNearState k.states.items) }
+    requires there { IfSome known.now (λ k. All (IsAtStop plan.now) k.states.items) }
     ensures { OnOk result
         (Adds (as_row plan.now) (IsThere plan.now) out.old.items out.new.items
         (rows_at plan.now asked run (shown_by known.now) (departures_of plan.now run.trip))) }

@@ -5,7 +5,7 @@ ghost use Rattle.std.specs.List.{All};
 ghost use Rattle.std.specs.Option.{option_map, option_copied};
 ghost use Rattle.sched_types.specs.Timetable.{is_run};
 ghost use Rattle.delay_rule_defs.specs.Delays.{states};
-ghost use Rattle.delay_rule.specs.Near.{IsNear, IsNearState};
+ghost use Rattle.delay_rule.specs.Near.{IsNear, IsNearState, IsAtStop};
 ghost use Rattle.board_defs.specs.Rows.{by_relation, by_state};
 ghost use Rattle.board_core.specs.Departures.{Knows, shown_by, as_shown};
 ghost use Rattle.std.specs.Prelude.{slice_get};
@@ -26,17 +26,20 @@ pub(crate) struct Known {
     states: Vec<StopState>,
 }
 
-/// What a board shows of a place: a state, and a delay where it is known.
+/// What a board shows of a place: a state, a delay where it is known, and the number of the stop to which it is
+/// moved, if it is.
 #[derive(Clone, Copy)]
 pub(crate) struct Sign {
     pub(crate) state: RowState,
     pub(crate) delay: Option<i64>,
+    pub(crate) stop: Option<u32>,
 }
 
 /// By the timetable alone.
 const AS_SCHEDULED: Sign = Sign {
     state: RowState::Scheduled,
     delay: None,
+    stop: None,
 };
 
 /// What is known of a run by its update, if it has one; or want of memory.
@@ -75,6 +78,7 @@ fn walked<L: Ledger>(
     requires some { 0 < blank.parts }
     ensures written { IfOk result (λ all. all.items ≡ states plan.now run update.now) }
     ensures near { IfOk result (λ all. All IsNearState all.items) }
+    ensures there { IfOk result (λ all. All (IsAtStop plan.now) all.items) }
 {
     let mut steps = Steps::<L>::new(blank);
     let mut all = Vec::new(alloc);
@@ -92,13 +96,19 @@ fn by_state(state: Option<StopState>) -> Sign
         Some(state) if state.skipped => Sign {
             state: RowState::Skipped,
             delay: None,
+            stop: state.stop,
         },
         Some(state) => match state.departure {
             Some(delay) => Sign {
                 state: RowState::Live,
                 delay: Some(delay),
+                stop: state.stop,
             },
-            None => AS_SCHEDULED,
+            None => Sign {
+                state: RowState::Scheduled,
+                delay: None,
+                stop: state.stop,
+            },
         },
         None => AS_SCHEDULED,
     }
@@ -114,6 +124,7 @@ fn by_relation(relation: TripRelation, state: Option<StopState>) -> Option<Sign>
         TripRelation::Canceled => Some(Sign {
             state: RowState::Canceled,
             delay: None,
+            stop: None,
         }),
         TripRelation::Deleted => None,
         TripRelation::Scheduled

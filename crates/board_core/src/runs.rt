@@ -1,57 +1,20 @@
 //! The departures of all runs.
 
-ghost use Rattle.std.specs.Prelude.{◌≡◌, ◌<◌, ◌≤◌, ◌++◌, [], ◌∷◌, length, filter, if◌then◌else◌, IfOk, OnOk};
-ghost use Rattle.std.specs.List.{All, range_with_len};
+ghost use Rattle.std.specs.Prelude.{◌≡◌, ◌≤◌, IfOk, OnOk};
 ghost use Rattle.std.specs.List.Sorted.{IsSortedByKey};
 ghost use Rattle.text_defs.specs.Moments.{last_moment};
 ghost use Rattle.board_parts.specs.Appended.{Become, Adds};
 ghost use Rattle.board_core.specs.RunUpdates.{key_of_update, run_cmp};
-ghost use Rattle.board_core.specs.Departures.{as_row, IsThere, calls_at, rows_of_run, rows_on_day, rows_there};
+ghost use Rattle.board_core.specs.Departures.{as_row, IsThere, rows_of_run, rows_on_day, rows_there};
 
 use crate::NoMemory;
 use crate::choice::update_for;
-use crate::departure::{Asked, Departure, counts_at, push_places};
+use crate::departure::{Asked, Departure, push_places};
 use crate::known::known_of;
 use crate::run_updates::UpdateOfRun;
+use crate::trips::trips_at;
 use sched_types::{Plan, Run};
 use std::alloc::Global;
-
-/// Whether a trip has a place at the asked stop at which passengers may board.
-fn calls_at(plan: &Plan, stop: u32, trip: u32) -> bool
-    requires { trip < length plan.now.trips }
-    ensures { result ≡ calls_at plan.now stop trip }
-{
-    plan.sound();
-    for place in plan.stop_times(trip) {
-        if counts_at(plan, stop, *place) {
-            return true;
-        }
-    }
-    false
-}
-
-/// Appends a number, if it is wanted.
-fn push_if(out: &mut Vec<u32>, wanted: bool, number: u32) -> Result<(), NoMemory>
-    ensures { OnOk result (out.new.items ≡ out.old.items ++ (if wanted then number ∷ [] else [])) }
-{
-    if wanted {
-        out.push(number)?;
-    }
-    Ok(())
-}
-
-/// The trips with such a place, by rising numbers; or want of memory.
-fn trips_at(alloc: Global, plan: &Plan, stop: u32) -> Result<Vec<u32>, NoMemory>
-    ensures { IfOk result (λ trips. trips.items
-        ≡ filter (calls_at plan.now stop) (range_with_len 0 (length plan.now.trips))) }
-{
-    let mut trips = Vec::new(alloc);
-    for trip in 0..plan.trips() {
-        let calls = calls_at(plan, stop, trip);
-        push_if(&mut trips, calls, trip)?;
-    }
-    Ok(trips)
-}
 
 /// Appends the departures of a run that are of the board, and none where it is no run. A run whose update
 /// counts is walked once.
@@ -111,7 +74,7 @@ pub(crate) fn departures(
         (λ all. Become (as_row plan.now) (IsThere plan.now) all.items
         (rows_there plan.now asked updates.entry.now)) }
 {
-    let trips = trips_at(alloc, plan, asked.stop)?;
+    let trips = trips_at(alloc, plan, asked.stop, updates)?;
     let mut all = Vec::new(alloc);
     for day in 0..plan.days() {
         push_day(alloc, plan, asked, updates, trips.as_slice(), day, &mut all)?;

@@ -102,6 +102,53 @@ no_stop : rows schedules (fold_of 2 []) (record (query 50) { stop = codes "NO" }
 unfolding fold_of messages_of since_full changes_by_id entities_of chosen added_updates match_of by_near date_in is_day date_plus next_day states all_runs run_rows board_at board inserted ordered digits
 no_stop = refl
 
+-- ---- assigned stops
+
+-- T1 is told to be late by 300 seconds, and its first place to be at another stop
+abbrev moved_to : List ℕ → Option TripRelation → List Entry
+moved_to id relation =
+    updated 0 (codes "u") relation
+    (record (stop_update 1 (late 300) None) { properties = Some (record { assigned_stop_id = Some id; unknown = [] }) } ∷ []) ∷ []
+
+-- the departures at a stop
+abbrev leaving : List ℕ → List Entry → Option (List Row)
+leaving stop history = rows schedules (fold_of 2 history) (record (query 50) { stop = stop })
+
+-- the first departure is shown at the other platform, and all else is as it was
+other_platform : board_after (moved_to (codes "S2") None) 50
+    ≡ Some (late_row 1743314400 300 (codes "S2")
+    ∷ departure_of 1743315660 (codes "T2") (codes "S2") ∷ late_row 1743315660 300 (codes "S2") ∷ [])
+unfolding fold_of messages_of since_full changes_by_id entities_of chosen added_updates match_of by_near date_in is_day date_plus next_day states all_runs run_rows board_at board inserted ordered digits
+other_platform = refl
+
+-- the other platform has it, and its own has it no more
+at_one_platform :
+    (leaving (codes "S2") (moved_to (codes "S2") None) ≡ board_after (moved_to (codes "S2") None) 50)
+    × (leaving (codes "S1") (moved_to (codes "S2") None) ≡ Some [])
+unfolding fold_of messages_of since_full changes_by_id entities_of chosen added_updates match_of by_near date_in is_day date_plus next_day states all_runs run_rows board_at board inserted ordered digits
+at_one_platform = (refl, refl)
+
+-- out of the station it is shown at its new stop alone
+out_of_the_station :
+    (board_after (moved_to (codes "S4") None) 50 ≡ Some (departure_of 1743315660 (codes "T2") (codes "S2") ∷ late_row 1743315660 300 (codes "S2") ∷ []))
+    × (leaving (codes "S4") (moved_to (codes "S4") None) ≡ Some (late_row 1743314400 300 (codes "S4") ∷ []))
+unfolding fold_of messages_of since_full changes_by_id entities_of chosen added_updates match_of by_near date_in is_day date_plus next_day states all_runs run_rows board_at board inserted ordered digits
+out_of_the_station = (refl, refl)
+
+-- a stop that isn't there changes nothing
+no_such_stop : board_after (moved_to (codes "S9") None) 50
+    ≡ Some (late_row 1743314400 300 (codes "S1")
+    ∷ departure_of 1743315660 (codes "T2") (codes "S2") ∷ late_row 1743315660 300 (codes "S2") ∷ [])
+unfolding fold_of messages_of since_full changes_by_id entities_of chosen added_updates match_of by_near date_in is_day date_plus next_day states all_runs run_rows board_at board inserted ordered digits
+no_such_stop = refl
+
+-- a run that is canceled is shown at its own platforms
+canceled_at_its_own : board_after (moved_to (codes "S2") (Some Canceled)) 2
+    ≡ Some (hill_row 1743314400 1743314400 None state.Canceled (codes "T1") (codes "S1")
+    ∷ hill_row 1743315660 1743315660 None state.Canceled (codes "T1") (codes "S2") ∷ [])
+unfolding fold_of messages_of since_full changes_by_id entities_of chosen added_updates match_of by_near date_in is_day date_plus next_day states all_runs run_rows board_at board inserted ordered digits
+canceled_at_its_own = refl
+
 -- ---- ageing
 
 -- the first departure that is shown at a moment, of feeds of those ages

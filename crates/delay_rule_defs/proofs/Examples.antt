@@ -1,10 +1,11 @@
--- The definitions on a trip of twenty places: each line computes.
+-- The definitions on a trip of twenty places, and on one of the small city: each line computes.
 use Rattle.std.specs.Prelude.{◌≡◌, ℕ, true, false, ◌-◌, Some, None, Option, List, [], ◌∷◌, ◌++◌, replicate, refl, ℤ, pos, negsuc, codes}
 use Rattle.rt_types.specs.declared.enums.StopRelation.{StopRelation}
 use Rattle.rt_types.specs.declared.enums.StopRelation.TheVariants.{Scheduled, Skipped, NoData, Unscheduled}
 use Rattle.rt_types.specs.declared.trip_update.Event.{Event}
 use Rattle.rt_types.specs.declared.trip_update.StopUpdate.{StopUpdate}
 use Rattle.rt_types.specs.declared.trip_update.TripUpdate.{TripUpdate}
+use Rattle.sched_types.specs.City.{city}
 use Rattle.sched_types.specs.declared.rows.Run.{Run}
 use Rattle.sched_types.specs.Timetable.{departure_at}
 use Rattle.delay_rule_defs.specs.declared.state.StopState.{StopState}
@@ -143,3 +144,76 @@ place_2 = refl
 
 place_7 : departure_at line run 6 ≡ Some (pos (1743315060 - 300))
 place_7 = refl
+
+-- ---- assigned stops: trip T1 of the city goes by the stops S1, S3, S2 and S4, whose numbers are 0, 2, 1 and 3,
+-- with the sequences 1, 2, 5 and 9
+
+abbrev city_run : Run
+city_run = record { trip = 1; day = 1 }
+
+-- an update that names a stop besides
+abbrev to_stop : List ℕ → StopUpdate → StopUpdate
+to_stop id u =
+    record u { properties = Some (record { assigned_stop_id = Some id; unknown = [] }) }
+
+-- one that is about a place by its stop_id
+abbrev by_stop_id : List ℕ → ℕ → StopUpdate
+by_stop_id id seconds =
+    record (update_of 0 None (late seconds) None) { stop_sequence = None; stop_id = Some id }
+
+-- a state, at another stop
+abbrev moved : ℕ → StopState → StopState
+moved stop state = record state { stop = Some stop }
+
+-- an assigned stop holds for its place alone, and the delay goes on
+at_its_place : states city city_run (update None (to_stop (codes "S2") (update_of 1 None (late 300) None) ∷ []))
+    ≡ moved 1 (stop_state None (Some (pos 300))) ∷ replicate 3 (late_state 300)
+unfolding states
+at_its_place = refl
+
+-- also where the next place is told of by an update of its own
+at_each_its_own : states city city_run (update None (to_stop (codes "S2") (update_of 1 None (late 300) None) ∷ update_of 2 None (late 60) None ∷ to_stop (codes "S1") (update_of 5 None None None) ∷ []))
+    ≡ moved 1 (stop_state None (Some (pos 300))) ∷ stop_state (Some (pos 300)) (Some (pos 60)) ∷ moved 0 (late_state 60) ∷ late_state 60 ∷ []
+unfolding states
+at_each_its_own = refl
+
+-- SCHEDULED that tells no time assigns it all the same
+without_a_time : states city city_run (update (Some (pos 9)) (to_stop (codes "S2") (update_of 1 None None (Some Scheduled)) ∷ []))
+    ≡ moved 1 (late_state 9) ∷ replicate 3 (late_state 9)
+unfolding states
+without_a_time = refl
+
+-- the other relations assign none
+not_under_skipped : states city city_run (update None (to_stop (codes "S2") (update_of 1 None (late 300) (Some Skipped)) ∷ []))
+    ≡ skipped_state None ∷ replicate 3 (plain None)
+unfolding states
+not_under_skipped = refl
+
+not_under_no_data : states city city_run (update (Some (pos 9)) (to_stop (codes "S2") (update_of 1 None (late 300) (Some NoData)) ∷ []))
+    ≡ replicate 4 (plain None)
+unfolding states
+not_under_no_data = refl
+
+not_under_unscheduled : states city city_run (update (Some (pos 9)) (to_stop (codes "S2") (update_of 1 None (late 300) (Some Unscheduled)) ∷ []))
+    ≡ replicate 4 (plain None)
+unfolding states
+not_under_unscheduled = refl
+
+-- a stop that isn't there is none
+no_such_stop : states city city_run (update None (to_stop (codes "S9") (update_of 1 None (late 300) None) ∷ []))
+    ≡ stop_state None (Some (pos 300)) ∷ replicate 3 (late_state 300)
+unfolding states
+no_such_stop = refl
+
+-- an update finds its place by the timetable's stop: neither by the stop that it names itself, nor by one that was
+-- assigned
+by_the_timetable : states city city_run (update None (to_stop (codes "S2") (by_stop_id (codes "S1") 300) ∷ by_stop_id (codes "S2") 60 ∷ []))
+    ≡ moved 1 (stop_state None (Some (pos 300))) ∷ late_state 300 ∷ stop_state (Some (pos 300)) (Some (pos 60)) ∷ late_state 60 ∷ []
+unfolding states
+by_the_timetable = refl
+
+-- an update of a stop_id that the trip doesn't have finds none, whatever stop it names
+no_place : states city city_run (update None (to_stop (codes "S1") (by_stop_id (codes "ST") 300) ∷ []))
+    ≡ replicate 4 (plain None)
+unfolding states
+no_place = refl

@@ -9,6 +9,6 @@ pub struct StopState {
     pub arrival: Option<i64>,
     pub departure: Option<i64>,
     /// The number of the stop at which the vehicle stops in place of the timetable's (GTFS Realtime,
-    /// StopTimeProperties, assigned_stop_id).
+    /// StopTimeProperties, assigned_stop_id); `None` where it stops at the timetable's.
     pub stop: Option<u32>,
 }

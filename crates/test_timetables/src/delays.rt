@@ -1,4 +1,4 @@
-//! The states of a trip of twenty places, which is left at 08:00:00, 08:01:00 and so on.
+//! The states of a trip of twenty places, which is left at 08:00:00, 08:01:00 and so on, and of one of the small city.
 
 ghost use Rattle.std.specs.Prelude.{◌≡◌, ◌<◌, map, IfOk};
 ghost use Rattle.std.specs.List.{range_with_len};
@@ -6,7 +6,10 @@ ghost use Rattle.delay_rule_defs.specs.Line as example;
 ghost use Rattle.delay_rule_defs.specs.Line.{line_place};
 
 use delay_rule::{NoMemory, Steps, StopState, walk};
-use rt_types::{Bytes, Event, Items, StopRelation, StopUpdate, Text, TripRef, TripUpdate};
+use rt_types::{
+    Bytes, Event, Items, StopProps, StopRelation, StopUpdate, Text, TripRef, TripUpdate,
+};
+use sample_city::city;
 use sched_types::{Place, Plan, PlanName, PlanParts, Route, Run, Stop, Trip};
 use std::alloc::Global;
 use std::marker::Brand;
@@ -14,6 +17,10 @@ use std::sync::ledger::{Blank, Ledger};
 use std::test::Fail;
 
 const RUN: Run = Run { trip: 0, day: 0 };
+
+/// T1 of the city on 30 March 2025: by the stops S1, S3, S2 and S4, whose numbers are 0, 2, 1 and 3, with the
+/// sequences 1, 2, 5 and 9.
+const CITY_RUN: Run = Run { trip: 1, day: 1 };
 
 fn places(alloc: Global) -> Result<Vec<Place>, NoMemory>
     ensures { IfOk result (λ places. places.items ≡ map line_place (range_with_len 0 20)) }
@@ -144,9 +151,11 @@ fn trip_update(alloc: Global, delay: Option<i32>, updates: Vec<StopUpdate>) -> T
     }
 }
 
-/// The states of the run under an update, with a count of steps of its own.
+/// The states of a run under an update, with a count of steps of its own.
 fn counted<L: Ledger>(
     alloc: Global,
+    plan: &Plan,
+    run: Run,
     update: &TripUpdate,
     blank: Blank,
 ) -> Result<Vec<StopState>, NoMemory>
@@ -154,18 +163,24 @@ fn counted<L: Ledger>(
     requires parts { blank.parts ≡ L.parts }
     requires some { 0 < blank.parts }
 {
-    let plan = line(alloc)?;
     let mut out = Vec::new(alloc);
     let mut steps = Steps::<L>::new(blank);
-    if plan.runs(RUN) {
-        walk(&plan, RUN, update, &mut out, &mut steps)?;
+    if plan.runs(run) {
+        walk(plan, run, update, &mut out, &mut steps)?;
     }
     Ok(out)
 }
 
-/// The states of the run under an update.
+/// The states of the trip of twenty places under an update.
 fn told(alloc: Global, update: &TripUpdate) -> Result<Vec<StopState>, NoMemory> {
-    counted::<Brand>(alloc, update, Blank::new(1))
+    let plan = line(alloc)?;
+    counted::<Brand>(alloc, &plan, RUN, update, Blank::new(1))
+}
+
+/// The states of the city's trip.
+fn told_in_city(alloc: Global, update: &TripUpdate) -> Result<Vec<StopState>, NoMemory> {
+    let plan = city(alloc)?;
+    counted::<Brand>(alloc, &plan, CITY_RUN, update, Blank::new(1))
 }
 
 /// The delay with which the place of that `stop_sequence` is left.
@@ -279,5 +294,59 @@ fn a_stop_is_found_by_its_id(rt: HostRuntime) -> Result<(), Fail> {
     )?;
     assert_eq!(rt; departs(&states, 1), Some(5));
     assert_eq!(rt; departs(&states, 20), Some(5));
+    Ok(())
+}
+
+/// The update of a place, with an assigned stop.
+fn to_stop(alloc: Global, id: &str, update: StopUpdate) -> Result<StopUpdate, NoMemory> {
+    let mut update = update;
+    update.properties = Some(StopProps {
+        assigned_stop_id: Some(Text::new(alloc, id)?),
+        unknown: Bytes::from_vec(Vec::new(alloc)),
+    });
+    Ok(update)
+}
+
+/// The number of the stop to which a place, by its number from 0 on, is moved.
+fn moved_to(states: &[StopState], place: usize) -> Option<u32> {
+    match states.get(place) {
+        Some(state) => state.stop,
+        None => None,
+    }
+}
+
+#[test]
+fn an_assigned_stop_holds_for_its_place_alone(rt: HostRuntime) -> Result<(), Fail> {
+    let alloc = rt.alloc();
+    let first = to_stop(alloc, "S2", update_of(alloc, 1, late(alloc, 300), None))?;
+    let update = trip_update(alloc, None, vec![in alloc; first]?);
+    let states = told_in_city(alloc, &update)?;
+    assert_eq!(rt; states.len(), 4);
+    assert_eq!(rt; moved_to(&states, 0), Some(1));
+    assert_eq!(rt; departs(&states, 1), Some(300));
+    assert_eq!(rt; moved_to(&states, 1), None);
+    assert_eq!(rt; departs(&states, 2), Some(300));
+    assert_eq!(rt; moved_to(&states, 2), None);
+    assert_eq!(rt; moved_to(&states, 3), None);
+    Ok(())
+}
+
+#[test]
+fn only_scheduled_updates_assign_stops(rt: HostRuntime) -> Result<(), Fail> {
+    let alloc = rt.alloc();
+    let skipped = update_of(alloc, 1, None, Some(StopRelation::Skipped));
+    let no_data = update_of(alloc, 2, None, Some(StopRelation::NoData));
+    let updates = vec![in alloc;
+        to_stop(alloc, "S2", skipped)?,
+        to_stop(alloc, "S2", no_data)?,
+        to_stop(alloc, "S1", update_of(alloc, 5, None, None))?,
+        to_stop(alloc, "S9", update_of(alloc, 9, None, None))?,
+    ]?;
+    let states = told_in_city(alloc, &trip_update(alloc, None, updates))?;
+    assert!(rt; skips(&states, 1));
+    assert_eq!(rt; moved_to(&states, 0), None);
+    assert_eq!(rt; moved_to(&states, 1), None);
+    assert_eq!(rt; moved_to(&states, 2), Some(0));
+    assert_eq!(rt; moved_to(&states, 3), None);
     Ok(())
 }
