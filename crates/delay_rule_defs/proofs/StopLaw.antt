@@ -8,7 +8,6 @@ use Rattle.rt_types.specs.declared.trip_update.StopUpdate.{StopUpdate}
 use Rattle.rt_types.specs.declared.trip_update.TripUpdate.{TripUpdate}
 use Rattle.sched_types.specs.declared.rows.Run.{Run}
 use Rattle.sched_types.specs.Timetable.{Timetable, places_of}
-use Rattle.delay_rule_defs.specs.declared.state.StopState.{StopState}
 use Rattle.delay_rule_defs.specs.Delays.{EventDelays, place_for, taken, placements_of, event_delays_at, assigned_stop, relation_of, carry_at, state_by, state_with, state_at, states}
 
 module _ (t : Timetable) (P : Option ℕ → Type 0) (none : P None) where
