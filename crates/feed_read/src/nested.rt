@@ -90,16 +90,22 @@ pub(crate) fn shared<M: Message>(
     }
 }
 
-/// Appends the message of these bytes, which is filled where it stays; or answers with the first fault in
-/// them.
-fn push_read<M: Message>(alloc: Global, bytes: &[u8], items: &mut Vec<M>) -> Result<(), ReadFault>
+/// The messages with that of these bytes after them, which is filled where it stays; or the first fault in
+/// it.
+fn with_read<M: Message>(
+    alloc: Global,
+    bytes: &[u8],
+    messages: Vec<M>,
+) -> Result<Vec<M>, ReadFault>
     ensures { MatchResult result
-        (λ _. Appends (value M.table (bytes.now ∷ [])) items.old.items items.new.items)
+        (λ all. Appends (value M.table (bytes.now ∷ [])) messages.items all.items)
         (λ e. IsCause (value M.table (bytes.now ∷ [])) (cause_of e)) }
 {
-    let at = items.len();
-    items.push(M::blank(alloc)?)?;
-    read_into(alloc, bytes, &mut items[at])
+    let mut messages = messages;
+    let last = messages.len();
+    messages.push(M::blank(alloc)?)?;
+    read_into(alloc, bytes, &mut messages[last])?;
+    Ok(messages)
 }
 
 /// The messages of the repeated field with this number, each of its own payload.
@@ -113,24 +119,24 @@ pub(crate) fn all<M: Message>(
 {
     let mut items = Vec::with_capacity(alloc, fields.count(number).min(MOST_ROOM))?;
     for bytes in fields.spans(number) {
-        push_read(alloc, bytes, &mut items)?;
+        items = with_read(alloc, bytes, items)?;
     }
     Ok(Items::new(items))
 }
 
-/// The same, whose fault tells this entity.
-fn push_placed<M: Message>(
+/// The same, with a fault that tells this entity.
+fn with_placed<M: Message>(
     alloc: Global,
     entity: u32,
     bytes: &[u8],
-    items: &mut Vec<M>,
-) -> Result<(), ReadFault>
+    messages: Vec<M>,
+) -> Result<Vec<M>, ReadFault>
     ensures { MatchResult result
-        (λ _. Appends (with_entity_number entity (value M.table (bytes.now ∷ [])))
-        items.old.items items.new.items)
+        (λ all. Appends (with_entity_number entity (value M.table (bytes.now ∷ [])))
+        messages.items all.items)
         (λ e. IsCause (with_entity_number entity (value M.table (bytes.now ∷ []))) (cause_of e)) }
 {
-    match push_read(alloc, bytes, items) {
+    match with_read(alloc, bytes, messages) {
         Err(
             ReadFault::Malformed {
                 what,
@@ -162,7 +168,7 @@ pub(crate) fn numbered<M: Message>(
     let mut entity = 0u32;
     for bytes in fields.spans(number) {
         entity = entity.saturating_add(1);
-        push_placed(alloc, entity, bytes, &mut items)?;
+        items = with_placed(alloc, entity, bytes, items)?;
     }
     Ok(Items::new(items))
 }
