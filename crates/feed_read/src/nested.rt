@@ -92,11 +92,7 @@ pub(crate) fn shared<M: Message>(
 
 /// The messages with that of these bytes after them, which is filled where it stays; or the first fault in
 /// it.
-fn with_read<M: Message>(
-    alloc: Global,
-    bytes: &[u8],
-    messages: Vec<M>,
-) -> Result<Vec<M>, ReadFault>
+fn with_read<M: Message>(alloc: Global, bytes: &[u8], messages: Vec<M>) -> Result<Vec<M>, ReadFault>
     ensures { MatchResult result
         (λ all. Appends (value M.table (bytes.now ∷ [])) messages.items all.items)
         (λ e. IsCause (value M.table (bytes.now ∷ [])) (cause_of e)) }

@@ -1,4 +1,4 @@
-use Rattle.std.proofs.Common.{◌≡◌, length, sym, rules}
+use Rattle.std.proofs.Common.{◌≡◌, length, rules}
 use Rattle.feed_read.proofs.Numbers.{set_last}
 use Rattle.feed_read.proofs.nested.with_read.Goals as goal
 
