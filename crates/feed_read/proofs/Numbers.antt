@@ -1,12 +1,21 @@
 -- The messages of a repeated field, one after another.
-use Rattle.std.proofs.Common.{◌≡◌, ℕ, ◌+◌, List, [], ◌∷◌, ◌++◌, length, min, refl, sym, ◌∙◌, ap, append_assoc, append-nil, length-append, arith}
+use Rattle.std.proofs.Common.{◌≡◌, ℕ, ◌+◌, ◌-◌, slice_set, List, [], ◌∷◌, ◌++◌, length, min, refl, sym, ◌∙◌, ap, append_assoc, append-nil, length-append, arith}
 use Rattle.std.specs.Prelude.{Result, Ok, Err}
+use Rattle.std.proofs.lemmas.List.{set-append_right}
 use Rattle.answer_defs.specs.Steps.{◌>>=◌}
 use Rattle.feed_defs.specs.Rows.{Fault, Message, value, values, with_entity_number, numbered_values}
 
 -- the messages after those that are there
 abbrev pub listed : {M : Type 0} → List M → Result (List M) Fault → Result (List M) Fault
 listed items told = told >>= λ xs. Ok (items ++ xs)
+
+-- the last of some messages made another
+pub set_last : {M : Type 0} (messages now : List M) (blank message : M) (last : ℕ) → now ≡ messages ++ blank ∷ [] → last ≡ length messages → slice_set now last message ≡ messages ++ message ∷ []
+set_last messages now blank message last is at =
+    let none : last - length messages ≡ 0 = omega arith in
+    ap (λ xs. slice_set xs last message) is
+    ∙ set-append_right messages (blank ∷ []) (length messages) last message refl (omega arith)
+    ∙ ap (λ i. messages ++ slice_set (blank ∷ []) i message) none
 
 -- one message more, in front of others
 listed_more : {M : Type 0} (items : List M) (x : M) (rest : Result (List M) Fault) → listed items (rest >>= λ xs. Ok (x ∷ xs)) ≡ listed (items ++ x ∷ []) rest

@@ -5,7 +5,7 @@ ghost use Rattle.std.specs.Prelude.{◌≡◌, [], ◌∷◌, MatchResult};
 ghost use Rattle.feed_defs.specs.Rows.{occurrences_of, span_in, fields_of_all, merged_message, value, values, with_entity_number, numbered_values};
 ghost use Rattle.answer_defs.specs.Defined.{AsDefined, IsCause};
 ghost use Rattle.field_read.specs.Causes.{cause_of};
-ghost use Rattle.feed_read.specs.Noting.{Joins};
+ghost use Rattle.feed_read.specs.Noting.{Appends, Joins};
 
 use crate::message::{Message, note_fields, read_into, read_one};
 use field_read::{Fields, Occurs, ReadFault, Slots, Spans};
@@ -90,6 +90,20 @@ pub(crate) fn shared<M: Message>(
     }
 }
 
+/// The messages with that of these bytes after them, which is filled where it stays; or the first fault in
+/// it.
+fn with_read<M: Message>(alloc: Global, bytes: &[u8], messages: Vec<M>) -> Result<Vec<M>, ReadFault>
+    ensures { MatchResult result
+        (λ all. Appends (value M.table (bytes.now ∷ [])) messages.items all.items)
+        (λ e. IsCause (value M.table (bytes.now ∷ [])) (cause_of e)) }
+{
+    let mut messages = messages;
+    let last = messages.len();
+    messages.push(M::blank(alloc)?)?;
+    read_into(alloc, bytes, &mut messages[last])?;
+    Ok(messages)
+}
+
 /// The messages of the repeated field with this number, each of its own payload.
 pub(crate) fn all<M: Message>(
     alloc: Global,
@@ -101,17 +115,24 @@ pub(crate) fn all<M: Message>(
 {
     let mut items = Vec::with_capacity(alloc, fields.count(number).min(MOST_ROOM))?;
     for bytes in fields.spans(number) {
-        items.push(read_one(alloc, bytes)?)?;
+        items = with_read(alloc, bytes, items)?;
     }
     Ok(Items::new(items))
 }
 
-/// The message of these bytes, whose fault tells this entity.
-fn read_placed<M: Message>(alloc: Global, entity: u32, bytes: &[u8]) -> Result<M, ReadFault>
-    ensures { AsDefined (λ x. x) cause_of
-        (with_entity_number entity (value M.table (bytes.now ∷ []))) result }
+/// The same, with a fault that tells this entity.
+fn with_placed<M: Message>(
+    alloc: Global,
+    entity: u32,
+    bytes: &[u8],
+    messages: Vec<M>,
+) -> Result<Vec<M>, ReadFault>
+    ensures { MatchResult result
+        (λ all. Appends (with_entity_number entity (value M.table (bytes.now ∷ [])))
+        messages.items all.items)
+        (λ e. IsCause (with_entity_number entity (value M.table (bytes.now ∷ []))) (cause_of e)) }
 {
-    match read_one(alloc, bytes) {
+    match with_read(alloc, bytes, messages) {
         Err(
             ReadFault::Malformed {
                 what,
@@ -143,7 +164,7 @@ pub(crate) fn numbered<M: Message>(
     let mut entity = 0u32;
     for bytes in fields.spans(number) {
         entity = entity.saturating_add(1);
-        items.push(read_placed(alloc, entity, bytes)?)?;
+        items = with_placed(alloc, entity, bytes, items)?;
     }
     Ok(Items::new(items))
 }

@@ -1,7 +1,9 @@
 //! The values of a form.
-ghost use Rattle.std.specs.Prelude.{◌≡◌, IfOk};
+ghost use Rattle.std.specs.Prelude.{◌≡◌, ℕ, List, Some, None, if◌then◌else◌, bytes_eq, IfOk, OnOk};
+ghost use Rattle.std.specs.Option.{option_or};
 ghost use Rattle.text_defs.specs.Numbers.{number};
-ghost use Rattle.http_defs.specs.Targets.{first_value, number_or, is_json, json_in, choices_in};
+ghost use Rattle.http_defs.specs.Targets as rule;
+ghost use Rattle.http_routes.specs.Given.{IsGiven};
 
 use crate::NoMemory;
 use http_defs::Choices;
@@ -9,21 +11,52 @@ use rt_types::Text;
 use std::alloc::Global;
 use texts::read_number;
 
-/// The value of the first pair of a form that has the name.
-#[tactic(auto, unfolding(http_defs::specs::Targets::first_value))]
-fn first_value(alloc: Global, form: &[u8], name: &str) -> Result<Option<Text>, NoMemory>
-    ensures { IfOk result (λ value. value ≡ first_value name.now form.now) }
+/// The first value that a form gives to each name of a choice; `None` where it gives none.
+#[derive(Drop)]
+struct Given {
+    span: Option<Text>,
+    limit: Option<Text>,
+    format: Option<Text>,
+}
+
+/// Sets the place to the value of a pair, if the pair has the name and nothing set the place before.
+fn note(
+    alloc: Global,
+    name: &str,
+    key: &str,
+    value: &str,
+    place: &mut Option<Text>,
+) -> Result<(), NoMemory>
+    ensures { OnOk result (place.new ≡ option_or place.old
+        (if bytes_eq key.now name.now then Some value.now else None)) }
 {
+    if place.is_none() && key == name {
+        *place = Some(Text::new(alloc, value)?);
+    }
+    Ok(())
+}
+
+/// The first values of a form, whose pairs are gone over once.
+#[tactic(auto, unfolding(http_defs::specs::Targets::first_value))]
+fn given_in(alloc: Global, form: &[u8]) -> Result<Given, NoMemory>
+    ensures { IfOk result (λ given. IsGiven form.now given) }
+{
+    let mut given = Given {
+        span: None,
+        limit: None,
+        format: None,
+    };
     for pair in form_urlencoded::parse(alloc, form) {
         let (key, value) = match pair {
             Ok(texts) => texts,
             Err(_) => return Err(NoMemory),
         };
-        if key.as_str() == name {
-            return Ok(Some(Text::new(alloc, value.as_str())?));
-        }
+        let (key, value) = (key.as_str(), value.as_str());
+        note(alloc, "span", key, value, &mut given.span)?;
+        note(alloc, "limit", key, value, &mut given.limit)?;
+        note(alloc, "format", key, value, &mut given.format)?;
     }
-    Ok(None)
+    Ok(given)
 }
 
 fn small_number(digits: &[u8], high: u32) -> Option<u32>
@@ -35,57 +68,46 @@ fn small_number(digits: &[u8], high: u32) -> Option<u32>
     }
 }
 
-/// The number of 1 to 5 digits from 1 to `high` that a form gives to a name, or `absent` where it
-/// gives none.
-fn number_in(
-    alloc: Global,
-    form: &[u8],
-    name: &str,
-    absent: u32,
-    high: u32,
-) -> Result<Option<u32>, NoMemory>
-    ensures { IfOk result (λ value. value ≡ number_or absent high
-        (first_value name.now form.now)) }
+/// The number of 1 to 5 digits from 1 to `high` that a value is, or `absent` where there is none.
+fn number_or(absent: u32, high: u32, value: &Option<Text>) -> Option<u32>
+    ensures { result ≡ rule.number_or absent high value.now }
 {
-    match first_value(alloc, form, name)? {
-        Some(value) => Ok(small_number(value.as_str().as_bytes(), high)),
-        None => Ok(Some(absent)),
+    match value {
+        Some(value) => small_number(value.as_str().as_bytes(), high),
+        None => Some(absent),
     }
 }
 
-fn is_json(format: &str) -> Option<bool>
-    ensures { result ≡ is_json (Some format.now) }
+fn is_json(format: &Option<Text>) -> Option<bool>
+    ensures { result ≡ rule.is_json format.now }
 {
     match format {
-        "text" => Some(false),
-        "json" => Some(true),
-        _ => None,
+        Some(format) => match format.as_str() {
+            "text" => Some(false),
+            "json" => Some(true),
+            _ => None,
+        },
+        None => Some(false),
     }
 }
 
-fn json_in(alloc: Global, form: &[u8]) -> Result<Option<bool>, NoMemory>
-    ensures { IfOk result (λ json. json ≡ json_in form.now) }
+/// What the values ask of a board or of alerts, or none where one of them has another form or is out of range.
+#[tactic(auto, unfolding(http_defs::specs::Targets::choices_in))]
+fn choices_of(given: &Given) -> Option<Choices>
+    ensures { (form : List ℕ) → IsGiven form given.now → result ≡ rule.choices_in form }
 {
-    match first_value(alloc, form, "format")? {
-        Some(value) => Ok(is_json(value.as_str())),
-        None => Ok(Some(false)),
-    }
+    Some(Choices {
+        span: number_or(3600, 86_400, &given.span)?,
+        limit: number_or(50, 1000, &given.limit)?,
+        json: is_json(&given.format)?,
+    })
 }
 
 /// What a form asks of a board or of alerts, or none where one of its values has another form or is
 /// out of range.
-#[tactic(auto, unfolding(http_defs::specs::Targets::choices_in))]
 pub(crate) fn choices_in(alloc: Global, form: &[u8]) -> Result<Option<Choices>, NoMemory>
-    ensures { IfOk result (λ choices. choices ≡ choices_in form.now) }
+    ensures { IfOk result (λ choices. choices ≡ rule.choices_in form.now) }
 {
-    let Some(span) = number_in(alloc, form, "span", 3600, 86_400)? else {
-        return Ok(None);
-    };
-    let Some(limit) = number_in(alloc, form, "limit", 50, 1000)? else {
-        return Ok(None);
-    };
-    match json_in(alloc, form)? {
-        Some(json) => Ok(Some(Choices { span, limit, json })),
-        None => Ok(None),
-    }
+    let given = given_in(alloc, form)?;
+    Ok(choices_of(&given))
 }
