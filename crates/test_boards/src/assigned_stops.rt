@@ -225,7 +225,7 @@ fn are_at(rows: &[Row], wanted: &[Departure]) -> bool {
 }
 
 /// Whether the board of a stop for an hour has just these departures after such a message.
-fn leave(alloc: Global, said: Said, stop: &str, wanted: &[Departure]) -> Result<bool, RowsFault> {
+fn shows(alloc: Global, said: Said, stop: &str, wanted: &[Departure]) -> Result<bool, RowsFault> {
     let view = view_of(alloc, said)?;
     let rows = board(alloc, &view, stop, 50)?;
     Ok(are_at(rows.as_slice(), wanted))
@@ -236,11 +236,11 @@ fn one_place_is_moved(rt: HostRuntime) -> Result<(), Fail> {
     let alloc = rt.alloc();
     // T1 calls at S3 by the timetable too, after that at S2.
     let to_harbour = first_at("S3");
-    assert!(rt; leave(alloc, to_harbour, "ST", &[("T1", "S2"), ("T2", "S2")])?);
-    assert!(rt; leave(alloc, to_harbour, "S3", &[("T1", "S3"), ("T1", "S3")])?);
-    assert!(rt; leave(alloc, first_at("ST"), "S1", &[])?);
+    assert!(rt; shows(alloc, to_harbour, "ST", &[("T1", "S2"), ("T2", "S2")])?);
+    assert!(rt; shows(alloc, to_harbour, "S3", &[("T1", "S3"), ("T1", "S3")])?);
+    assert!(rt; shows(alloc, first_at("ST"), "S1", &[])?);
     assert!(rt;
-        leave(
+        shows(
             alloc,
             first_at("ST"),
             "ST",
@@ -259,8 +259,8 @@ fn an_update_finds_its_place_by_the_timetable(rt: HostRuntime) -> Result<(), Fai
         stop: Some("S2"),
         ..first_at("S1")
     };
-    assert!(rt; leave(alloc, second, "S1", &[("T1", "S1"), ("T1", "S1")])?);
-    assert!(rt; leave(alloc, second, "S2", &[("T2", "S2")])?);
+    assert!(rt; shows(alloc, second, "S1", &[("T1", "S1"), ("T1", "S1")])?);
+    assert!(rt; shows(alloc, second, "S2", &[("T2", "S2")])?);
     Ok(())
 }
 
@@ -294,13 +294,13 @@ fn other_departures_keep_their_platforms(rt: HostRuntime) -> Result<(), Fail> {
         first_at("S9"),
     ];
     for said in cases {
-        let at_market = leave(
+        let at_market = shows(
             alloc,
             said,
             "ST",
             &[("T1", "S1"), ("T1", "S2"), ("T2", "S2")],
         )?;
-        let at_harbour = leave(alloc, said, "S3", &[("T1", "S3")])?;
+        let at_harbour = shows(alloc, said, "S3", &[("T1", "S3")])?;
         assert!(rt; at_market && at_harbour);
     }
     Ok(())
