@@ -58,12 +58,7 @@ fn first_alerts<'a>() -> Question<'a>
 }
 
 /// Whether a question is answered by that text after a message of the feed a, and the alerts of b.
-fn answers(
-    alloc: Global,
-    message: &[u8],
-    question: &Question<'_>,
-    text: &str,
-) -> Result<bool, Fail>
+fn answers(alloc: Global, message: &[u8], question: &Question<'_>, text: &str) -> Result<bool, Fail>
     requires { IsAsked (question_seen question.now) }
 {
     let mut hub = ReplayHub::new(alloc, two_feeds(alloc)?)?;
@@ -218,10 +213,8 @@ type Departure = (&'static str, &'static str);
 
 fn are_at(rows: &[Row], wanted: &[Departure]) -> bool {
     rows.len() == wanted.len()
-        && rows
-            .iter()
-            .zip(wanted)
-            .all(|(row, one)| row.trip.as_str() == one.0 && row.platform.as_str() == one.1)
+        && rows.iter().zip(wanted).all(|(row, one)| row.trip.as_str() == one.0
+            && row.platform.as_str() == one.1)
 }
 
 /// Whether the board of a stop for an hour has just these departures after such a message.

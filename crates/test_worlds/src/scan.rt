@@ -265,7 +265,8 @@ fn with_run(
         if !is_last && place.pickup != 1 {
             if let Some(sign) = sign_at(update, made, i) {
                 let row = row(*place, trip, day, i, sign);
-                if is_asked(world, question.stop, row.stop) && is_within(question, row.key.expected)
+                if is_asked(world, question.stop, row.stop)
+                    && is_within(question, row.key.expected)
                 {
                     rows = inserted(alloc, rows.as_slice(), row)?;
                 }
