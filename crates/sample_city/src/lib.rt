@@ -12,7 +12,7 @@ mod plan;
 mod schedules;
 mod views;
 
-pub use messages::{ASK, FIVE, MOMENT, SERVED, UPDATE, dataset_of, full_dataset, no_bytes};
+pub use messages::{ASK, FIVE, MOMENT, MOVED, SERVED, UPDATE, dataset_of, full_dataset, no_bytes};
 pub use outside::{city_doors, city_ports, clock, door, link, number_at, port, sink};
 pub use plan::{city, place, routes, stop, stops, trip, trips};
 pub use schedules::{feed, four_feeds, named_city, one_feed, two_feeds};

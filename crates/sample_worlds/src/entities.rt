@@ -6,7 +6,7 @@ use crate::files::time;
 use crate::notice::MadeVehicle;
 use crate::world::{DATES, MadeStop, MadeUpdate, ROUTES, STOPS, TRIPS, World};
 use rt_types::{
-    Entity, Event, Shared, StopUpdate, StopUpdates, Text, TripRef, TripUpdate, Vehicle,
+    Entity, Event, Shared, StopProps, StopUpdate, StopUpdates, Text, TripRef, TripUpdate, Vehicle,
 };
 use sample_city::no_bytes;
 use std::alloc::{AllocError, Global};
@@ -35,6 +35,17 @@ fn stop_id(alloc: Global, made: MadeStop) -> Result<Option<Text>, AllocError> {
     }
 }
 
+/// What an update changes about the stop of a place: the assigned one, if there is one.
+fn properties(alloc: Global, assigned: Option<u32>) -> Result<Option<StopProps>, AllocError> {
+    if assigned.is_none() {
+        return Ok(None);
+    }
+    Ok(Some(StopProps {
+        assigned_stop_id: named(alloc, &STOPS, assigned, "Z")?,
+        unknown: no_bytes(alloc),
+    }))
+}
+
 fn stop_update(alloc: Global, made: MadeStop) -> Result<StopUpdate, AllocError> {
     let arrives = made.call.and_then(|call| call.arrives);
     let leaves = made.call.and_then(|call| call.leaves);
@@ -44,7 +55,7 @@ fn stop_update(alloc: Global, made: MadeStop) -> Result<StopUpdate, AllocError> 
         departure: event(alloc, made.departure, leaves),
         stop_id: stop_id(alloc, made)?,
         relation: made.relation,
-        properties: None,
+        properties: properties(alloc, made.assigned)?,
         unknown: no_bytes(alloc),
     })
 }

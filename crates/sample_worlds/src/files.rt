@@ -12,12 +12,12 @@ fn file(alloc: Global, path: &str, text: &str) -> Result<MemoryFile, AllocError>
     })
 }
 
-/// stops.txt: the station and the stops, of which one or two lie in it.
+/// stops.txt: the stations and the stops, of which one or two lie in P, and one in S.
 fn stops(in_station: bool) -> &'static str {
     if in_station {
-        "stop_id,parent_station\nC,\nA,P\nP,\nB,P\n"
+        "stop_id,parent_station\nS,\nC,S\nA,P\nP,\nB,P\n"
     } else {
-        "stop_id,parent_station\nC,\nA,P\nP,\nB,\n"
+        "stop_id,parent_station\nS,\nC,S\nA,P\nP,\nB,\n"
     }
 }
 

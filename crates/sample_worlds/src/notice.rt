@@ -116,7 +116,7 @@ fn selector(dice: &mut Dice, known: Known<'_>) -> MadeSelector {
     match dice.below(11) {
         0 => NOTHING,
         1 => MadeSelector {
-            stop: some_of(dice, 4),
+            stop: some_of(dice, 5),
             ..NOTHING
         },
         2 => MadeSelector {
@@ -129,7 +129,7 @@ fn selector(dice: &mut Dice, known: Known<'_>) -> MadeSelector {
         },
         5 => MadeSelector {
             route: some_of(dice, 2),
-            stop: some_of(dice, 4),
+            stop: some_of(dice, 5),
             ..NOTHING
         },
         6 => MadeSelector {
@@ -162,7 +162,7 @@ fn any_fields(dice: &mut Dice, known: Known<'_>) -> MadeSelector {
             _ => None,
         },
         stop: if dice.one_in(3) {
-            some_of(dice, 4)
+            some_of(dice, 5)
         } else {
             None
         },

@@ -1,12 +1,13 @@
-//! A timetable of four stops and up to three trips, and what two feeds say of it.
+//! A timetable of five stops and up to three trips, and what two feeds say of it.
 
 use crate::dice::Dice;
 use crate::notice::{Known, MadeAlert, MadeVehicle, alerts, vehicles};
 use rt_types::{StopRelation, TripRelation};
 use std::alloc::{AllocError, Global};
 
-/// The stops, in order of their ids. The last is a station: the first lies in it, the second in some worlds.
-pub const STOPS: [&str; 4] = ["A", "B", "C", "P"];
+/// The stops, in order of their ids. The last two are stations: the first stop lies in P, the second in some worlds,
+/// and the third in S.
+pub const STOPS: [&str; 5] = ["A", "B", "C", "P", "S"];
 
 /// The trips, in order of their ids.
 pub const TRIPS: [&str; 3] = ["T0", "T1", "T2"];
@@ -66,13 +67,15 @@ pub struct MadeCall {
     pub leaves: Option<i64>,
 }
 
-/// What an update says of a place; of an added trip's with the call there.
+/// What an update says of a place; of an added trip's with the call there. The stop that it assigns to the place is
+/// told by its number in `STOPS`, or past the last.
 #[derive(Clone, Copy)]
 pub struct MadeStop {
     pub sequence: u32,
     pub relation: Option<StopRelation>,
     pub arrival: Option<i32>,
     pub departure: Option<i32>,
+    pub assigned: Option<u32>,
     pub call: Option<MadeCall>,
 }
 
@@ -159,7 +162,7 @@ fn trip(alloc: Global, dice: &mut Dice) -> Result<MadeTrip, AllocError> {
         let arrival = time;
         let departure = arrival.saturating_add(300 * dice.below(2));
         places.push(MadePlace {
-            stop: dice.below(4),
+            stop: dice.below(5),
             sequence: 10 + 10 * i,
             arrival,
             departure,
@@ -183,13 +186,23 @@ fn call(dice: &mut Dice, day: u32) -> MadeCall {
     let base = BASES.get(day as usize).copied().unwrap_or(1_743_285_600);
     let time = base.wrapping_add(i64::from(28_800 + 300 * dice.below(8)));
     MadeCall {
-        stop: if dice.one_in(9) { 4 } else { dice.below(4) },
+        stop: if dice.one_in(9) { 5 } else { dice.below(5) },
         arrives: if dice.one_in(3) { None } else { Some(time) },
         leaves: match dice.below(6) {
             0 => None,
             1 => Some(0),
             later => Some(time.wrapping_add(60 * i64::from(later))),
         },
+    }
+}
+
+/// A stop that is assigned to a place, mostly one that may lie in a station, rarely one that isn't there; or none.
+fn assigned(dice: &mut Dice) -> Option<u32> {
+    match dice.below(8) {
+        0 => Some(5),
+        1 => Some(3 + dice.below(2)),
+        2 | 3 => None,
+        _ => Some(dice.below(3)),
     }
 }
 
@@ -206,6 +219,7 @@ fn stop(dice: &mut Dice, call: Option<MadeCall>) -> MadeStop {
         },
         arrival: delay(dice),
         departure: delay(dice),
+        assigned: assigned(dice),
         call,
     }
 }

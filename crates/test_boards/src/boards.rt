@@ -117,7 +117,12 @@ fn board_at(
 }
 
 /// The rows in the hour after the messages.
-fn board(alloc: Global, view: &HubView, stop: &str, limit: u32) -> Result<Vec<Row>, RowsFault> {
+pub(crate) fn board(
+    alloc: Global,
+    view: &HubView,
+    stop: &str,
+    limit: u32,
+) -> Result<Vec<Row>, RowsFault> {
     board_at(alloc, view, stop, MOMENT, limit)
 }
 

@@ -13,6 +13,8 @@ mod alerts;
 #[cfg(test)]
 mod answers;
 #[cfg(test)]
+mod assigned_stops;
+#[cfg(test)]
 mod bare;
 #[cfg(test)]
 mod board_texts;

@@ -95,10 +95,20 @@ fn boards_by_the_timetable(rt: HostRuntime) -> Result<(), Fail> {
 }
 
 /// Scripts on the city, each with what it prints.
-pub(crate) const PLAYED: [(&[u8], &str); 3] = [
+pub(crate) const PLAYED: [(&[u8], &str); 5] = [
     // A trip that is late from its first stop on.
     (
         b"M a 47\n\n\x0d\n\x032.0\x10\x00\x18\xd0\xb8\xa3\xbf\x06\x12\x1e\n\x01u\x1a\x19\n\x0e\n\x02T1\x1a\x0820250330\x12\x07\x08\x01\x1a\x03\x08\xac\x02\nB city ST 1743314000 3600 50 text\nE\n",
+        "accepted 1\nboard 242\nstop\tST\tMarket\nexpected\tscheduled\tdelay\tstate\troute\theadsign\ttrip\tdate\tplatform\n1743314700\t1743314400\t300\tlive\t7\tHill\tT1\t20250330\tS1\n1743315660\t1743315660\t-\tscheduled\t7\tHill\tT2\t20250330\tS2\n1743315960\t1743315660\t300\tlive\t7\tHill\tT1\t20250330\tS2\n\n",
+    ),
+    // The same trip, which moves from S1 to S2 there.
+    (
+        b"M a 53\n\n\x0d\n\x032.0\x10\x00\x18\xd0\xb8\xa3\xbf\x06\x12$\n\x01u\x1a\x1f\n\x0e\n\x02T1\x1a\x0820250330\x12\x0d\x08\x01\x1a\x03\x08\xac\x022\x04\n\x02S2\nB city ST 1743314000 3600 50 text\nB city S1 1743314000 3600 50 text\nE\n",
+        "accepted 1\nboard 242\nstop\tST\tMarket\nexpected\tscheduled\tdelay\tstate\troute\theadsign\ttrip\tdate\tplatform\n1743314700\t1743314400\t300\tlive\t7\tHill\tT1\t20250330\tS2\n1743315660\t1743315660\t-\tscheduled\t7\tHill\tT2\t20250330\tS2\n1743315960\t1743315660\t300\tlive\t7\tHill\tT1\t20250330\tS2\n\nboard 82\nstop\tS1\tMarket A\nexpected\tscheduled\tdelay\tstate\troute\theadsign\ttrip\tdate\tplatform\n\n",
+    ),
+    // The same, to a stop that isn't there, which moves nothing.
+    (
+        b"M a 53\n\n\x0d\n\x032.0\x10\x00\x18\xd0\xb8\xa3\xbf\x06\x12$\n\x01u\x1a\x1f\n\x0e\n\x02T1\x1a\x0820250330\x12\x0d\x08\x01\x1a\x03\x08\xac\x022\x04\n\x02S9\nB city ST 1743314000 3600 50 text\nE\n",
         "accepted 1\nboard 242\nstop\tST\tMarket\nexpected\tscheduled\tdelay\tstate\troute\theadsign\ttrip\tdate\tplatform\n1743314700\t1743314400\t300\tlive\t7\tHill\tT1\t20250330\tS1\n1743315660\t1743315660\t-\tscheduled\t7\tHill\tT2\t20250330\tS2\n1743315960\t1743315660\t300\tlive\t7\tHill\tT1\t20250330\tS2\n\n",
     ),
     // Of two feeds with one stamp the first counts.

@@ -1,6 +1,6 @@
-//! Boards of two hundred worlds.
+//! Boards of a thousand worlds.
 
-use crate::scan::{Question, Seen, scan};
+use crate::scan::{Question, Seen, lies_in, scan};
 use board_core::{BoardQuery, HubView, Row, RowState, RowsFault, Subject, rows, subjects};
 use rt_types::Text;
 use sample_worlds::{DATES, Dice, ROUTE_NAMES, STOPS, TRIPS, World, hub_of, made_world, moment};
@@ -123,7 +123,7 @@ fn agrees(
 pub(crate) fn question(dice: &mut Dice) -> Question {
     let at = moment(dice);
     Question {
-        stop: dice.below(4),
+        stop: dice.below(5),
         at,
         span: 600 * (1 + dice.below(12)),
         limit: 1 + dice.below(8),
@@ -138,6 +138,40 @@ struct Count {
     skipped: u32,
     canceled: u32,
     added: u32,
+    moves: MoveCount,
+}
+
+/// How many rows were seen at another stop of their station, how many at a stop of the other station, and how many
+/// where they were planned, since the assigned stop isn't there.
+#[derive(Clone, Copy, Debug)]
+struct MoveCount {
+    sibling: u32,
+    other_station: u32,
+    nowhere: u32,
+}
+
+/// Whether a row was moved to the other stop of its station.
+fn is_at_sibling(world: &World, seen: &Seen) -> bool {
+    seen.stop != seen.planned && lies_in(world, seen.planned, 3) && lies_in(world, seen.stop, 3)
+}
+
+/// Whether a row was moved to a stop of the other station.
+fn is_at_other_station(world: &World, seen: &Seen) -> bool {
+    (lies_in(world, seen.planned, 3) && lies_in(world, seen.stop, 4))
+        || (lies_in(world, seen.planned, 4) && lies_in(world, seen.stop, 3))
+}
+
+impl MoveCount {
+    fn with(self, world: &World, seen: &Seen) -> MoveCount {
+        let sibling = u32::from(is_at_sibling(world, seen));
+        let other_station = u32::from(is_at_other_station(world, seen));
+        let nowhere = u32::from(seen.assigned == Some(5));
+        MoveCount {
+            sibling: self.sibling.saturating_add(sibling),
+            other_station: self.other_station.saturating_add(other_station),
+            nowhere: self.nowhere.saturating_add(nowhere),
+        }
+    }
 }
 
 impl Count {
@@ -183,7 +217,11 @@ fn judged(
             return Ok(None);
         }
         for one in &seen {
-            count = count.with(one);
+            let moves = count.moves.with(world, one);
+            count = Count {
+                moves,
+                ..count.with(one)
+            };
         }
     }
     Ok(Some(count))
@@ -199,17 +237,27 @@ fn boards_are_what_a_scan_sees(rt: HostRuntime) -> Result<(), Fail> {
         skipped: 0,
         canceled: 0,
         added: 0,
+        moves: MoveCount {
+            sibling: 0,
+            other_station: 0,
+            nowhere: 0,
+        },
     };
-    for number in 0..200u32 {
+    for number in 0..1000u32 {
         let world = made_world(alloc, &mut dice)?;
         match judged(alloc, &world, &mut dice, count)? {
             Some(next) => count = next,
             None => assert!(rt; false, "another board in world {number}"),
         }
     }
-    assert!(rt; count.scheduled > 500 && count.live > 100, "{count:?}");
+    assert!(rt; count.scheduled > 2000 && count.live > 500, "{count:?}");
     assert!(rt;
-        count.skipped > 5 && count.canceled > 30 && count.added > 20,
+        count.skipped > 50 && count.canceled > 150 && count.added > 100,
+        "{count:?}"
+    );
+    let moves = count.moves;
+    assert!(rt;
+        moves.sibling > 5 && moves.other_station > 10 && moves.nowhere > 10,
         "{count:?}"
     );
     Ok(())

@@ -1,4 +1,4 @@
-//! The lists beside the boards of two hundred worlds.
+//! The lists beside the boards of a thousand worlds, and what is unmatched in two hundred.
 
 use crate::board_tests::question;
 use crate::lists::{AlertKey, Fate, MadeUnmatched, fate_of, listed, made_unmatched};
@@ -121,12 +121,14 @@ fn unmatched_agree(
     )
 }
 
-/// How many alerts came to what, so that a test can tell that it has seen enough.
+/// How many alerts came to what, so that a test can tell that it has seen enough, and of how many that was decided by
+/// where the rows are, which were planned elsewhere.
 #[derive(Clone, Copy, Debug)]
 struct AlertCount {
     listed: u32,
     inactive: u32,
     untouched: u32,
+    by_move: u32,
 }
 
 impl AlertCount {
@@ -154,6 +156,25 @@ impl AlertCount {
             count = count.with(fate_of(world, alert, question, seen));
         }
         count
+    }
+
+    /// The count with the alerts of a world to which something else would come if all rows were where they were
+    /// planned.
+    fn with_moves(
+        self,
+        world: &World,
+        question: Question,
+        seen: &[Seen],
+        planned: &[Seen],
+    ) -> AlertCount {
+        let mut by_move = self.by_move;
+        for alert in &world.alerts {
+            let fate = fate_of(world, alert, question, seen);
+            if fate != fate_of(world, alert, question, planned) {
+                by_move = by_move.saturating_add(1);
+            }
+        }
+        AlertCount { by_move, ..self }
     }
 }
 
@@ -227,6 +248,18 @@ impl UnmatchedCount {
     }
 }
 
+/// The rows as if each were at its planned stop.
+fn as_planned(alloc: Global, seen: &[Seen]) -> Result<Vec<Seen>, Fail> {
+    let mut planned = Vec::new(alloc);
+    for row in seen {
+        planned.push(Seen {
+            stop: row.planned,
+            ..*row
+        })?;
+    }
+    Ok(planned)
+}
+
 /// The count with what eight questions to a world list; none where a list is another.
 fn alerts_judged(
     alloc: Global,
@@ -242,7 +275,10 @@ fn alerts_judged(
         if !alerts_agree(alloc, view, world, question, seen.as_slice())? {
             return Ok(None);
         }
-        count = count.with_all(world, question, seen.as_slice());
+        let planned = as_planned(alloc, seen.as_slice())?;
+        count = count
+            .with_all(world, question, seen.as_slice())
+            .with_moves(world, question, seen.as_slice(), planned.as_slice());
     }
     Ok(Some(count))
 }
@@ -255,8 +291,9 @@ fn alerts_are_what_a_scan_lists(rt: HostRuntime) -> Result<(), Fail> {
         listed: 0,
         inactive: 0,
         untouched: 0,
+        by_move: 0,
     };
-    for number in 0..200u32 {
+    for number in 0..1000u32 {
         let world = made_world(alloc, &mut dice)?;
         let view = hub_of(alloc, &world)?;
         match alerts_judged(alloc, &view, &world, &mut dice, count)? {
@@ -265,9 +302,10 @@ fn alerts_are_what_a_scan_lists(rt: HostRuntime) -> Result<(), Fail> {
         }
     }
     assert!(rt;
-        count.listed > 500 && count.inactive > 500 && count.untouched > 500,
+        count.listed > 2000 && count.inactive > 5000 && count.untouched > 5000,
         "{count:?}"
     );
+    assert!(rt; count.by_move > 5, "{count:?}");
     Ok(())
 }
 

@@ -27,7 +27,8 @@ pub(crate) struct Key {
     pub(crate) place: u32,
 }
 
-/// A row, with trip, day, stop and route by their numbers.
+/// A row, with trip, day, stop and route by their numbers. Besides the stop at which it is, it has the one that was
+/// planned, by the timetable or by an added trip's call, and the one that was assigned, if there was one.
 #[derive(Clone, Copy)]
 pub(crate) struct Seen {
     pub(crate) key: Key,
@@ -35,14 +36,17 @@ pub(crate) struct Seen {
     pub(crate) delay: Option<i64>,
     pub(crate) state: RowState,
     pub(crate) stop: u32,
+    pub(crate) planned: u32,
+    pub(crate) assigned: Option<u32>,
     pub(crate) route: Option<u32>,
 }
 
-/// A state, and a delay where it is known.
+/// A state, a delay where it is known, and the stop that was assigned, if there was one, which may not be there.
 #[derive(Clone, Copy)]
 struct Sign {
     state: RowState,
     delay: Option<i64>,
+    assigned: Option<u32>,
 }
 
 /// Whether an update speaks of a run: added trips, those without a timetable and those that take the place of
@@ -107,29 +111,36 @@ fn carried(stop: MadeStop, carry: Option<i32>) -> Option<i32> {
     }
 }
 
-/// What is known by a delay.
+/// What is known by a delay, at the planned stop.
 fn by_delay(delay: Option<i32>) -> Sign {
     match delay {
         Some(seconds) => Sign {
             state: RowState::Live,
             delay: Some(i64::from(seconds)),
+            assigned: None,
         },
-        None => Sign {
-            state: RowState::Scheduled,
-            delay: None,
-        },
+        None => without_times(RowState::Scheduled),
+    }
+}
+
+/// A state of a place of which no delay is known, at the planned stop.
+fn without_times(state: RowState) -> Sign {
+    Sign {
+        state,
+        delay: None,
+        assigned: None,
     }
 }
 
 /// What is known of a place at which this was said, where that was carried to it.
 fn told(stop: MadeStop, carry: Option<i32>) -> Sign {
     match stop.relation {
-        Some(StopRelation::Skipped) => Sign {
-            state: RowState::Skipped,
-            delay: None,
-        },
+        Some(StopRelation::Skipped) => without_times(RowState::Skipped),
         Some(StopRelation::NoData | StopRelation::Unscheduled) => by_delay(None),
-        Some(StopRelation::Scheduled) | None => by_delay(carried(stop, carry)),
+        Some(StopRelation::Scheduled) | None => Sign {
+            assigned: stop.assigned,
+            ..by_delay(carried(stop, carry))
+        },
     }
 }
 
@@ -162,17 +173,19 @@ fn sign_at(update: Option<&MadeUpdate>, trip: &MadeTrip, place: usize) -> Option
     };
     match update.relation {
         Some(TripRelation::Deleted) => None,
-        Some(TripRelation::Canceled) => Some(Sign {
-            state: RowState::Canceled,
-            delay: None,
-        }),
+        Some(TripRelation::Canceled) => Some(without_times(RowState::Canceled)),
         _ => Some(said_at(update, trip, place)),
     }
 }
 
 /// Whether a stop lies in another, which is the station then.
 pub(crate) fn lies_in(world: &World, stop: u32, other: u32) -> bool {
-    other == 3 && (stop == 0 || (stop == 1 && world.in_station))
+    match stop {
+        0 => other == 3,
+        1 => other == 3 && world.in_station,
+        2 => other == 4,
+        _ => false,
+    }
 }
 
 /// Whether a stop is the asked one or lies in it.
@@ -184,6 +197,14 @@ fn is_asked(world: &World, asked: u32, stop: u32) -> bool {
 fn is_within(question: Question, instant: i64) -> bool {
     let first = i64::try_from(question.at).unwrap_or(0);
     first <= instant && instant < first.wrapping_add(i64::from(question.span))
+}
+
+/// The stop at which a place is: the assigned one where that is there, else the planned one.
+fn stop_at(planned: u32, assigned: Option<u32>) -> u32 {
+    match assigned {
+        Some(stop) if stop < 5 => stop,
+        _ => planned,
+    }
 }
 
 /// The row of a place.
@@ -201,7 +222,9 @@ fn row(place: MadePlace, trip: u32, day: u32, number: usize, sign: Sign) -> Seen
         scheduled: Some(scheduled),
         delay: sign.delay,
         state: sign.state,
-        stop: place.stop,
+        stop: stop_at(place.stop, sign.assigned),
+        planned: place.stop,
+        assigned: sign.assigned,
         route: TRIP_ROUTES.get(trip as usize).copied(),
     }
 }
@@ -239,10 +262,12 @@ fn with_run(
     let update = chosen(world, trip, day);
     for (i, place) in made.places.iter().enumerate() {
         let is_last = made.places.len() - i == 1;
-        if !is_last && place.pickup != 1 && is_asked(world, question.stop, place.stop) {
+        if !is_last && place.pickup != 1 {
             if let Some(sign) = sign_at(update, made, i) {
                 let row = row(*place, trip, day, i, sign);
-                if is_within(question, row.key.expected) {
+                if is_asked(world, question.stop, row.stop)
+                    && is_within(question, row.key.expected)
+                {
                     rows = inserted(alloc, rows.as_slice(), row)?;
                 }
             }
@@ -282,7 +307,7 @@ fn leaves(stop: &MadeStop) -> Option<i64> {
         Some(_) => false,
     };
     match stop.call {
-        Some(call) if is_served && call.stop < 4 => moment(call.leaves).or(moment(call.arrives)),
+        Some(call) if is_served && call.stop < 5 => moment(call.leaves).or(moment(call.arrives)),
         _ => None,
     }
 }
@@ -316,7 +341,7 @@ fn known_route(route: Option<u32>) -> Option<u32> {
     }
 }
 
-/// The row of a call of an added trip.
+/// The row of a call of an added trip, at the call's stop: an assigned one has no effect there.
 fn added_row(update: &MadeUpdate, call: Call, number: usize) -> Seen {
     Seen {
         key: Key {
@@ -330,6 +355,8 @@ fn added_row(update: &MadeUpdate, call: Call, number: usize) -> Seen {
         delay: None,
         state: RowState::Added,
         stop: call.stop,
+        planned: call.stop,
+        assigned: None,
         route: known_route(update.route),
     }
 }
