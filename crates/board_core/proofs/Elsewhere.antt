@@ -5,7 +5,6 @@ use Rattle.std.specs.List.{All, AllByRecursion, cons_option, list_any, enumerate
 use Rattle.std.specs.Option.{option_map, option_and_then}
 use Rattle.std.proofs.lemmas.List.Elements.{All-nil, All-cons}
 use Rattle.rt_types.specs.declared.trip_update.StopUpdate.{StopUpdate}
-use Rattle.rt_types.specs.declared.trip_update.TripUpdate.{TripUpdate}
 use Rattle.sched_types.specs.declared.rows.Place.{Place}
 use Rattle.sched_types.specs.declared.rows.Run.{Run}
 use Rattle.sched_types.specs.Timetable.{Timetable, is_run, places_of}

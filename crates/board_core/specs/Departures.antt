@@ -7,7 +7,7 @@ use Rattle.std.specs.declared.cmp.Ordering.{Ordering}
 use Rattle.rt_types.specs.declared.trip_update.TripUpdate.{TripUpdate}
 use Rattle.sched_types.specs.declared.rows.Place.{Place}
 use Rattle.sched_types.specs.declared.rows.Run.{Run}
-use Rattle.sched_types.specs.Timetable.{Timetable, is_run, places_of}
+use Rattle.sched_types.specs.Timetable.{Timetable, is_run}
 use Rattle.delay_rule_defs.specs.Delays.{states}
 use Rattle.delay_rule.specs.Near.{IsNearState, IsAtStop}
 use Rattle.trip_match_defs.specs.Matching.{relation_of}

@@ -1,11 +1,16 @@
--- The trips in order are those that are defined.
+-- One update more, and at the end the trips in order.
 use Rattle.std.proofs.Common.{◌∙◌, ap, arith}
 use Rattle.std.specs.List.{filter_map}
+use Rattle.std.proofs.lemmas.Grind.{common_steps}
 use Rattle.std.proofs.lemmas.List.{take_all}
+use Rattle.std.proofs.lemmas.List.Elements.{filter_map-append}
 use Rattle.std.proofs.lemmas.List.Sorted.{IsNonDecreasingBy-from_sort}
 use Rattle.board_core.specs.Calling.{moved_trip}
 use Rattle.board_core.proofs.Moved.{any_moved}
 use Rattle.board_core.proofs.trips.moved_trips.Goals as goal
+
+pub loop-update-preserved : goal.loop-update-preserved
+loop-update-preserved c = grind (arith, common_steps, filter_map-append)
 
 pub returns : goal.returns
 returns c =

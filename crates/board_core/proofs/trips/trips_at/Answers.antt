@@ -1,5 +1,5 @@
 -- One trip more.
-use Rattle.std.proofs.Common.{◌≡◌, ◌||◌, ◌∙◌, length, ap, arith}
+use Rattle.std.proofs.Common.{◌||◌, ◌∙◌, length, ap, arith}
 use Rattle.board_core.specs.Calling.{calls_at, may_call, is_among}
 use Rattle.board_core.proofs.Days.{more_trips}
 use Rattle.board_core.proofs.trips.trips_at.Goals as goal
