@@ -54,7 +54,7 @@ def answer(hub, target):
 
 def see(display, stop, wanted):
     """Opens the display of a stop, and compares time, platform, expected time and remark of each departure."""
-    display.open(stop)
+    display.open(stop, height=320)
     display.browser.wait("document.querySelector('#rows tr') || !document.getElementById('empty').hidden")
     rows = display.browser.value(SHOWN)
     display.check(f"{stop}: {rows}", rows == wanted)
