@@ -21,6 +21,10 @@ mod boards;
 #[cfg(test)]
 mod combined;
 #[cfg(test)]
+mod copied_once;
+#[cfg(test)]
+mod due_lists;
+#[cfg(test)]
 mod feeds;
 #[cfg(test)]
 mod lists;
