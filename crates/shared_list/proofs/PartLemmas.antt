@@ -12,7 +12,7 @@ use Rattle.std.specs.declared.alloc.Global.{Global}
 use Rattle.std.proofs.Math.Dec.{eqb-suc-zero}
 use Rattle.std.proofs.lemmas.Grind.{flat_map-append}
 use Rattle.std.proofs.lemmas.List.{length-map, map-append, map-set}
-use Rattle.shared_list.specs.Order.{entries, all_entries, item_with, items_from, entries_from, without, at_first, AllBelow, AllAbove, IsHome, Rises, AreParts}
+use Rattle.shared_list.specs.Order.{entries, all_entries, item_with, items_from, entries_from, without, at_first, AllBelow, AllAbove, IsGap, IsHome, Rises, AreParts}
 use Rattle.shared_list.specs.Parts.{parts_of, items_in, AreSound, TellsLeft}
 use Rattle.shared_list.proofs.Places.{searched, search_same, items_entries, IsAt-map, IsGap-map, Rises-map}
 use Rattle.shared_list.proofs.Each.{each_front, each_back, each_at, each_set, each_insert, each_before, each_behind, remove_set}
