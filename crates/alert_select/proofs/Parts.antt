@@ -16,6 +16,7 @@ use Rattle.feed_defs.proofs.Applied.{sorted_filter, sorted_changed, find-without
 use Rattle.feed_defs.proofs.Kept.{id_cmp, left, right}
 use Rattle.shared_list.proofs.Middle.{put_middle, sorted_before, both_so}
 use Rattle.shared_list.proofs.ListLemmas.{without_absent}
+use Rattle.shared_list.proofs.TextKeys.{without-texts}
 use Rattle.alert_select.specs.FeedAlerts.{has_alert, alerts_of, alerts_and}
 
 less_not_equal : (o : Ordering) → T (is_lt o) → is_eq o ≡ false
@@ -121,7 +122,8 @@ module _ (test : Stored → Bool) where
   part_stays es c before h held out none =
       part_changed es c h
       ∙ ap (λ b. if b then changes_with (filter is_in es) c else changes_without c.0 (filter is_in es)) out
-      ∙ without_absent c.0 (filter is_in es) (find_only c.0 es h ∙ ap only (sym held) ∙ none_only before none)
+      ∙ sym (without-texts c.0 (filter is_in es))
+      ∙ without_absent id_cmp c.0 (filter is_in es) (find_only c.0 es h ∙ ap only (sym held) ∙ none_only before none)
     where
       none_only : (o : Option Stored) → option_map_or test o false ≡ false → only o ≡ None
       none_only None e = refl
@@ -130,7 +132,7 @@ module _ (test : Stored → Bool) where
 -- ---- a table from its first id to its last
 
 put_last : {X : Type 0} (k : List ℕ) (v : X) (xs ys : List (List ℕ × X)) → T (is_sorted id_cmp (xs ++ (k, v) ∷ ys)) → put id_cmp k v xs ≡ xs ++ (k, v) ∷ []
-put_last k v xs ys h = ap (put id_cmp k v) (sym (append-nil xs)) ∙ put_middle k v xs [] [] (sorted_before xs (k, v) ys h) tt
+put_last k v xs ys h = ap (put id_cmp k v) (sym (append-nil xs)) ∙ put_middle nat_list_cmp_total k v xs [] [] (sorted_before nat_list_cmp_total xs (k, v) ys h) tt
 
 below_fewer : {X : Type 0} (k : List ℕ) (xs : List (List ℕ × X)) (y : List ℕ × X) (ys : List (List ℕ × X)) → T (below_all id_cmp k (xs ++ y ∷ ys)) → T (below_all id_cmp k (xs ++ ys))
 below_fewer k [] y ys h = right _ _ h

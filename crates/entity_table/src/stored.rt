@@ -1,12 +1,16 @@
 //! A stored entity that several tables may hold.
 
 ghost use Rattle.std.specs.Prelude.{◌≡◌, IfOk};
+ghost use Rattle.std.specs.Cmp.Lexicographic.{slice_cmp, nat_list_cmp_total};
+ghost use Rattle.std.specs.FinMap.{slice_cmp-IsAntisymmetric, nat_cmp-IsAntisymmetric};
+ghost use Rattle.std.specs.Ordering.{nat_cmp};
 
 use crate::NoMemory;
 use feed_defs::Stored;
-use rt_types::{Copied, Shared};
-use shared_list::Keyed;
+use rt_types::{Copied, Shared, Text};
+use shared_list::{KeyFor, Keyed};
 use std::alloc::Global;
+use std::cmp::Ordering;
 use std::marker::Model;
 
 /// A share of an entity with its stamp, which are on the heap once for all tables that hold them: a copy is a further
@@ -51,9 +55,26 @@ impl Copied for SharedStored {
 }
 
 impl Keyed for SharedStored {
+    type Key = Text;
+
     ghost key_of = { λ stored. stored.entity.id };
 
-    fn key(&self) -> &str {
-        self.get().entity.id.as_str()
+    ghost key_cmp = { slice_cmp nat_cmp };
+
+    fn order(&self, other: &Self) -> Ordering {
+        self.get().entity.id.order(other.get().entity.id.as_str())
+    }
+
+    ghost total = { nat_list_cmp_total };
+
+    ghost exact = { slice_cmp-IsAntisymmetric nat_cmp-IsAntisymmetric };
+}
+
+/// An entity is found by its id.
+impl<'a> KeyFor<SharedStored> for &'a str {
+    ghost sought = { λ id. id.now };
+
+    fn order_of(&self, stored: &SharedStored) -> Ordering {
+        stored.get().entity.id.order(*self)
     }
 }

@@ -4,3 +4,5 @@ pub mod Each
 pub mod Homes
 pub mod PartLemmas
 pub mod ListLemmas
+pub mod TextKeys
+pub mod ChangeLaws

@@ -1,65 +1,35 @@
 -- The laws of parts at parts that are shared.
 use Rattle.std.proofs.Common.{◌≡◌, ℕ, zero, suc, ◌+◌, ◌-◌, ◌<◌, ◌≤◌, List, [], ◌∷◌, ◌++◌, Ok, Err, length, map, take, drop, get_or, set, Option, refl, sym, ap, ◌∙◌, subst, arith, append-nil, Bool, false, nat_eq, Less, Equal, Greater}
 use Rattle.std.specs.Prelude.{T, insert, remove}
+use Rattle.std.specs.Cmp.{IsTotalOrder}
 use Rattle.std.specs.FinMap.{find, put, is_sorted}
 use Rattle.std.specs.List.{flat_map, HoldsAt, AllByRecursion}
 use Rattle.std.specs.List.Sorted.{IsNonDecreasingBy, IsPartitionPoint}
 use Rattle.std.specs.Ordering.{ordering_index}
+use Rattle.std.specs.declared.cmp.Ordering.{Ordering}
 use Rattle.std.specs.declared.sync.Arc.{Arc}
 use Rattle.std.specs.declared.alloc.Global.{Global}
 use Rattle.std.proofs.Math.Dec.{eqb-suc-zero}
 use Rattle.std.proofs.lemmas.Grind.{flat_map-append}
 use Rattle.std.proofs.lemmas.List.{length-map, map-append, map-set}
-use Rattle.shared_list.specs.Order.{key_cmp, entries, all_entries, item_with, without, lead, AllBelow, AllAbove, IsGap, IsAt, IsHome, Rises, AreParts}
+use Rattle.shared_list.specs.Order.{entries, all_entries, item_with, items_from, entries_from, without, at_first, AllBelow, AllAbove, IsGap, IsHome, Rises, AreParts}
 use Rattle.shared_list.specs.Parts.{parts_of, items_in, AreSound, TellsLeft}
-use Rattle.shared_list.proofs.Places.{searched, IsAt-map, IsGap-map, Rises-map}
+use Rattle.shared_list.proofs.Places.{searched, search_same, items_entries, IsAt-map, IsGap-map, Rises-map}
 use Rattle.shared_list.proofs.Each.{each_front, each_back, each_at, each_set, each_insert, each_before, each_behind, remove_set}
-use Rattle.shared_list.proofs.Homes.{Rises-leads, Rises-part, home_at, home_before, home_first, put_home, put_home_split, without_home, without_home_all, find_home}
+use Rattle.shared_list.proofs.Homes.{lead, Rises-leads, Rises-part, home_at, home_before, home_first, put_home, put_home_split, without_home, without_home_all, find_home, from_home}
 
 abbrev Share : Type 0 → Type 0
 Share P = Arc P Global
 
--- ---- two keys that are the same for each element
-
-module _ {X : Type 0} (f g : X → List ℕ) where
-  entries_same : (xs : List X) → AllByRecursion (λ x. f x ≡ g x) xs → entries f xs ≡ entries g xs
-  entries_same [] all = refl
-  entries_same (x ∷ xs) all = ap (λ k. (k, x) ∷ entries f xs) all.0 ∙ ap (λ es. (g x, x) ∷ es) (entries_same xs all.1)
-
-  front_same : (n : ℕ) (xs : List X) → AllByRecursion (λ x. f x ≡ g x) xs → entries f (take n xs) ≡ entries g (take n xs)
-  front_same n xs all = entries_same (take n xs) (each_front (λ x. f x ≡ g x) n xs all)
-
-  back_same : (n : ℕ) (xs : List X) → AllByRecursion (λ x. f x ≡ g x) xs → entries f (drop n xs) ≡ entries g (drop n xs)
-  back_same n xs all = entries_same (drop n xs) (each_back (λ x. f x ≡ g x) n xs all)
-
-  IsAt-same : (k : List ℕ) (xs : List X) (i : ℕ) → AllByRecursion (λ x. f x ≡ g x) xs → IsAt f k xs i → IsAt g k xs i
-  IsAt-same k xs i all at = record {
-    within = at.within;
-    before = subst (λ es. AllBelow k es) (front_same i xs all) at.before;
-    here = λ d. subst (λ y. key_cmp k y ≡ Equal) (each_at (λ x. f x ≡ g x) i xs d at.within all) (at.here d);
-    behind = subst (λ es. AllAbove k es) (back_same (suc i) xs all) at.behind;
-  }
-
-  IsGap-same : (k : List ℕ) (xs : List X) (i : ℕ) → AllByRecursion (λ x. f x ≡ g x) xs → IsGap f k xs i → IsGap g k xs i
-  IsGap-same k xs i all gap = record {
-    within = gap.within;
-    before = subst (λ es. AllBelow k es) (front_same i xs all) gap.before;
-    behind = subst (λ es. AllAbove k es) (back_same i xs all) gap.behind;
-  }
-
 -- ---- parts that are shared are a list of lists
 
-joined_entries : {X : Type 0} (key : X → List ℕ) (parts : List (List X)) → entries key (flat_map (λ part. part) parts) ≡ all_entries key parts
+joined_entries : {K X : Type 0} (key : X → K) (parts : List (List X)) → entries key (flat_map (λ part. part) parts) ≡ all_entries key parts
 joined_entries key [] = refl
 joined_entries key (part ∷ parts) = map-append (λ x. (key x, x)) part (flat_map (λ p. p) parts) ∙ ap (λ es. entries key part ++ es) (joined_entries key parts)
 
--- the items of the entries, and the entries of these
-pub items_entries : {X : Type 0} (key : X → List ℕ) (xs : List X) → map (λ e. e.1) (entries key xs) ≡ xs
-items_entries key [] = refl
-items_entries key (x ∷ xs) = ap (λ ys. x ∷ ys) (items_entries key xs)
-
-pub keyed_entries : {X : Type 0} (key : X → List ℕ) (xs : List X) → entries key (map (λ e. e.1) (entries key xs)) ≡ entries key xs
-keyed_entries key xs = ap (entries key) (items_entries key xs)
+-- the items of all entries
+joined_items : {K X : Type 0} (key : X → K) (parts : List (List X)) → map (λ e. e.1) (all_entries key parts) ≡ flat_map (λ part. part) parts
+joined_items {K} {X} key parts = ap (map (λ (e : K × X). e.1)) (sym (joined_entries key parts)) ∙ items_entries key (flat_map (λ part. part) parts)
 
 module _ {P X : Type 0} (items : P → List X) where
   take_parts : (n : ℕ) (shares : List (Share P)) → parts_of items (take n shares) ≡ take n (parts_of items shares)
@@ -100,56 +70,75 @@ module _ {P X : Type 0} (items : P → List X) where
 
 -- ---- where the key stands
 
-module _ {P X : Type 0} (key : X → List ℕ) (items : P → List X) (sound : P → Type 0) where
+module _ {K P X : Type 0} {cmp : K → K → Ordering} (o : IsTotalOrder cmp) (key : X → K) (items : P → List X) (sound : P → Type 0) where
   filled_parts : (shares : List (Share P)) → AreSound items sound shares → AllByRecursion (λ part. 0 < length part) (parts_of items shares)
   filled_parts [] are = tt
   filled_parts (share ∷ shares) are = (are.0.1, filled_parts shares are.1)
 
-  AreParts-shares : (shares : List (Share P)) → AreSound items sound shares → Rises key (items_in items shares) → AreParts key (parts_of items shares)
+  AreParts-shares : (shares : List (Share P)) → AreSound items sound shares → Rises cmp key (items_in items shares) → AreParts cmp key (parts_of items shares)
   AreParts-shares shares are up = record {
-    sorted = subst (λ es. T (is_sorted key_cmp es)) (joined_entries key (parts_of items shares)) up.sorted;
+    sorted = subst (λ es. T (is_sorted cmp es)) (joined_entries key (parts_of items shares)) up.sorted;
     filled = filled_parts shares are;
   }
 
-  module _ (first_key : P → List ℕ) (leads : (part : P) → sound part → first_key part ≡ lead key (items part)) (k : List ℕ) (shares : List (Share P)) (are : AreSound items sound shares) (up : Rises key (items_in items shares)) where
-    parts : AreParts key (parts_of items shares)
-    parts = AreParts-shares shares are up
+  -- parts that are not empty have a key
+  a_key : (shares : List (Share P)) → AreSound items sound shares → 0 < length shares → K
+  a_key [] are some = absurd (omega arith)
+  a_key (share ∷ shares) are some = first (items share.value) are.0.1
+    where
+      first : (xs : List X) → 0 < length xs → K
+      first [] h = absurd (omega arith)
+      first (x ∷ xs) h = key x
 
-    by_leads : (ss : List (Share P)) → AreSound items sound ss → AllByRecursion (λ share. first_key share.value ≡ lead key (items share.value)) ss
-    by_leads [] are = tt
-    by_leads (s ∷ ss) are = (leads s.value are.0.0, by_leads ss are.1)
+  module _ (lead_cmp : P → K → Ordering) (leads : (k : K) (part : P) → sound part → lead_cmp part k ≡ at_first (λ x. cmp (key x) k) (items part)) (k : K) (shares : List (Share P)) (are : AreSound items sound shares) (up : Rises cmp key (items_in items shares)) where
+    module _ (any : K) where
+      parts : AreParts cmp key (parts_of items shares)
+      parts = AreParts-shares shares are up
 
-    leads_up : Rises (λ share. first_key share.value) shares
-    leads_up =
-        let up = Rises-map (lead key) (λ share. items share.value) shares (Rises-leads key (parts_of items shares) parts) in
-        record { sorted = subst (λ es. T (is_sorted key_cmp es)) (sym (entries_same (λ share. first_key share.value) (λ share. lead key (items share.value)) shares (by_leads shares are))) up.sorted }
+      leads_up : Rises cmp (λ share. lead key any (items share.value)) shares
+      leads_up = Rises-map cmp (lead key any) (λ share. items share.value) shares (Rises-leads o key any (parts_of items shares) parts)
+
+      -- a part stands to the key as its first key does
+      by_leads : (ss : List (Share P)) → AreSound items sound ss → AllByRecursion (λ share. lead_cmp share.value k ≡ cmp (lead key any (items share.value)) k) ss
+      by_leads [] are = tt
+      by_leads (s ∷ ss) are = (leads k s.value are.0.0 ∙ first (items s.value) are.0.1, by_leads ss are.1)
+        where
+          first : (xs : List X) → 0 < length xs → at_first (λ x. cmp (key x) k) xs ≡ cmp (lead key any xs) k
+          first [] h = absurd (omega arith)
+          first (x ∷ xs) h = refl
+
+      found_by : (i : ℕ) → i < length shares → HoldsAt (λ share. lead_cmp share.value k ≡ Equal) shares i → IsHome cmp key k (parts_of items shares) i
+      found_by i h found =
+          home_at o key any k (parts_of items shares) i parts
+          (IsAt-map cmp (lead key any) (λ share. items share.value) k shares i
+          (searched o (λ share. lead key any (items share.value)) shares leads_up k (Ok i) h
+          (search_same (λ share. lead_cmp share.value k) (λ share. cmp (lead key any (items share.value)) k) shares (by_leads shares are) (Ok i) h found)))
+
+      missed_by : (i at : ℕ) → at ≡ i - 1 → 0 < length shares → i ≤ length shares → (IsNonDecreasingBy (λ share. ordering_index (lead_cmp share.value k)) shares → IsPartitionPoint (λ share. lead_cmp share.value k ≡ Less) (λ share. lead_cmp share.value k ≡ Greater) shares i) → IsHome cmp key k (parts_of items shares) at
+      missed_by i at is some h split =
+          by_place i is
+          (IsGap-map cmp (lead key any) (λ share. items share.value) k shares i
+          (searched o (λ share. lead key any (items share.value)) shares leads_up k (Err i) h
+          (search_same (λ share. lead_cmp share.value k) (λ share. cmp (lead key any (items share.value)) k) shares (by_leads shares are) (Err i) h split)))
+        where
+          long : length (parts_of items shares) ≡ length shares
+          long = length-map shares (λ share. items share.value)
+
+          by_place : (n : ℕ) → at ≡ n - 1 → IsGap cmp (lead key any) k (parts_of items shares) n → IsHome cmp key k (parts_of items shares) at
+          by_place zero e gap = let first : at ≡ 0 = omega arith in let l = long in subst (λ m. IsHome cmp key k (parts_of items shares) m) (sym first) (home_first o key any k (parts_of items shares) parts (omega arith) gap)
+          by_place (suc n) e gap = let before : at ≡ n = omega arith in subst (λ m. IsHome cmp key k (parts_of items shares) m) (sym before) (home_before o key any k (parts_of items shares) n parts gap.within gap)
 
     -- the part whose first key is the key
-    pub home_found : (i : ℕ) → i < length shares → HoldsAt (λ share. key_cmp (first_key share.value) k ≡ Equal) shares i → IsHome key k (parts_of items shares) i
-    home_found i h found =
-        home_at key k (parts_of items shares) i parts
-        (IsAt-map (lead key) (λ share. items share.value) k shares i
-        (IsAt-same (λ share. first_key share.value) (λ share. lead key (items share.value)) k shares i (by_leads shares are)
-        (searched (λ share. first_key share.value) shares leads_up k (Ok i) h found)))
+    pub home_found : (i : ℕ) → i < length shares → HoldsAt (λ share. lead_cmp share.value k ≡ Equal) shares i → IsHome cmp key k (parts_of items shares) i
+    home_found i h found = found_by (a_key shares are (omega arith)) i h found
 
     -- else the one before the first whose first key is above it
-    pub home_missed : (i at : ℕ) → at ≡ i - 1 → 0 < length shares → i ≤ length shares → (IsNonDecreasingBy (λ share. ordering_index (key_cmp (first_key share.value) k)) shares → IsPartitionPoint (λ share. key_cmp (first_key share.value) k ≡ Less) (λ share. key_cmp (first_key share.value) k ≡ Greater) shares i) → IsHome key k (parts_of items shares) at
-    home_missed i at is some h split =
-        by_place i is
-        (IsGap-map (lead key) (λ share. items share.value) k shares i
-        (IsGap-same (λ share. first_key share.value) (λ share. lead key (items share.value)) k shares i (by_leads shares are)
-        (searched (λ share. first_key share.value) shares leads_up k (Err i) h split)))
-      where
-        long : length (parts_of items shares) ≡ length shares
-        long = length-map shares (λ share. items share.value)
-
-        by_place : (n : ℕ) → at ≡ n - 1 → IsGap (lead key) k (parts_of items shares) n → IsHome key k (parts_of items shares) at
-        by_place zero e gap = let first : at ≡ 0 = omega arith in let l = long in subst (λ m. IsHome key k (parts_of items shares) m) (sym first) (home_first key k (parts_of items shares) parts (omega arith) gap)
-        by_place (suc n) e gap = let before : at ≡ n = omega arith in subst (λ m. IsHome key k (parts_of items shares) m) (sym before) (home_before key k (parts_of items shares) n parts gap.within gap)
+    pub home_missed : (i at : ℕ) → at ≡ i - 1 → 0 < length shares → i ≤ length shares → (IsNonDecreasingBy (λ share. ordering_index (lead_cmp share.value k)) shares → IsPartitionPoint (λ share. lead_cmp share.value k ≡ Less) (λ share. lead_cmp share.value k ≡ Greater) shares i) → IsHome cmp key k (parts_of items shares) at
+    home_missed i at is some h split = missed_by (a_key shares are some) i at is some h split
 
   -- ---- the part at its home, and what a change of it makes of all
 
-  module _ (k : List ℕ) (shares : List (Share P)) (i : ℕ) (here : Share P) (home : IsHome key k (parts_of items shares) i) (seen : here ≡ get_or shares i here) where
+  module _ (k : K) (shares : List (Share P)) (i : ℕ) (here : Share P) (home : IsHome cmp key k (parts_of items shares) i) (seen : here ≡ get_or shares i here) where
     pub good_here : AreSound items sound shares → (sound here.value) × (0 < length (items here.value))
     good_here are =
         let long : length (parts_of items shares) ≡ length shares = length-map shares (λ share. items share.value) in
@@ -157,62 +146,76 @@ module _ {P X : Type 0} (key : X → List ℕ) (items : P → List X) (sound : P
         let good : Share P → Type 0 = λ share. (sound share.value) × (0 < length (items share.value)) in
         subst good (sym seen) (each_at good i shares here (omega arith) are)
 
-    pub Rises-here : AreSound items sound shares → Rises key (items_in items shares) → Rises key (items here.value)
+    pub Rises-here : AreSound items sound shares → Rises cmp key (items_in items shares) → Rises cmp key (items here.value)
     Rises-here are up =
-        subst (λ xs. Rises key xs) (sym (part_at items shares i here home.within seen))
-        (Rises-part key (parts_of items shares) i [] (AreParts-shares shares are up) home.within)
+        subst (λ xs. Rises cmp key xs) (sym (part_at items shares i here home.within seen))
+        (Rises-part o key (parts_of items shares) i [] (AreParts-shares shares are up) home.within)
 
-    pub find_here : item_with key k (items here.value) ≡ item_with key k (items_in items shares)
+    pub find_here : item_with cmp key k (items here.value) ≡ item_with cmp key k (items_in items shares)
     find_here =
-        ap (λ xs. find key_cmp k (entries key xs)) (part_at items shares i here home.within seen)
-        ∙ sym (find_home key k (parts_of items shares) i [] home)
-        ∙ ap (find key_cmp k) (sym (joined_entries key (parts_of items shares)))
+        ap (λ xs. find cmp k (entries key xs)) (part_at items shares i here home.within seen)
+        ∙ sym (find_home o key k (parts_of items shares) i [] home)
+        ∙ ap (find cmp k) (sym (joined_entries key (parts_of items shares)))
 
     -- what has the key in it has the key in all
-    pub item_here : (had : Option X) → had ≡ item_with key k (items here.value) → had ≡ item_with key k (items_in items shares)
+    pub item_here : (had : Option X) → had ≡ item_with cmp key k (items here.value) → had ≡ item_with cmp key k (items_in items shares)
     item_here had is = is ∙ find_here
 
+    -- what stands from the key on
+    pub from_here : (j : ℕ) → j ≡ i + 1 → items_from cmp key k (items_in items shares) ≡ items_from cmp key k (items here.value) ++ items_in items (drop j shares)
+    from_here j next =
+        ap (λ (es : List (K × X)). map (λ e. e.1) (entries_from cmp k es)) (joined_entries key (parts_of items shares))
+        ∙ ap (map (λ (e : K × X). e.1)) (from_home o key k (parts_of items shares) i [] home)
+        ∙ map-append (λ (e : K × X). e.1) (entries_from cmp k (entries key (get_or (parts_of items shares) i []))) (all_entries key (drop (suc i) (parts_of items shares)))
+        ∙ ap (λ xs. items_from cmp key k xs ++ map (λ e. e.1) (all_entries key (drop (suc i) (parts_of items shares)))) (sym (part_at items shares i here home.within seen))
+        ∙ ap (λ xs. items_from cmp key k (items here.value) ++ xs) (joined_items key (drop (suc i) (parts_of items shares)))
+        ∙ ap (λ parts. items_from cmp key k (items here.value) ++ flat_map (λ part. part) parts) (sym (drop_parts items (suc i) shares))
+        ∙ ap (λ n. items_from cmp key k (items here.value) ++ items_in items (drop n shares)) (sym later)
+      where
+        later : j ≡ suc i
+        later = omega arith
+
     -- an item more, or another in its place
-    pub put_kept : (x : X) (after : Share P) → entries key (items after.value ++ []) ≡ put key_cmp k x (entries key (items here.value)) → entries key (items_in items (set shares i after)) ≡ put key_cmp k x (entries key (items_in items shares))
+    pub put_kept : (x : X) (after : Share P) → entries key (items after.value ++ []) ≡ put cmp k x (entries key (items here.value)) → entries key (items_in items (set shares i after)) ≡ put cmp k x (entries key (items_in items shares))
     put_kept x after is =
         joined_entries key (parts_of items (set shares i after))
         ∙ ap (all_entries key) (set_parts items shares i after)
-        ∙ put_home key k x (parts_of items shares) i [] (items after.value) home
-        (ap (entries key) (sym (append-nil (items after.value))) ∙ is ∙ ap (λ xs. put key_cmp k x (entries key xs)) (part_at items shares i here home.within seen))
-        ∙ ap (put key_cmp k x) (sym (joined_entries key (parts_of items shares)))
+        ∙ put_home o key k x (parts_of items shares) i [] (items after.value) home
+        (ap (entries key) (sym (append-nil (items after.value))) ∙ is ∙ ap (λ xs. put cmp k x (entries key xs)) (part_at items shares i here home.within seen))
+        ∙ ap (put cmp k x) (sym (joined_entries key (parts_of items shares)))
 
     -- the same, and the back of the part is cut off
-    pub put_cut : (x : X) (after behind : Share P) (rest : P) (j : ℕ) → j ≡ i + 1 → behind.value ≡ rest → entries key (items after.value ++ items rest) ≡ put key_cmp k x (entries key (items here.value)) → entries key (items_in items (insert (set shares i after) j behind)) ≡ put key_cmp k x (entries key (items_in items shares))
+    pub put_cut : (x : X) (after behind : Share P) (rest : P) (j : ℕ) → j ≡ i + 1 → behind.value ≡ rest → entries key (items after.value ++ items rest) ≡ put cmp k x (entries key (items here.value)) → entries key (items_in items (insert (set shares i after) j behind)) ≡ put cmp k x (entries key (items_in items shares))
     put_cut x after behind rest j next held is =
         joined_entries key (parts_of items (insert (set shares i after) j behind))
         ∙ ap (all_entries key) (insert_parts items (set shares i after) j behind)
         ∙ ap (λ parts. all_entries key (insert parts j (items behind.value))) (set_parts items shares i after)
-        ∙ put_home_split key k x (parts_of items shares) i j [] (items after.value) (items behind.value) home (omega arith)
+        ∙ put_home_split o key k x (parts_of items shares) i j [] (items after.value) (items behind.value) home (omega arith)
         (sym (map-append (λ y. (key y, y)) (items after.value) (items behind.value))
         ∙ ap (λ part. entries key (items after.value ++ items part)) held
         ∙ is
-        ∙ ap (λ xs. put key_cmp k x (entries key xs)) (part_at items shares i here home.within seen))
-        ∙ ap (put key_cmp k x) (sym (joined_entries key (parts_of items shares)))
+        ∙ ap (λ xs. put cmp k x (entries key xs)) (part_at items shares i here home.within seen))
+        ∙ ap (put cmp k x) (sym (joined_entries key (parts_of items shares)))
 
-    taken_there : (after : Share P) → entries key (items after.value) ≡ without k (entries key (items here.value)) → entries key (items after.value) ≡ without k (entries key (get_or (parts_of items shares) i []))
-    taken_there after is = is ∙ ap (λ xs. without k (entries key xs)) (part_at items shares i here home.within seen)
+    taken_there : (after : Share P) → entries key (items after.value) ≡ without cmp k (entries key (items here.value)) → entries key (items after.value) ≡ without cmp k (entries key (get_or (parts_of items shares) i []))
+    taken_there after is = is ∙ ap (λ xs. without cmp k (entries key xs)) (part_at items shares i here home.within seen)
 
     -- an item less
-    pub without_kept : (after : Share P) → entries key (items after.value) ≡ without k (entries key (items here.value)) → entries key (items_in items (set shares i after)) ≡ without k (entries key (items_in items shares))
+    pub without_kept : (after : Share P) → entries key (items after.value) ≡ without cmp k (entries key (items here.value)) → entries key (items_in items (set shares i after)) ≡ without cmp k (entries key (items_in items shares))
     without_kept after is =
         joined_entries key (parts_of items (set shares i after))
         ∙ ap (all_entries key) (set_parts items shares i after)
-        ∙ without_home key k (parts_of items shares) i [] (items after.value) home (taken_there after is)
-        ∙ ap (without k) (sym (joined_entries key (parts_of items shares)))
+        ∙ without_home o key k (parts_of items shares) i [] (items after.value) home (taken_there after is)
+        ∙ ap (without cmp k) (sym (joined_entries key (parts_of items shares)))
 
     -- the same, and the part in which nothing is left goes
-    pub without_gone : (after : Share P) (rest : List (Share P)) → rest ≡ remove (set shares i after) i → items after.value ≡ [] → entries key (items after.value) ≡ without k (entries key (items here.value)) → entries key (items_in items rest) ≡ without k (entries key (items_in items shares))
+    pub without_gone : (after : Share P) (rest : List (Share P)) → rest ≡ remove (set shares i after) i → items after.value ≡ [] → entries key (items after.value) ≡ without cmp k (entries key (items here.value)) → entries key (items_in items rest) ≡ without cmp k (entries key (items_in items shares))
     without_gone after rest gone none is =
         ap (λ ss. entries key (items_in items ss)) (gone ∙ remove_set shares i after)
         ∙ joined_entries key (parts_of items (remove shares i))
         ∙ ap (all_entries key) (remove_parts items shares i)
-        ∙ without_home_all key k (parts_of items shares) i [] home (ap (entries key) (sym none) ∙ taken_there after is)
-        ∙ ap (without k) (sym (joined_entries key (parts_of items shares)))
+        ∙ without_home_all o key k (parts_of items shares) i [] home (ap (entries key) (sym none) ∙ taken_there after is)
+        ∙ ap (without cmp k) (sym (joined_entries key (parts_of items shares)))
 
 -- ---- parts stay sound
 
@@ -243,12 +246,17 @@ module _ {P X : Type 0} (items : P → List X) (sound : P → Type 0) where
       before [] back h = absurd (omega arith)
       before (x ∷ xs) back h = omega arith
 
-  -- a node that was cut, where `whole` is what stands in it
-  pub put_halves : (key : X → List ℕ) (x : X) (old : List X) (front back whole : List (Share P)) → front ++ back ≡ whole → entries key (items_in items whole) ≡ put key_cmp (key x) x (entries key old) → entries key (items_in items front ++ items_in items back) ≡ put key_cmp (key x) x (entries key old)
-  put_halves key x old front back whole cut is = ap (entries key) (join_parts items front back whole cut) ∙ is
+  -- parts have a part
+  pub some_parts : (shares : List (Share P)) → 0 < length (items_in items shares) → 0 < length shares
+  some_parts [] some = some
+  some_parts (share ∷ shares) some = omega arith
 
-  pub put_whole : (key : X → List ℕ) (x : X) (old : List X) (kept whole : List (Share P)) → kept ++ [] ≡ whole → entries key (items_in items whole) ≡ put key_cmp (key x) x (entries key old) → entries key (items_in items kept ++ []) ≡ put key_cmp (key x) x (entries key old)
-  put_whole key x old kept whole cut is = ap (entries key) (append-nil (items_in items kept) ∙ ap (items_in items) (sym (append-nil kept) ∙ cut)) ∙ is
+  -- a node that was cut, where `whole` is what stands in it and `made` what was to come
+  pub put_halves : {K : Type 0} (key : X → K) (made : List (K × X)) (front back whole : List (Share P)) → front ++ back ≡ whole → entries key (items_in items whole) ≡ made → entries key (items_in items front ++ items_in items back) ≡ made
+  put_halves key made front back whole cut is = ap (entries key) (join_parts items front back whole cut) ∙ is
+
+  pub put_whole : {K : Type 0} (key : X → K) (made : List (K × X)) (kept whole : List (Share P)) → kept ++ [] ≡ whole → entries key (items_in items whole) ≡ made → entries key (items_in items kept ++ []) ≡ made
+  put_whole key made kept whole cut is = ap (entries key) (append-nil (items_in items kept) ∙ ap (items_in items) (sym (append-nil kept) ∙ cut)) ∙ is
 
   -- whether parts are left tells whether items are
   pub tells_left : (shares : List (Share P)) (n : ℕ) (b : Bool) → AreSound items sound shares → n ≡ length shares → b ≡ nat_eq n 0 → TellsLeft b (items_in items shares)
@@ -259,10 +267,10 @@ module _ {P X : Type 0} (items : P → List X) (sound : P → Type 0) where
       other m = eqb-suc-zero m
 
   -- a list with one item more than none
-  pub only_item : (key : X → List ℕ) (x : X) (old new : List (Share P)) → old ≡ [] → entries key (items_in items new) ≡ put key_cmp (key x) x (entries key (items_in items old)) → items_in items new ≡ x ∷ []
-  only_item key x old new none is =
+  pub only_item : {K : Type 0} (cmp : K → K → Ordering) (key : X → K) (x : X) (old new : List (Share P)) → old ≡ [] → entries key (items_in items new) ≡ put cmp (key x) x (entries key (items_in items old)) → items_in items new ≡ x ∷ []
+  only_item {K} cmp key x old new none is =
       sym (items_entries key (items_in items new))
-      ∙ ap (map (λ e. e.1)) (is ∙ ap (λ shares. put key_cmp (key x) x (entries key (items_in items shares))) none)
+      ∙ ap (map (λ (e : K × X). e.1)) (is ∙ ap (λ shares. put cmp (key x) x (entries key (items_in items shares))) none)
 
   -- ---- shares of the same values
 

@@ -1,70 +1,76 @@
--- Lists in the byte order of their keys, and where a key stands in them.
+-- Lists in the order of their keys, and where a key stands in them.
 use Rattle.std.specs.Prelude.{◌≡◌, ℕ, suc, ◌<◌, ◌≤◌, Option, not, T, List, [], ◌∷◌, length, map, take, drop, slice_index_or}
 use Rattle.std.specs.List.{flat_map, AllByRecursion}
-use Rattle.std.specs.Ordering.{nat_cmp}
+use Rattle.std.specs.Ordering.{is_lt, eq_by_cmp}
 use Rattle.std.specs.declared.cmp.Ordering.{Ordering}
 use Rattle.std.specs.declared.cmp.Ordering.TheVariants.{Less, Equal}
-use Rattle.std.specs.Cmp.Lexicographic.{slice_cmp}
-use Rattle.std.specs.Str.{bytes_eq}
 use Rattle.std.specs.FinMap.{find, is_sorted}
 use Rattle.std.specs.FinMap.Entries.{where_key}
 
--- keys go by their bytes
-abbrev pub key_cmp : List ℕ → List ℕ → Ordering
-key_cmp = slice_cmp nat_cmp
-
 -- items with their keys
-abbrev pub entries : {X : Type 0} → (X → List ℕ) → List X → List (List ℕ × X)
+abbrev pub entries : {K X : Type 0} → (X → K) → List X → List (K × X)
 entries key xs = map (λ x. (key x, x)) xs
 
 -- the same of several lists, one after another
-abbrev pub all_entries : {X : Type 0} → (X → List ℕ) → List (List X) → List (List ℕ × X)
+abbrev pub all_entries : {K X : Type 0} → (X → K) → List (List X) → List (K × X)
 all_entries key parts = flat_map (entries key) parts
 
 -- the item with the key, if there is one
-abbrev pub item_with : {X : Type 0} → (X → List ℕ) → List ℕ → List X → Option X
-item_with key k xs = find key_cmp k (entries key xs)
+abbrev pub item_with : {K X : Type 0} → (K → K → Ordering) → (X → K) → K → List X → Option X
+item_with cmp key k xs = find cmp k (entries key xs)
 
 -- the entries of other keys
-abbrev pub without : {X : Type 0} → List ℕ → List (List ℕ × X) → List (List ℕ × X)
-without k es = where_key key_cmp (λ other. not (bytes_eq k other)) es
+abbrev pub without : {K X : Type 0} → (K → K → Ordering) → K → List (K × X) → List (K × X)
+without cmp k es = where_key cmp (λ other. not (eq_by_cmp cmp k other)) es
 
-abbrev pub AllBelow : {X : Type 0} → List ℕ → List (List ℕ × X) → Type 0
-AllBelow k es = AllByRecursion (λ e. key_cmp e.0 k ≡ Less) es
+-- the entries from a key on: those whose keys are not below it
+abbrev pub entries_from : {K X : Type 0} → (K → K → Ordering) → K → List (K × X) → List (K × X)
+entries_from cmp k es = where_key cmp (λ other. not (is_lt (cmp other k))) es
 
-abbrev pub AllAbove : {X : Type 0} → List ℕ → List (List ℕ × X) → Type 0
-AllAbove k es = AllByRecursion (λ e. key_cmp k e.0 ≡ Less) es
+-- their items
+abbrev pub items_from : {K X : Type 0} → (K → K → Ordering) → (X → K) → K → List X → List X
+items_from cmp key k xs = map (λ e. e.1) (entries_from cmp k (entries key xs))
+
+abbrev pub AllBelow : {K X : Type 0} → (K → K → Ordering) → K → List (K × X) → Type 0
+AllBelow cmp k es = AllByRecursion (λ e. cmp e.0 k ≡ Less) es
+
+abbrev pub AllAbove : {K X : Type 0} → (K → K → Ordering) → K → List (K × X) → Type 0
+AllAbove cmp k es = AllByRecursion (λ e. cmp k e.0 ≡ Less) es
 
 -- no item has the key, and it would stand at this place
-pub record IsGap {X : Type 0} (key : X → List ℕ) (k : List ℕ) (xs : List X) (at : ℕ) : Type 0 where
+pub record IsGap {K X : Type 0} (cmp : K → K → Ordering) (key : X
+    → K) (k : K) (xs : List X) (at : ℕ) : Type 0 where
   pub within : at ≤ length xs
-  pub before : AllBelow k (entries key (take at xs))
-  pub behind : AllAbove k (entries key (drop at xs))
+  pub before : AllBelow cmp k (entries key (take at xs))
+  pub behind : AllAbove cmp k (entries key (drop at xs))
 
 -- the item with that key stands at this place
-pub record IsAt {X : Type 0} (key : X → List ℕ) (k : List ℕ) (xs : List X) (at : ℕ) : Type 0 where
+pub record IsAt {K X : Type 0} (cmp : K → K → Ordering) (key : X
+    → K) (k : K) (xs : List X) (at : ℕ) : Type 0 where
   pub within : at < length xs
-  pub before : AllBelow k (entries key (take at xs))
-  pub here : (d : X) → key_cmp k (key (slice_index_or xs at d)) ≡ Equal
-  pub behind : AllAbove k (entries key (drop (suc at) xs))
+  pub before : AllBelow cmp k (entries key (take at xs))
+  pub here : (d : X) → cmp k (key (slice_index_or xs at d)) ≡ Equal
+  pub behind : AllAbove cmp k (entries key (drop (suc at) xs))
 
 -- the key stands in the part at this place, if it stands anywhere
-pub record IsHome {X : Type 0} (key : X
-    → List ℕ) (k : List ℕ) (parts : List (List X)) (at : ℕ) : Type 0 where
+pub record IsHome {K X : Type 0} (cmp : K → K → Ordering) (key : X
+    → K) (k : K) (parts : List (List X)) (at : ℕ) : Type 0 where
   pub within : at < length parts
-  pub before : AllBelow k (all_entries key (take at parts))
-  pub behind : AllAbove k (all_entries key (drop (suc at) parts))
+  pub before : AllBelow cmp k (all_entries key (take at parts))
+  pub behind : AllAbove cmp k (all_entries key (drop (suc at) parts))
 
 -- keys strictly rise
-pub record Rises {X : Type 0} (key : X → List ℕ) (xs : List X) : Type 0 where
-  pub sorted : T (is_sorted key_cmp (entries key xs))
+pub record Rises {K X : Type 0} (cmp : K → K → Ordering) (key : X
+    → K) (xs : List X) : Type 0 where
+  pub sorted : T (is_sorted cmp (entries key xs))
 
 -- parts of a list in order, none of them empty
-pub record AreParts {X : Type 0} (key : X → List ℕ) (parts : List (List X)) : Type 0 where
-  pub sorted : T (is_sorted key_cmp (all_entries key parts))
+pub record AreParts {K X : Type 0} (cmp : K → K → Ordering) (key : X
+    → K) (parts : List (List X)) : Type 0 where
+  pub sorted : T (is_sorted cmp (all_entries key parts))
   pub filled : AllByRecursion (λ part. 0 < length part) parts
 
--- the key of the first item of a part
-abbrev pub lead : {X : Type 0} → (X → List ℕ) → List X → List ℕ
-lead key [] = []
-lead key (x ∷ xs) = key x
+-- how the first stands to something; where there is none, below it
+abbrev pub at_first : {X : Type 0} → (X → Ordering) → List X → Ordering
+at_first order [] = Less
+at_first order (x ∷ xs) = order x

@@ -2,10 +2,11 @@
 use Rattle.std.specs.Prelude.{◌≡◌, ℕ, ◌<◌, List, [], ◌∷◌, ◌++◌, length, map, Vec, Option, Some, None, Bool, true, false, refl}
 use Rattle.std.proofs.Common.{◌∙◌, arith}
 use Rattle.std.specs.List.{flat_map, AllByRecursion}
+use Rattle.std.specs.declared.cmp.Ordering.{Ordering}
 use Rattle.std.specs.declared.sync.Arc.{Arc}
 use Rattle.std.specs.declared.alloc.Global.{Global}
 use Rattle.shared_list.specs.declared.node.Node.{Node}
-use Rattle.shared_list.specs.Order.{lead, entries, Rises}
+use Rattle.shared_list.specs.Order.{at_first, entries, Rises}
 
 -- the items of each part that is shared
 abbrev pub parts_of : {P X : Type 0} → (P → List X) → List (Arc P Global) → List (List X)
@@ -30,17 +31,18 @@ abbrev pub AreSound : {P X : Type 0} → (P → List X) → (P → Type 0) → L
 AreSound items sound shares =
     AllByRecursion (λ share. (sound share.value) × (0 < length (items share.value))) shares
 
--- the key by which the first part is found is that of the first item of all
-pub first_leads : {P X : Type 0} (key : X → List ℕ) (items : P → List X) (sound : P
-    → Type 0) (first_key : P → List ℕ) → ((part : P) → sound part
-    → first_key part ≡ lead key (items part)) → (shares : List (Arc P Global))
+-- the first part stands to a key as the first item of all does
+pub first_leads : {P X : Type 0} (items : P → List X) (sound : P → Type 0) (part_order : P
+    → Ordering) (item_order : X → Ordering) → ((part : P) → sound part
+    → part_order part ≡ at_first item_order (items part)) → (shares : List (Arc P Global))
     → AreSound items sound shares
-    → lead (λ share. first_key share.value) shares ≡ lead key (items_in items shares)
-first_leads key items sound first_key leads [] are = refl
-first_leads {P} {X} key items sound first_key leads (share ∷ shares) are =
+    → at_first (λ share. part_order share.value) shares ≡ at_first item_order (items_in items shares)
+first_leads items sound part_order item_order leads [] are = refl
+first_leads {P} {X} items sound part_order item_order leads (share ∷ shares) are =
     leads share.value are.0.0 ∙ before (items share.value) (items_in items shares) are.0.1
   where
-    before : (front back : List X) → 0 < length front → lead key front ≡ lead key (front ++ back)
+    before : (front back : List X) → 0 < length front
+        → at_first item_order front ≡ at_first item_order (front ++ back)
     before [] back some = absurd (omega arith)
     before (x ∷ xs) back some = refl
 
@@ -58,8 +60,8 @@ abbrev pub IsFilled : {X : Type 0} → Node (Vec X Global) → Type 0
 IsFilled node = AreSound leaf_items IsPlain node.parts.items
 
 -- what is true of the nodes of a list with so many items
-pub record AreNodes {X : Type 0} (key : X
-    → List ℕ) (nodes : List (Arc (Node (Vec X Global)) Global)) (len : ℕ) : Type 0 where
+pub record AreNodes {K X : Type 0} (cmp : K → K → Ordering) (key : X
+    → K) (nodes : List (Arc (Node (Vec X Global)) Global)) (len : ℕ) : Type 0 where
   pub sound : AreSound node_items IsFilled nodes
-  pub rising : Rises key (items_in node_items nodes)
+  pub rising : Rises cmp key (items_in node_items nodes)
   pub counted : len ≡ length (entries key (items_in node_items nodes))

@@ -1,10 +1,14 @@
 //! The items of a list in order.
 
 ghost use Rattle.std.specs.Prelude.{◌≡◌};
+ghost use Rattle.shared_list.specs.Order.{items_from, Rises};
 ghost use Rattle.shared_list.specs.Parts.{items_in, node_items, AreSound, IsFilled};
 ghost use Rattle.std.specs.Iterator.{YieldsFirstRef, item_count};
 
+use crate::keyed::{KeyFor, Keyed};
+use crate::leaf::start_at;
 use crate::node::Node;
+use crate::shared::part_and_rest;
 use std::marker::Model;
 use std::sync::Arc;
 
@@ -41,6 +45,31 @@ impl<'a, T> Iter<'a, T> {
         Iter {
             items: &[],
             leaves: &[],
+            nodes,
+        }
+    }
+}
+
+impl<'a, T: Keyed> Iter<'a, T> {
+    /// Those items of the nodes whose keys are not below the given one.
+    pub(crate) fn starting<K: KeyFor<T>>(
+        nodes: &'a [Arc<Node<Vec<T>>>],
+        key: K,
+    ) -> Iter<'a, T>
+        requires sound { AreSound node_items IsFilled nodes.now }
+        requires rising { Rises T.key_cmp T.key_of (items_in node_items nodes.now) }
+        ensures { result ≡ items_from T.key_cmp T.key_of (K.sought key)
+            (items_in node_items nodes.entry.now) }
+    {
+        if nodes.is_empty() {
+            return Iter::over(nodes);
+        }
+        let (node, nodes) = part_and_rest(nodes, key);
+        let (leaf, leaves) = part_and_rest(node.parts.as_slice(), key);
+        let items = leaf.as_slice();
+        Iter {
+            items: &items[start_at(items, key)..],
+            leaves,
             nodes,
         }
     }

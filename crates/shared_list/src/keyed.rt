@@ -1,23 +1,48 @@
-//! Items that have a key.
+//! Items that have a key, and keys by which they are found.
 
-ghost use Rattle.std.specs.Prelude.{◌≡◌, ℕ, List};
-ghost use Rattle.shared_list.specs.Order.{key_cmp};
+ghost use Rattle.std.specs.Prelude.{◌≡◌};
+ghost use Rattle.std.specs.Cmp.{IsTotalOrder};
+ghost use Rattle.std.specs.FinMap.{IsAntisymmetric};
+ghost use Rattle.std.specs.declared.cmp.Ordering.{Ordering};
 
 use copying::Copied;
 use std::cmp::Ordering;
 
 /// An item of a list that is ordered by keys. A copy of it should cost little: share what is large.
 pub trait Keyed: Copied {
-    ghost key_of: { Self → List ℕ };
+    /// What a contract sees as its key. Items are compared where they stand, so none is made for that.
+    type Key;
 
-    /// The text by which it is found.
-    fn key(&self) -> &str
-        ensures { result.now ≡ key_of self.now };
+    ghost key_of: { Self → Self.Key };
+
+    // How a key stands to another.
+    ghost key_cmp: { Self.Key → Self.Key → Ordering };
+
+    /// How its key stands to that of another item.
+    fn order(&self, other: &Self) -> Ordering
+        ensures { result ≡ key_cmp (key_of self.now) (key_of other.now) };
+
+    // Keys are in a total order, in which no two of them tie.
+    ghost total: { IsTotalOrder key_cmp };
+
+    ghost exact: { IsAntisymmetric key_cmp };
 }
 
-/// How the item's key stands to another in byte order.
-pub(crate) fn key_order<T: Keyed>(item: &T, key: &str) -> Ordering
-    ensures { result ≡ key_cmp (T.key_of item.now) key.now }
-{
-    item.key().cmp(key)
+/// A key by which items are found, in whatever form it is at hand: a text, a struct of numbers, or an item
+/// that has it.
+pub trait KeyFor<T: Keyed>: Copy {
+    // The key that it is.
+    ghost sought: { Self → T.Key };
+
+    /// How the key of an item stands to it.
+    fn order_of(&self, item: &T) -> Ordering
+        ensures { result ≡ T.key_cmp (T.key_of item.now) (sought self.now) };
+}
+
+impl<'a, T: Keyed> KeyFor<T> for &'a T {
+    ghost sought = { λ item. T.key_of item.now };
+
+    fn order_of(&self, item: &T) -> Ordering {
+        item.order(*self)
+    }
 }

@@ -1,11 +1,19 @@
 //! The lowest parts of a list: items in the order of their keys.
 
-ghost use Rattle.std.specs.Prelude.{◌≡◌, ◌<◌, length, IfOk, OnOk, MatchResult};
+ghost use Rattle.std.specs.Prelude.{◌≡◌, ◌<◌, ◌≤◌, length, drop, IfOk, OnOk, MatchResult};
 ghost use Rattle.std.specs.FinMap.{put};
-ghost use Rattle.shared_list.specs.Order.{key_cmp, entries, item_with, without, IsAt, IsGap, Rises};
+ghost use Rattle.shared_list.specs.Order.{
+  entries,
+  item_with,
+  items_from,
+  without,
+  IsAt,
+  IsGap,
+  Rises,
+};
 
 use crate::NoMemory;
-use crate::keyed::{Keyed, key_order};
+use crate::keyed::{KeyFor, Keyed};
 use crate::part::{Part, PutOutcome, TakeOutcome};
 use crate::split::{Arrival, split_off};
 use std::alloc::Global;
@@ -13,24 +21,37 @@ use std::cmp::Ordering;
 use std::mem;
 
 /// Where the item with that key stands, or where it would.
-fn place<T: Keyed>(items: &[T], key: &str) -> Result<usize, usize>
-    requires { Rises T.key_of items.now }
-    ensures { MatchResult result (IsAt T.key_of key.now items.now)
-        (IsGap T.key_of key.now items.now) }
+fn place<T: Keyed, K: KeyFor<T>>(items: &[T], key: K) -> Result<usize, usize>
+    requires { Rises T.key_cmp T.key_of items.now }
+    ensures { MatchResult result (IsAt T.key_cmp T.key_of (K.sought key) items.now)
+        (IsGap T.key_cmp T.key_of (K.sought key) items.now) }
 {
-    items.binary_search_by(|item| key_order(item, key))
+    items.binary_search_by(|item| key.order_of(item))
+}
+
+/// Where the first item stands whose key is not below the given one.
+pub(crate) fn start_at<T: Keyed, K: KeyFor<T>>(items: &[T], key: K) -> usize
+    requires { Rises T.key_cmp T.key_of items.now }
+    ensures within { result ≤ length items.now }
+    ensures start { drop result items.now
+        ≡ items_from T.key_cmp T.key_of (K.sought key) items.now }
+{
+    match place(items, key) {
+        Ok(at) => at,
+        Err(at) => at,
+    }
 }
 
 /// Puts the item in its place, which is that of the item with its key, if there is one.
 fn put_among<T: Keyed>(items: &mut Vec<T>, item: T) -> Result<Arrival<T>, NoMemory>
-    requires { Rises T.key_of items.old.items }
+    requires { Rises T.key_cmp T.key_of items.old.items }
     ensures put { OnOk result (entries T.key_of items.new.items
-        ≡ put key_cmp (T.key_of item) item (entries T.key_of items.old.items)) }
+        ≡ put T.key_cmp (T.key_of item) item (entries T.key_of items.old.items)) }
     ensures replaced { IfOk result (λ arrival. arrival.replaced
-        ≡ item_with T.key_of (T.key_of item) items.old.items) }
+        ≡ item_with T.key_cmp T.key_of (T.key_of item) items.old.items) }
     ensures filled { OnOk result (0 < length items.new.items) }
 {
-    match place(items.as_slice(), item.key()) {
+    match place(items.as_slice(), &item) {
         Ok(at) => {
             let old = mem::replace(&mut items[at], item);
             Ok(Arrival {
@@ -50,11 +71,11 @@ fn put_among<T: Keyed>(items: &mut Vec<T>, item: T) -> Result<Arrival<T>, NoMemo
 }
 
 /// Takes the item with that key out, if there is one.
-fn take_among<T: Keyed>(items: &mut Vec<T>, key: &str) -> Option<T>
-    requires { Rises T.key_of items.old.items }
+fn take_among<T: Keyed, K: KeyFor<T>>(items: &mut Vec<T>, key: K) -> Option<T>
+    requires { Rises T.key_cmp T.key_of items.old.items }
     ensures without { entries T.key_of items.new.items
-        ≡ without key.now (entries T.key_of items.old.items) }
-    ensures taken { result ≡ item_with T.key_of key.now items.old.items }
+        ≡ without T.key_cmp (K.sought key) (entries T.key_of items.old.items) }
+    ensures taken { result ≡ item_with T.key_cmp T.key_of (K.sought key) items.old.items }
 {
     match place(items.as_slice(), key) {
         Ok(at) => Some(items.remove(at)),
@@ -66,13 +87,13 @@ impl<T: Keyed> Part for Vec<T> {
     type Item = T;
 
     ghost use Rattle.std.specs.Prelude.{refl};
-    ghost use Rattle.shared_list.specs.Order.{lead};
+    ghost use Rattle.shared_list.specs.Order.{at_first};
 
     ghost items = { λ leaf. leaf.items };
 
     ghost sound = { λ leaf. Unit {0} };
 
-    ghost first_key = { λ leaf. lead T.key_of leaf.items };
+    ghost lead_cmp = { λ leaf k. at_first (λ item. T.key_cmp (T.key_of item) k) leaf.items };
 
     fn of_one(alloc: Global, item: T) -> Result<Self, NoMemory> {
         let mut items = Vec::new(alloc);
@@ -80,14 +101,14 @@ impl<T: Keyed> Part for Vec<T> {
         Ok(items)
     }
 
-    fn lead_order(&self, key: &str) -> Ordering {
+    fn lead_order<K: KeyFor<T>>(&self, key: K) -> Ordering {
         match self.first() {
-            Some(item) => key_order(item, key),
-            None => "".cmp(key),
+            Some(item) => key.order_of(item),
+            None => Ordering::Less,
         }
     }
 
-    fn item_of(&self, key: &str) -> Option<&T> {
+    fn item_of<K: KeyFor<T>>(&self, key: K) -> Option<&T> {
         match place(self.as_slice(), key) {
             Ok(at) => Some(&self[at]),
             Err(_) => None,
@@ -108,7 +129,7 @@ impl<T: Keyed> Part for Vec<T> {
         Ok(PutOutcome { replaced, back })
     }
 
-    fn take_out(&mut self, key: &str) -> Result<TakeOutcome<T>, NoMemory> {
+    fn take_out<K: KeyFor<T>>(&mut self, key: K) -> Result<TakeOutcome<T>, NoMemory> {
         let taken = take_among(self, key);
         Ok(TakeOutcome {
             taken,
@@ -116,5 +137,5 @@ impl<T: Keyed> Part for Vec<T> {
         })
     }
 
-    ghost leads = { λ leaf sound. refl };
+    ghost leads = { λ k leaf sound. refl };
 }

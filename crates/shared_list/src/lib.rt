@@ -1,8 +1,13 @@
-//! A list in the byte order of its keys, of which several versions share what they have in common.
+//! A list in the order of its keys, of which several versions share what they have in common.
 //!
 //! A contract sees a `SharedList` as the list of its items, each with its key, with the words of std's
 //! finite maps: `with` is `put`, `get` is `find`. A version is made of another by `share`, and then
-//! changed item by item; the other stays. Each change also gives the item that the key had before.
+//! changed item by item or by many changes at once; the other stays. Each change of one item also gives
+//! the item that the key had before. `iter` goes over all items, and `from` over those from a key on.
+//!
+//! What a key is, and in which order keys stand, is the item's to say (`Keyed`): a text, a number, or several
+//! of both in turn. Items are compared where they stand, with each other and with a key in the form in
+//! which a caller has it (`KeyFor`), as a `&str` for a text; so no key is built or copied.
 //!
 //! The cost of a change hardly grows with the list: the items stand in leaves of at most 32, the leaves
 //! in nodes of at most 32, and the nodes in one list. `share` takes one share of each node. A change
@@ -18,6 +23,7 @@
 //! this repository.
 #![tactic(auto)]
 
+mod change;
 mod iter;
 mod keyed;
 mod leaf;
@@ -27,7 +33,8 @@ mod part;
 mod shared;
 mod split;
 
+pub use change::Change;
 pub use iter::Iter;
-pub use keyed::Keyed;
+pub use keyed::{KeyFor, Keyed};
 pub use list::{Changed, SharedList};
 pub use std::alloc::AllocError as NoMemory;

@@ -3,11 +3,13 @@
 ghost use Rattle.std.specs.Prelude.{◌≡◌, ◌+◌, ◌-◌, [], length, map, T as IsSo, if◌then◌else◌, IfOk};
 ghost use Rattle.std.specs.FinMap.{put, find, is_sorted};
 ghost use Rattle.std.specs.Option.{option_copied};
-ghost use Rattle.shared_list.specs.Order.{key_cmp, entries, without};
+ghost use Rattle.shared_list.specs.Changes.{after_change, after_changes};
+ghost use Rattle.shared_list.specs.Order.{entries, entries_from, without};
 
 use crate::NoMemory;
+use crate::change::Change;
 use crate::iter::Iter;
-use crate::keyed::Keyed;
+use crate::keyed::{KeyFor, Keyed};
 use crate::node::Node;
 use crate::shared::{item_in, put_shared, share, take_out_shared};
 use crate::split::Arrival;
@@ -15,7 +17,7 @@ use std::alloc::Global;
 use std::marker::Model;
 use std::sync::Arc;
 
-/// Items in the byte order of their keys, each key once. A contract sees them as a list of pairs of key and item.
+/// Items in the order of their keys, each key once. A contract sees them as a list of pairs of key and item.
 #[derive(Drop)]
 pub struct SharedList<T: Keyed> {
     // Neither a node nor a leaf within one is empty.
@@ -24,16 +26,16 @@ pub struct SharedList<T: Keyed> {
 }
 
 impl<T: Keyed> Model for SharedList<T> {
-    ghost use Rattle.std.specs.Prelude.{List, ℕ};
+    ghost use Rattle.std.specs.Prelude.{List};
 
-    ghost Value = { List (List ℕ × T) };
+    ghost Value = { List (T.Key × T) };
 
     ghost use Rattle.shared_list.specs.Order.{entries};
     ghost use Rattle.shared_list.specs.Parts.{items_in, node_items, AreNodes};
 
     ghost view = { λ list. entries T.key_of (items_in node_items list.nodes.items) };
 
-    ghost invariant = { λ list. AreNodes T.key_of list.nodes.items list.len };
+    ghost invariant = { λ list. AreNodes T.key_cmp T.key_of list.nodes.items list.len };
 }
 
 /// A list after a change at one key.
@@ -70,9 +72,9 @@ impl<T: Keyed> SharedList<T> {
     /// of memory.
     pub fn with(self, item: T) -> Result<Changed<T>, NoMemory>
         ensures list { IfOk result (λ changed. changed.list
-            ≡ put key_cmp (T.key_of item) item self) }
+            ≡ put T.key_cmp (T.key_of item) item self) }
         ensures before { IfOk result (λ changed. changed.before
-            ≡ find key_cmp (T.key_of item) self) }
+            ≡ find T.key_cmp (T.key_of item) self) }
     {
         let SharedList { mut nodes, len } = self;
         let Arrival {
@@ -87,9 +89,11 @@ impl<T: Keyed> SharedList<T> {
     }
 
     /// The list without the item of that key, or out of memory.
-    pub fn without(self, key: &str) -> Result<Changed<T>, NoMemory>
-        ensures list { IfOk result (λ changed. changed.list ≡ without key.now self) }
-        ensures before { IfOk result (λ changed. changed.before ≡ find key_cmp key.now self) }
+    pub fn without<K: KeyFor<T>>(self, key: K) -> Result<Changed<T>, NoMemory>
+        ensures list { IfOk result (λ changed. changed.list
+            ≡ without T.key_cmp (K.sought key) self) }
+        ensures before { IfOk result (λ changed. changed.before
+            ≡ find T.key_cmp (K.sought key) self) }
     {
         let SharedList { mut nodes, len } = self;
         let taken = take_out_shared(&mut nodes, key)?;
@@ -100,9 +104,37 @@ impl<T: Keyed> SharedList<T> {
         })
     }
 
+    /// The list after the changes, one after another; or out of memory.
+    ///
+    /// A node or a leaf that other versions share is copied by the first change that touches it, and is this
+    /// version's own for those after it. So k changes copy at most k nodes of 32 shares and k leaves of 32
+    /// items, however many items the list has, and each change takes one search. Where they come in the order
+    /// of keys, those that touch one leaf find it in the cache.
+    pub fn with_all<K: KeyFor<T>>(self, changes: Vec<Change<T, K>>) -> Result<Self, NoMemory>
+        ensures { IfOk result (λ list. list
+            ≡ after_changes T.key_cmp T.key_of K.sought self changes.items) }
+    {
+        let mut list = self;
+        for change in changes {
+            list = list.after(change)?;
+        }
+        Ok(list)
+    }
+
+    /// The list after one change, or out of memory.
+    fn after<K: KeyFor<T>>(self, change: Change<T, K>) -> Result<Self, NoMemory>
+        ensures { IfOk result (λ list. list
+            ≡ after_change T.key_cmp T.key_of K.sought self change) }
+    {
+        match change {
+            Change::Put(item) => Ok(self.with(item)?.list),
+            Change::Remove(key) => Ok(self.without(key)?.list),
+        }
+    }
+
     /// The item with that key; `None` exactly where there is none.
-    pub fn get(&self, key: &str) -> Option<&T>
-        ensures { option_copied result ≡ find key_cmp key.now self.entry.now }
+    pub fn get<K: KeyFor<T>>(&self, key: K) -> Option<&T>
+        ensures { option_copied result ≡ find T.key_cmp (K.sought key) self.entry.now }
     {
         item_in(self.nodes.as_slice(), key)
     }
@@ -110,10 +142,21 @@ impl<T: Keyed> SharedList<T> {
     /// The items in the order of their keys, which strictly rise; each is under its own key.
     pub fn iter(&self) -> Iter<'_, T>
         ensures items { result ≡ map (λ entry. entry.1) self.entry.now }
-        ensures rising { IsSo (is_sorted key_cmp self.entry.now) }
+        ensures rising { IsSo (is_sorted T.key_cmp self.entry.now) }
         ensures keyed { entries T.key_of (map (λ entry. entry.1) self.entry.now) ≡ self.entry.now }
     {
         Iter::over(self.nodes.as_slice())
+    }
+
+    /// The items from a key on, as `iter` gives them: those whose keys are not below it. The first is searched
+    /// for, so that it costs no walk over those before it.
+    pub fn from<K: KeyFor<T>>(&self, key: K) -> Iter<'_, T>
+        ensures items { result ≡ map (λ entry. entry.1)
+            (entries_from T.key_cmp (K.sought key) self.entry.now) }
+        ensures rising { IsSo (is_sorted T.key_cmp self.entry.now) }
+        ensures keyed { entries T.key_of (map (λ entry. entry.1) self.entry.now) ≡ self.entry.now }
+    {
+        Iter::starting(self.nodes.as_slice(), key)
     }
 
     /// How many items there are.

@@ -1,6 +1,7 @@
 //! The upper parts of a list: parts that several versions may share.
 
 use crate::NoMemory;
+use crate::keyed::KeyFor;
 use crate::part::{Part, PutOutcome, TakeOutcome};
 use crate::shared::{item_in, put_shared, share, take_out_shared};
 use crate::split::{Arrival, split_off};
@@ -17,14 +18,14 @@ pub(crate) struct Node<P> {
 impl<P: Part> Part for Node<P> {
     type Item = P::Item;
 
-    ghost use Rattle.shared_list.specs.Order.{lead};
+    ghost use Rattle.shared_list.specs.Order.{at_first};
     ghost use Rattle.shared_list.specs.Parts.{items_in, AreSound, first_leads};
 
     ghost items = { λ node. items_in P.items node.parts.items };
 
     ghost sound = { λ node. AreSound P.items P.sound node.parts.items };
 
-    ghost first_key = { λ node. lead (λ part. P.first_key part.value) node.parts.items };
+    ghost lead_cmp = { λ node k. at_first (λ part. P.lead_cmp part.value k) node.parts.items };
 
     fn of_one(alloc: Global, item: P::Item) -> Result<Self, NoMemory> {
         let mut parts = Vec::new(alloc);
@@ -32,14 +33,14 @@ impl<P: Part> Part for Node<P> {
         Ok(Node { parts })
     }
 
-    fn lead_order(&self, key: &str) -> Ordering {
+    fn lead_order<K: KeyFor<P::Item>>(&self, key: K) -> Ordering {
         match self.parts.first() {
             Some(part) => part.lead_order(key),
-            None => "".cmp(key),
+            None => Ordering::Less,
         }
     }
 
-    fn item_of(&self, key: &str) -> Option<&P::Item> {
+    fn item_of<K: KeyFor<P::Item>>(&self, key: K) -> Option<&P::Item> {
         item_in(self.parts.as_slice(), key)
     }
 
@@ -63,7 +64,7 @@ impl<P: Part> Part for Node<P> {
         }
     }
 
-    fn take_out(&mut self, key: &str) -> Result<TakeOutcome<P::Item>, NoMemory> {
+    fn take_out<K: KeyFor<P::Item>>(&mut self, key: K) -> Result<TakeOutcome<P::Item>, NoMemory> {
         let taken = take_out_shared(&mut self.parts, key)?;
         Ok(TakeOutcome {
             taken,
@@ -71,6 +72,7 @@ impl<P: Part> Part for Node<P> {
         })
     }
 
-    ghost leads = { λ node sound.
-        first_leads P.Item.key_of P.items P.sound P.first_key P.leads node.parts.items sound };
+    ghost leads = { λ k node sound.
+        first_leads P.items P.sound (λ part. P.lead_cmp part k)
+        (λ item. P.Item.key_cmp (P.Item.key_of item) k) (P.leads k) node.parts.items sound };
 }

@@ -3,11 +3,12 @@
 ghost use Rattle.std.specs.Prelude.{◌≡◌, ℕ, ◌<◌, ◌++◌, List, [], ◌∷◌, length, IfSome, IfOk, OnOk};
 ghost use Rattle.std.specs.FinMap.{put};
 ghost use Rattle.std.specs.Option.{option_copied};
-ghost use Rattle.shared_list.specs.Order.{key_cmp, entries, item_with, lead, without, Rises};
+ghost use Rattle.std.specs.declared.cmp.Ordering.{Ordering};
+ghost use Rattle.shared_list.specs.Order.{at_first, entries, item_with, without, Rises};
 ghost use Rattle.shared_list.specs.Parts.{items_if_some, TellsLeft};
 
 use crate::NoMemory;
-use crate::keyed::Keyed;
+use crate::keyed::{KeyFor, Keyed};
 use std::alloc::Global;
 use std::cmp::Ordering;
 
@@ -40,24 +41,24 @@ pub(crate) trait Part: Drop {
     // What holds of it beside the order of its items: no part within it is empty.
     ghost sound: { Self → Type 0 };
 
-    // The key by which it is found: that of its first item.
-    ghost first_key: { Self → List ℕ };
+    // How the key of its first item stands to another.
+    ghost lead_cmp: { Self → Self.Item.Key → Ordering };
 
     /// A part with that one item.
     fn of_one(alloc: Global, item: Self::Item) -> Result<Self, NoMemory>
         ensures items { IfOk result (λ part. items part ≡ item ∷ []) }
         ensures sound { IfOk result (λ part. sound part) };
 
-    /// How its first key stands to another.
-    fn lead_order(&self, key: &str) -> Ordering
-        ensures { result ≡ key_cmp (first_key self.now) key.now };
+    /// How its first key stands to another. A part with no items is below all keys.
+    fn lead_order<K: KeyFor<Self::Item>>(&self, key: K) -> Ordering
+        ensures { result ≡ lead_cmp self.now (K.sought key) };
 
     /// The item with that key.
-    fn item_of(&self, key: &str) -> Option<&Self::Item>
+    fn item_of<K: KeyFor<Self::Item>>(&self, key: K) -> Option<&Self::Item>
         requires sound { sound self.now }
-        requires rising { Rises Self.Item.key_of (items self.now) }
+        requires rising { Rises Self.Item.key_cmp Self.Item.key_of (items self.now) }
         ensures { option_copied result
-            ≡ item_with Self.Item.key_of key.now (items self.entry.now) };
+            ≡ item_with Self.Item.key_cmp Self.Item.key_of (K.sought key) (items self.entry.now) };
 
     /// A part with the same items and room for so many more, which shares with this one what it can.
     fn copied(&self, more: usize) -> Result<Self, NoMemory>
@@ -68,13 +69,14 @@ pub(crate) trait Part: Drop {
     /// Puts the item in its place, and takes the back of the part off where it has become too long.
     fn put_item(&mut self, item: Self::Item) -> Result<PutOutcome<Self, Self::Item>, NoMemory>
         requires sound { sound self.old }
-        requires rising { Rises Self.Item.key_of (items self.old) }
+        requires rising { Rises Self.Item.key_cmp Self.Item.key_of (items self.old) }
         ensures put { IfOk result (λ outcome.
             entries Self.Item.key_of (items self.new ++ items_if_some items outcome.back)
-            ≡ put key_cmp (Self.Item.key_of item) item
+            ≡ put Self.Item.key_cmp (Self.Item.key_of item) item
             (entries Self.Item.key_of (items self.old))) }
         ensures replaced { IfOk result (λ outcome. outcome.replaced
-            ≡ item_with Self.Item.key_of (Self.Item.key_of item) (items self.old)) }
+            ≡ item_with Self.Item.key_cmp Self.Item.key_of (Self.Item.key_of item)
+            (items self.old)) }
         ensures front { OnOk result (0 < length (items self.new)) }
         ensures sound { OnOk result (sound self.new) }
         ensures back { IfOk result (λ outcome.
@@ -82,16 +84,20 @@ pub(crate) trait Part: Drop {
         ensures back_sound { IfOk result (λ outcome. IfSome outcome.back (λ back. sound back)) };
 
     /// Takes the item with that key out, if there is one.
-    fn take_out(&mut self, key: &str) -> Result<TakeOutcome<Self::Item>, NoMemory>
+    fn take_out<K: KeyFor<Self::Item>>(
+        &mut self,
+        key: K,
+    ) -> Result<TakeOutcome<Self::Item>, NoMemory>
         requires sound { sound self.old }
-        requires rising { Rises Self.Item.key_of (items self.old) }
+        requires rising { Rises Self.Item.key_cmp Self.Item.key_of (items self.old) }
         ensures without { OnOk result (entries Self.Item.key_of (items self.new)
-            ≡ without key.now (entries Self.Item.key_of (items self.old))) }
+            ≡ without Self.Item.key_cmp (K.sought key)
+            (entries Self.Item.key_of (items self.old))) }
         ensures sound { OnOk result (sound self.new) }
         ensures taken { IfOk result (λ outcome. outcome.taken
-            ≡ item_with Self.Item.key_of key.now (items self.old)) }
+            ≡ item_with Self.Item.key_cmp Self.Item.key_of (K.sought key) (items self.old)) }
         ensures left { IfOk result (λ outcome. TellsLeft outcome.none_left (items self.new)) };
 
-    ghost leads: { (part : Self) → sound part
-        → first_key part ≡ lead Self.Item.key_of (items part) };
+    ghost leads: { (k : Self.Item.Key) (part : Self) → sound part → lead_cmp part k
+        ≡ at_first (λ item. Self.Item.key_cmp (Self.Item.key_of item) k) (items part) };
 }

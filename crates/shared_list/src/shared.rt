@@ -3,22 +3,30 @@
 ghost use Rattle.std.specs.Prelude.{◌≡◌, ◌<◌, ◌++◌, length, IfSome, IfOk, OnOk};
 ghost use Rattle.std.specs.FinMap.{put};
 ghost use Rattle.std.specs.Option.{option_copied};
-ghost use Rattle.shared_list.specs.Order.{key_cmp, entries, item_with, without, IsHome, Rises};
+ghost use Rattle.shared_list.specs.Order.{
+  entries,
+  item_with,
+  items_from,
+  without,
+  IsHome,
+  Rises,
+};
 ghost use Rattle.shared_list.specs.Parts.{parts_of, items_in, items_if_some, AreSound, TellsLeft};
 
 use crate::NoMemory;
-use crate::keyed::Keyed;
+use crate::keyed::KeyFor;
 use crate::part::{Part, PutOutcome, TakeOutcome};
 use crate::split::Arrival;
 use std::alloc::Global;
 use std::sync::Arc;
 
 /// The number of the part in which the key stands, if it stands anywhere.
-fn home<P: Part>(parts: &[Arc<P>], key: &str) -> usize
+fn home<P: Part, K: KeyFor<P::Item>>(parts: &[Arc<P>], key: K) -> usize
     requires some { 0 < length parts.now }
     requires sound { AreSound P.items P.sound parts.now }
-    requires rising { Rises P.Item.key_of (items_in P.items parts.now) }
-    ensures { IsHome P.Item.key_of key.now (parts_of P.items parts.now) result }
+    requires rising { Rises P.Item.key_cmp P.Item.key_of (items_in P.items parts.now) }
+    ensures { IsHome P.Item.key_cmp P.Item.key_of (K.sought key) (parts_of P.items parts.now)
+        result }
 {
     match parts.binary_search_by(|part| part.lead_order(key)) {
         Ok(at) => at,
@@ -27,16 +35,42 @@ fn home<P: Part>(parts: &[Arc<P>], key: &str) -> usize
 }
 
 /// The item with that key.
-pub(crate) fn item_in<'a, P: Part>(parts: &'a [Arc<P>], key: &str) -> Option<&'a P::Item>
+pub(crate) fn item_in<'a, P: Part, K: KeyFor<P::Item>>(
+    parts: &'a [Arc<P>],
+    key: K,
+) -> Option<&'a P::Item>
     requires sound { AreSound P.items P.sound parts.now }
-    requires rising { Rises P.Item.key_of (items_in P.items parts.now) }
+    requires rising { Rises P.Item.key_cmp P.Item.key_of (items_in P.items parts.now) }
     ensures { option_copied result
-        ≡ item_with P.Item.key_of key.now (items_in P.items parts.entry.now) }
+        ≡ item_with P.Item.key_cmp P.Item.key_of (K.sought key)
+        (items_in P.items parts.entry.now) }
 {
     if parts.is_empty() {
         return None;
     }
     parts[home(parts, key)].item_of(key)
+}
+
+/// The part in which the key stands, if it stands anywhere, and the parts after it. From the key on stand what
+/// that part has from it on, and all of the others.
+pub(crate) fn part_and_rest<'a, P: Part, K: KeyFor<P::Item>>(
+    parts: &'a [Arc<P>],
+    key: K,
+) -> (&'a P, &'a [Arc<P>])
+    requires some { 0 < length parts.now }
+    requires sound { AreSound P.items P.sound parts.now }
+    requires rising { Rises P.Item.key_cmp P.Item.key_of (items_in P.items parts.now) }
+    ensures from { items_from P.Item.key_cmp P.Item.key_of (K.sought key)
+        (items_in P.items parts.entry.now)
+        ≡ items_from P.Item.key_cmp P.Item.key_of (K.sought key) (P.items result.0.now)
+        ++ items_in P.items result.1.now }
+    ensures some { 0 < length (P.items result.0.now) }
+    ensures sound { P.sound result.0.now }
+    ensures rising { Rises P.Item.key_cmp P.Item.key_of (P.items result.0.now) }
+    ensures rest { AreSound P.items P.sound result.1.now }
+{
+    let at = home(parts, key);
+    (&*parts[at], &parts[at + 1..])
 }
 
 /// Puts the item in its place in the part, and takes the back of the part off where it has become too long.
@@ -46,12 +80,13 @@ fn put_in<P: Part>(
     item: P::Item,
 ) -> Result<PutOutcome<P, P::Item>, NoMemory>
     requires sound { P.sound part.old.value }
-    requires rising { Rises P.Item.key_of (P.items part.old.value) }
+    requires rising { Rises P.Item.key_cmp P.Item.key_of (P.items part.old.value) }
     ensures put { IfOk result (λ outcome.
         entries P.Item.key_of (P.items part.new.value ++ items_if_some P.items outcome.back)
-        ≡ put key_cmp (P.Item.key_of item) item (entries P.Item.key_of (P.items part.old.value))) }
+        ≡ put P.Item.key_cmp (P.Item.key_of item) item
+        (entries P.Item.key_of (P.items part.old.value))) }
     ensures replaced { IfOk result (λ outcome. outcome.replaced
-        ≡ item_with P.Item.key_of (P.Item.key_of item) (P.items part.old.value)) }
+        ≡ item_with P.Item.key_cmp P.Item.key_of (P.Item.key_of item) (P.items part.old.value)) }
     ensures front { OnOk result (0 < length (P.items part.new.value)) }
     ensures sound { OnOk result (P.sound part.new.value) }
     ensures back { IfOk result (λ outcome.
@@ -68,19 +103,19 @@ fn put_in<P: Part>(
 }
 
 /// Takes the item with that key out of the part, if there is one. A part that has none stays shared.
-fn take_from<P: Part>(
+fn take_from<P: Part, K: KeyFor<P::Item>>(
     alloc: Global,
     part: &mut Arc<P>,
-    key: &str,
+    key: K,
 ) -> Result<TakeOutcome<P::Item>, NoMemory>
     requires some { 0 < length (P.items part.old.value) }
     requires sound { P.sound part.old.value }
-    requires rising { Rises P.Item.key_of (P.items part.old.value) }
+    requires rising { Rises P.Item.key_cmp P.Item.key_of (P.items part.old.value) }
     ensures without { OnOk result (entries P.Item.key_of (P.items part.new.value)
-        ≡ without key.now (entries P.Item.key_of (P.items part.old.value))) }
+        ≡ without P.Item.key_cmp (K.sought key) (entries P.Item.key_of (P.items part.old.value))) }
     ensures sound { OnOk result (P.sound part.new.value) }
     ensures taken { IfOk result (λ outcome. outcome.taken
-        ≡ item_with P.Item.key_of key.now (P.items part.old.value)) }
+        ≡ item_with P.Item.key_cmp P.Item.key_of (K.sought key) (P.items part.old.value)) }
     ensures left { IfOk result (λ outcome. TellsLeft outcome.none_left (P.items part.new.value)) }
 {
     if let Some(own) = Arc::get_mut(part) {
@@ -104,12 +139,13 @@ pub(crate) fn put_shared<P: Part>(
     item: P::Item,
 ) -> Result<Arrival<P::Item>, NoMemory>
     requires sound { AreSound P.items P.sound parts.old.items }
-    requires rising { Rises P.Item.key_of (items_in P.items parts.old.items) }
+    requires rising { Rises P.Item.key_cmp P.Item.key_of (items_in P.items parts.old.items) }
     ensures put { OnOk result (entries P.Item.key_of (items_in P.items parts.new.items)
-        ≡ put key_cmp (P.Item.key_of item) item
+        ≡ put P.Item.key_cmp (P.Item.key_of item) item
         (entries P.Item.key_of (items_in P.items parts.old.items))) }
     ensures replaced { IfOk result (λ arrival. arrival.replaced
-        ≡ item_with P.Item.key_of (P.Item.key_of item) (items_in P.items parts.old.items)) }
+        ≡ item_with P.Item.key_cmp P.Item.key_of (P.Item.key_of item)
+        (items_in P.items parts.old.items)) }
     ensures some { OnOk result (0 < length parts.new.items) }
     ensures sound { OnOk result (AreSound P.items P.sound parts.new.items) }
 {
@@ -121,7 +157,7 @@ pub(crate) fn put_shared<P: Part>(
             at_end: true,
         });
     }
-    let at = home(parts.as_slice(), item.key());
+    let at = home(parts.as_slice(), &item);
     let PutOutcome { replaced, back } = put_in(alloc, &mut parts[at], item)?;
     match back {
         Some(back) => {
@@ -137,16 +173,18 @@ pub(crate) fn put_shared<P: Part>(
 }
 
 /// Takes the item with that key out of its part, if there is one, and the part out where nothing is left in it.
-pub(crate) fn take_out_shared<P: Part>(
+pub(crate) fn take_out_shared<P: Part, K: KeyFor<P::Item>>(
     parts: &mut Vec<Arc<P>>,
-    key: &str,
+    key: K,
 ) -> Result<Option<P::Item>, NoMemory>
     requires sound { AreSound P.items P.sound parts.old.items }
-    requires rising { Rises P.Item.key_of (items_in P.items parts.old.items) }
+    requires rising { Rises P.Item.key_cmp P.Item.key_of (items_in P.items parts.old.items) }
     ensures without { OnOk result (entries P.Item.key_of (items_in P.items parts.new.items)
-        ≡ without key.now (entries P.Item.key_of (items_in P.items parts.old.items))) }
+        ≡ without P.Item.key_cmp (K.sought key)
+        (entries P.Item.key_of (items_in P.items parts.old.items))) }
     ensures taken { IfOk result (λ taken. taken
-        ≡ item_with P.Item.key_of key.now (items_in P.items parts.old.items)) }
+        ≡ item_with P.Item.key_cmp P.Item.key_of (K.sought key)
+        (items_in P.items parts.old.items)) }
     ensures sound { OnOk result (AreSound P.items P.sound parts.new.items) }
 {
     if parts.is_empty() {

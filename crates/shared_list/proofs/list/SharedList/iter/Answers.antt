@@ -1,7 +1,7 @@
 -- The items of the nodes are those of the list, and its keys are theirs.
 use Rattle.std.proofs.Common.{sym}
 use Rattle.shared_list.specs.Parts.{items_in, node_items}
-use Rattle.shared_list.proofs.PartLemmas.{items_entries, keyed_entries}
+use Rattle.shared_list.proofs.Places.{items_entries, keyed_entries}
 use Rattle.shared_list.proofs.list.SharedList.iter.Goals as goal
 
 pub returns-clause-items : goal.returns-clause-items

@@ -5,7 +5,7 @@ use Rattle.shared_list.proofs.node.NodePart.put_item.Goals as goal
 
 pub returns-in-Some-clause-put : goal.returns-in-Some-clause-put
 returns-in-Some-clause-put g c =
-    put_halves g.P.Part.items g.P.Part.sound g.P.Item.Keyed.key_of c.args.item _ c.split_off.new.items.items c.in-Some.parts.items c.put_shared.new.parts.items
+    put_halves g.P.Part.items g.P.Part.sound g.P.Item.Keyed.key_of _ c.split_off.new.items.items c.in-Some.parts.items c.put_shared.new.parts.items
     (rw c.in-Some.is at c.in_ok-parts.ensures.parts) c.in_ok-replaced.ensures.put
 
 pub returns-in-Some-clause-front : goal.returns-in-Some-clause-front
@@ -30,7 +30,7 @@ returns-in-Some-clause-back_sound g c =
 
 pub returns-in-None-clause-put : goal.returns-in-None-clause-put
 returns-in-None-clause-put g c =
-    put_whole g.P.Part.items g.P.Part.sound g.P.Item.Keyed.key_of c.args.item _ c.split_off.new.items.items c.put_shared.new.parts.items
+    put_whole g.P.Part.items g.P.Part.sound g.P.Item.Keyed.key_of _ c.split_off.new.items.items c.put_shared.new.parts.items
     (rw c.in-None.is at c.in_ok-parts.ensures.parts) c.in_ok-replaced.ensures.put
 
 pub returns-in-None-clause-front : goal.returns-in-None-clause-front

@@ -1,8 +1,13 @@
-//! A list of plain items, with ample memory.
+//! A list of plain items by a text, with ample memory.
+
+ghost use Rattle.std.specs.Cmp.Lexicographic.{slice_cmp, nat_list_cmp_total};
+ghost use Rattle.std.specs.FinMap.{slice_cmp-IsAntisymmetric, nat_cmp-IsAntisymmetric};
+ghost use Rattle.std.specs.Ordering.{nat_cmp};
 
 use copying::Copied;
-use shared_list::{Keyed, NoMemory, SharedList};
+use shared_list::{KeyFor, Keyed, NoMemory, SharedList};
 use std::alloc::Global;
+use std::cmp::Ordering;
 use std::test::Fail;
 use texts::ShortText;
 
@@ -23,10 +28,26 @@ impl Copied for Numbered {
 }
 
 impl Keyed for Numbered {
+    type Key = ShortText;
+
     ghost key_of = { λ item. item.name };
 
-    fn key(&self) -> &str {
-        self.name.as_str()
+    ghost key_cmp = { slice_cmp nat_cmp };
+
+    fn order(&self, other: &Self) -> Ordering {
+        self.name.order(other.name.as_str())
+    }
+
+    ghost total = { nat_list_cmp_total };
+
+    ghost exact = { slice_cmp-IsAntisymmetric nat_cmp-IsAntisymmetric };
+}
+
+impl<'a> KeyFor<Numbered> for &'a str {
+    ghost sought = { λ name. name.now };
+
+    fn order_of(&self, item: &Numbered) -> Ordering {
+        item.name.order(*self)
     }
 }
 
@@ -68,6 +89,37 @@ fn versions(alloc: Global) -> Result<bool, NoMemory> {
 #[test]
 fn versions_share_what_they_have_in_common(rt: HostRuntime) -> Result<(), Fail> {
     assert!(rt; versions(rt.alloc())?);
+    Ok(())
+}
+
+/// Whether the list has just those numbers from a name on.
+fn from_name(list: &SharedList<Numbered>, name: &str, told: &[u32]) -> bool {
+    let mut place = 0usize;
+    for item in list.from(name) {
+        if told.get(place) != Some(&item.number) {
+            return false;
+        }
+        place = place.wrapping_add(1);
+    }
+    place == told.len()
+}
+
+/// Whether the items from a name on are those whose names are not below it in byte order.
+fn parts_by_name(alloc: Global) -> Result<bool, NoMemory> {
+    let none = SharedList::empty(alloc);
+    let empty = from_name(&none, "", &[]);
+    let list = with(alloc, with(alloc, none, "d", 2)?, "b", 1)?;
+    Ok(empty
+        && from_name(&list, "", &[1, 2])
+        && from_name(&list, "b", &[1, 2])
+        && from_name(&list, "ba", &[2])
+        && from_name(&list, "d", &[2])
+        && from_name(&list, "e", &[]))
+}
+
+#[test]
+fn a_part_of_a_list_begins_at_a_name(rt: HostRuntime) -> Result<(), Fail> {
+    assert!(rt; parts_by_name(rt.alloc())?);
     Ok(())
 }
 
