@@ -52,10 +52,7 @@ impl<'a, T> Iter<'a, T> {
 
 impl<'a, T: Keyed> Iter<'a, T> {
     /// Those items of the nodes whose keys are not below the given one.
-    pub(crate) fn starting<K: KeyFor<T>>(
-        nodes: &'a [Arc<Node<Vec<T>>>],
-        key: K,
-    ) -> Iter<'a, T>
+    pub(crate) fn starting<K: KeyFor<T>>(nodes: &'a [Arc<Node<Vec<T>>>], key: K) -> Iter<'a, T>
         requires sound { AreSound node_items IsFilled nodes.now }
         requires rising { Rises T.key_cmp T.key_of (items_in node_items nodes.now) }
         ensures { result ≡ items_from T.key_cmp T.key_of (K.sought key)

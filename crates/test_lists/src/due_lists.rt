@@ -156,15 +156,17 @@ fn few(alloc: Global) -> Result<SharedList<Due>, NoMemory> {
 fn parts(alloc: Global) -> Result<bool, NoMemory> {
     let none = SharedList::empty(alloc);
     let list = few(alloc)?;
-    Ok(has_from(&none, 0, 0, "", &[])
-        && has_from(&list, 0, 99, "z", &[1, 2, 3, 4])
-        && has_from(&list, 1, 10, "b", &[1, 2, 3, 4])
-        && has_from(&list, 1, 10, "ba", &[2, 3, 4])
-        && has_from(&list, 1, 20, "", &[2, 3, 4])
-        && has_from(&list, 1, 20, "b", &[3, 4])
-        && has_from(&list, 2, -6, "", &[4])
-        && has_from(&list, 2, -5, "a", &[4])
-        && has_from(&list, 2, -5, "aa", &[]))
+    Ok(
+        has_from(&none, 0, 0, "", &[])
+            && has_from(&list, 0, 99, "z", &[1, 2, 3, 4])
+            && has_from(&list, 1, 10, "b", &[1, 2, 3, 4])
+            && has_from(&list, 1, 10, "ba", &[2, 3, 4])
+            && has_from(&list, 1, 20, "", &[2, 3, 4])
+            && has_from(&list, 1, 20, "b", &[3, 4])
+            && has_from(&list, 2, -6, "", &[4])
+            && has_from(&list, 2, -5, "a", &[4])
+            && has_from(&list, 2, -5, "aa", &[]),
+    )
 }
 
 #[test]
@@ -189,11 +191,15 @@ fn together(alloc: Global) -> Result<bool, NoMemory> {
         remove(1, 20, "b"),
         put(alloc, 1, 20, "b", 9)?,
     ]?)?;
-    let same = old.share()?.with_all(Vec::<Change<Due, DueKey<'_>>>::new(alloc))?;
-    Ok(has(&old, &[1, 2, 3, 4])
-        && has(&new, &[5, 6, 3, 4, 7])
-        && has(&last, &[1, 2, 9, 4])
-        && has(&same, &[1, 2, 3, 4]))
+    let same = old
+        .share()?
+        .with_all(Vec::<Change<Due, DueKey<'_>>>::new(alloc))?;
+    Ok(
+        has(&old, &[1, 2, 3, 4])
+            && has(&new, &[5, 6, 3, 4, 7])
+            && has(&last, &[1, 2, 9, 4])
+            && has(&same, &[1, 2, 3, 4]),
+    )
 }
 
 #[test]

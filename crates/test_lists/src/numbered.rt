@@ -109,12 +109,14 @@ fn parts_by_name(alloc: Global) -> Result<bool, NoMemory> {
     let none = SharedList::empty(alloc);
     let empty = from_name(&none, "", &[]);
     let list = with(alloc, with(alloc, none, "d", 2)?, "b", 1)?;
-    Ok(empty
-        && from_name(&list, "", &[1, 2])
-        && from_name(&list, "b", &[1, 2])
-        && from_name(&list, "ba", &[2])
-        && from_name(&list, "d", &[2])
-        && from_name(&list, "e", &[]))
+    Ok(
+        empty
+            && from_name(&list, "", &[1, 2])
+            && from_name(&list, "b", &[1, 2])
+            && from_name(&list, "ba", &[2])
+            && from_name(&list, "d", &[2])
+            && from_name(&list, "e", &[]),
+    )
 }
 
 #[test]
