@@ -1,6 +1,7 @@
-//! Tests of lists in the order of their keys: by a text, by a number, and by two numbers and a text.
+//! Tests of lists in the order of their keys: by a text, by a number, by two numbers and a text, and of a feed's table,
+//! which is one of them.
 //!
-//! They call `shared_list` by its public contract. Every test is proved safe, and then it is run: it compares whole
+//! They call `shared_list` and `entity_table` by their public contracts. Every test is proved safe, and then it is run: it compares whole
 //! lists, and counts copies, of which no contract tells.
 #![tactic(auto)]
 
@@ -10,3 +11,5 @@ mod copied_once;
 mod due_lists;
 #[cfg(test)]
 mod numbered;
+#[cfg(test)]
+mod tables;
