@@ -97,37 +97,36 @@ impl<'a> KeyFor<Due> for DueKey<'a> {
     }
 }
 
-/// A change that puts a departure in.
-fn put<'a>(
+/// A stop, a time and a line, and a number where one is put in; else what has that key goes.
+type Told<'a> = (u32, i64, &'a str, Option<u32>);
+
+/// The change that is told.
+fn change<'a>(
     alloc: Global,
-    stop: u32,
-    at: i64,
-    line: &str,
-    number: u32,
+    (stop, at, line, number): Told<'a>,
 ) -> Result<Change<Due, DueKey<'a>>, NoMemory> {
-    Ok(Change::Put(Due {
-        stop,
-        at,
-        line: ShortText::new(alloc, line)?,
-        number,
-    }))
-}
-
-/// A change that takes the departure of that key out.
-fn remove<'a>(stop: u32, at: i64, line: &'a str) -> Change<Due, DueKey<'a>> {
-    Change::Remove(DueKey { stop, at, line })
-}
-
-/// Whether those are all numbers of the departures from a key on.
-fn has_from(list: &SharedList<Due>, stop: u32, at: i64, line: &str, told: &[u32]) -> bool {
-    let mut place = 0usize;
-    for due in list.from(DueKey { stop, at, line }) {
-        if told.get(place) != Some(&due.number) {
-            return false;
-        }
-        place = place.wrapping_add(1);
+    match number {
+        Some(number) => Ok(Change::Put(Due {
+            stop,
+            at,
+            line: ShortText::new(alloc, line)?,
+            number,
+        })),
+        None => Ok(Change::Remove(DueKey { stop, at, line })),
     }
-    place == told.len()
+}
+
+/// Another version of the list, with the changes that are told done together.
+fn changed<'a>(
+    alloc: Global,
+    list: &SharedList<Due>,
+    told: &[Told<'a>],
+) -> Result<SharedList<Due>, NoMemory> {
+    let mut changes = Vec::new(alloc);
+    for each in told {
+        changes.push(change(alloc, *each)?)?;
+    }
+    list.share()?.with_all(changes)
 }
 
 /// Whether those are the numbers of all departures, in their order.
@@ -142,20 +141,30 @@ fn has(list: &SharedList<Due>, told: &[u32]) -> bool {
     place == told.len() && list.len() == place
 }
 
-/// Four departures of two stops, of which two are at one time.
-fn few(alloc: Global) -> Result<SharedList<Due>, NoMemory> {
-    SharedList::empty(alloc).with_all(vec![in alloc;
-        put(alloc, 1, 20, "b", 3)?,
-        put(alloc, 2, -5, "a", 4)?,
-        put(alloc, 1, 10, "b", 1)?,
-        put(alloc, 1, 20, "a", 2)?,
-    ]?)
+/// Whether those are all numbers of the departures from a key on.
+fn has_from(list: &SharedList<Due>, stop: u32, at: i64, line: &str, told: &[u32]) -> bool {
+    let mut place = 0usize;
+    for due in list.from(DueKey { stop, at, line }) {
+        if told.get(place) != Some(&due.number) {
+            return false;
+        }
+        place = place.wrapping_add(1);
+    }
+    place == told.len()
 }
+
+/// Four departures of two stops, of which two are at one time.
+const FEW: [Told<'static>; 4] = [
+    (1, 20, "b", Some(3)),
+    (2, -5, "a", Some(4)),
+    (1, 10, "b", Some(1)),
+    (1, 20, "a", Some(2)),
+];
 
 /// Whether a part begins at the first departure that is not below the key.
 fn parts(alloc: Global) -> Result<bool, NoMemory> {
     let none = SharedList::empty(alloc);
-    let list = few(alloc)?;
+    let list = changed(alloc, &none, &FEW)?;
     Ok(
         has_from(&none, 0, 0, "", &[])
             && has_from(&list, 0, 99, "z", &[1, 2, 3, 4])
@@ -175,71 +184,40 @@ fn a_part_begins_at_the_first_not_below_the_key(rt: HostRuntime) -> Result<(), F
     Ok(())
 }
 
-/// Whether changes that are done together put in, replace and take out, and the last of one key counts.
-fn together(alloc: Global) -> Result<bool, NoMemory> {
-    let old = few(alloc)?;
-    let new = old.share()?.with_all(vec![in alloc;
-        put(alloc, 0, 7, "c", 5)?,
-        remove(1, 10, "b"),
-        remove(1, 15, "b"),
-        put(alloc, 1, 20, "a", 6)?,
-        put(alloc, 3, 0, "", 7)?,
-    ]?)?;
-    let last = old.share()?.with_all(vec![in alloc;
-        put(alloc, 9, 9, "", 8)?,
-        remove(9, 9, ""),
-        remove(1, 20, "b"),
-        put(alloc, 1, 20, "b", 9)?,
-    ]?)?;
-    let same = old
-        .share()?
-        .with_all(Vec::<Change<Due, DueKey<'_>>>::new(alloc))?;
-    Ok(
-        has(&old, &[1, 2, 3, 4])
-            && has(&new, &[5, 6, 3, 4, 7])
-            && has(&last, &[1, 2, 9, 4])
-            && has(&same, &[1, 2, 3, 4]),
-    )
+/// Whether the changes that are told make a list of those numbers of the four departures, which stay as they were.
+fn makes(alloc: Global, changes: &[Told<'_>], numbers: &[u32]) -> Result<bool, NoMemory> {
+    let old = changed(alloc, &SharedList::empty(alloc), &FEW)?;
+    let new = changed(alloc, &old, changes)?;
+    Ok(has(&new, numbers) && has(&old, &[1, 2, 3, 4]))
 }
 
+/// Departures that come in, change and go, and one to go that isn't there.
+const MIXED: [Told<'static>; 5] = [
+    (0, 7, "c", Some(5)),
+    (1, 10, "b", None),
+    (1, 15, "b", None),
+    (1, 20, "a", Some(6)),
+    (3, 0, "", Some(7)),
+];
+
+/// Changes of which two are about one key.
+const TWICE: [Told<'static>; 4] = [
+    (9, 9, "", Some(8)),
+    (9, 9, "", None),
+    (1, 20, "b", None),
+    (1, 20, "b", Some(9)),
+];
+
 #[test]
-fn changes_are_done_together(rt: HostRuntime) -> Result<(), Fail> {
-    assert!(rt; together(rt.alloc())?);
+fn changes_are_done_in_turn(rt: HostRuntime) -> Result<(), Fail> {
+    let alloc = rt.alloc();
+    assert!(rt; makes(alloc, &[], &[1, 2, 3, 4])?);
+    assert!(rt; makes(alloc, &MIXED, &[5, 6, 3, 4, 7])?);
+    assert!(rt; makes(alloc, &TWICE, &[1, 2, 9, 4])?);
     Ok(())
 }
 
-/// A list of a thousand departures of one stop at even times, whose numbers are half of these.
-fn thousand(alloc: Global) -> Result<SharedList<Due>, NoMemory> {
-    let mut changes = Vec::new(alloc);
-    for n in 0..1000u32 {
-        changes.push(put(alloc, 1, i64::from(n) * 2, "", n)?)?;
-    }
-    SharedList::empty(alloc).with_all(changes)
-}
-
-/// Whether the list has just the numbers that are told for the times below 2,000.
-fn has_at_times<F: Fn(u32) -> Option<u32>>(list: &SharedList<Due>, told: F) -> bool
-    requires { F.IsAlwaysCallable told }
-{
-    let mut count = 0usize;
-    let mut left = list.iter();
-    for at in 0..2000u32 {
-        if let Some(number) = told(at) {
-            match left.next() {
-                Some(due) => {
-                    if due.number != number || due.at != i64::from(at) {
-                        return false;
-                    }
-                }
-                None => return false,
-            }
-            count = count.wrapping_add(1);
-        }
-    }
-    left.next().is_none() && list.len() == count
-}
-
-/// What a thousand departures have at a time.
+/// The number at a time of one stop where each even time has one.
 fn at_first(at: u32) -> Option<u32> {
     if at % 2 == 0 { Some(at / 2) } else { None }
 }
@@ -247,86 +225,127 @@ fn at_first(at: u32) -> Option<u32> {
 /// The same after every tenth was replaced, every seventh of all was taken out, and at every ninth time one came
 /// in where there was none.
 fn at_last(at: u32) -> Option<u32> {
-    let n = at / 2;
+    let place = at / 2;
     if at % 2 == 1 {
         return if at % 9 == 0 { Some(at) } else { None };
     }
-    if n % 7 == 0 {
+    if place % 7 == 0 {
         None
-    } else if n % 10 == 0 {
-        Some(n.wrapping_add(5000))
+    } else if place % 10 == 0 {
+        Some(place.wrapping_add(5000))
     } else {
-        Some(n)
+        Some(place)
     }
 }
 
-/// The changes that make the one of the other.
-fn many_changes<'a>(alloc: Global) -> Result<Vec<Change<Due, DueKey<'a>>>, NoMemory> {
+/// The same as at first, without those of the second and the third leaf.
+fn without_leaves(at: u32) -> Option<u32> {
+    if 64 <= at && at < 192 {
+        None
+    } else {
+        at_first(at)
+    }
+}
+
+/// A state of a list: what it has at each time below 2,000.
+#[derive(Clone, Copy)]
+enum State {
+    Nothing,
+    First,
+    Last,
+    WithoutLeaves,
+}
+
+/// The number that a list in that state has at a time.
+fn number_at(state: State, at: u32) -> Option<u32> {
+    match state {
+        State::Nothing => None,
+        State::First => at_first(at),
+        State::Last => at_last(at),
+        State::WithoutLeaves => without_leaves(at),
+    }
+}
+
+/// The numbers that a list in that state has, in their order.
+fn numbers_in(alloc: Global, state: State) -> Result<Vec<u32>, NoMemory> {
+    let mut numbers = Vec::new(alloc);
+    for at in 0..2000u32 {
+        if let Some(number) = number_at(state, at) {
+            numbers.push(number)?;
+        }
+    }
+    Ok(numbers)
+}
+
+/// The changes that lead from one state to another: one for each time at which they differ.
+fn between(alloc: Global, old: State, new: State) -> Result<Vec<Told<'static>>, NoMemory> {
     let mut changes = Vec::new(alloc);
     for at in 0..2000u32 {
-        match at_last(at) {
-            Some(number) => {
-                if at_first(at) != Some(number) {
-                    changes.push(put(alloc, 1, i64::from(at), "", number)?)?;
-                }
-            }
-            None => changes.push(remove(1, i64::from(at), ""))?,
+        let number = number_at(new, at);
+        if number != number_at(old, at) {
+            changes.push((1, i64::from(at), "", number))?;
         }
     }
     Ok(changes)
 }
 
-/// Whether many changes across leaves and nodes are all done, and the version that they were made of stays.
-fn across_leaves(alloc: Global) -> Result<bool, NoMemory> {
-    let old = thousand(alloc)?;
-    let new = old.share()?.with_all(many_changes(alloc)?)?;
-    Ok(has_at_times(&old, at_first) && has_at_times(&new, at_last))
+/// Another version of a list in one state, which is brought to another state.
+fn brought(
+    alloc: Global,
+    list: &SharedList<Due>,
+    old: State,
+    new: State,
+) -> Result<SharedList<Due>, NoMemory> {
+    let changes = between(alloc, old, new)?;
+    changed(alloc, list, changes.as_slice())
+}
+
+/// Whether a list that is brought to a state is in it.
+fn is_in(alloc: Global, list: &SharedList<Due>, state: State) -> Result<bool, NoMemory> {
+    let numbers = numbers_in(alloc, state)?;
+    Ok(has(list, numbers.as_slice()))
+}
+
+/// Whether a list of a thousand departures is brought to a state, back and to nothing, and each version stays.
+fn goes_to(alloc: Global, state: State) -> Result<bool, NoMemory> {
+    let first = brought(
+        alloc,
+        &SharedList::empty(alloc),
+        State::Nothing,
+        State::First,
+    )?;
+    let other = brought(alloc, &first, State::First, state)?;
+    let back = brought(alloc, &other, state, State::First)?;
+    let none = brought(alloc, &other, state, State::Nothing)?;
+    Ok(
+        is_in(alloc, &first, State::First)?
+            && is_in(alloc, &other, state)?
+            && is_in(alloc, &back, State::First)?
+            && none.len() == 0
+            && none.iter().next().is_none(),
+    )
 }
 
 #[test]
 fn many_changes_reach_every_leaf(rt: HostRuntime) -> Result<(), Fail> {
-    assert!(rt; across_leaves(rt.alloc())?);
+    assert!(rt; goes_to(rt.alloc(), State::Last)?);
     Ok(())
-}
-
-/// The list without the departures with numbers from the one and below the other.
-fn without_numbers(
-    alloc: Global,
-    list: SharedList<Due>,
-    from: u32,
-    to: u32,
-) -> Result<SharedList<Due>, NoMemory> {
-    let mut changes = Vec::new(alloc);
-    for n in from..to {
-        changes.push(remove(1, i64::from(n) * 2, ""))?;
-    }
-    list.with_all(changes)
-}
-
-/// Whether leaves of which all goes leave the others, and nothing is left when all goes.
-fn leaves_that_go(alloc: Global) -> Result<bool, NoMemory> {
-    let all = thousand(alloc)?;
-    let some = without_numbers(alloc, all.share()?, 32, 96)?;
-    let none = without_numbers(alloc, all.share()?, 0, 1000)?;
-    let gap = |at: u32| {
-        if 64 <= at && at < 192 {
-            None
-        } else {
-            at_first(at)
-        }
-    };
-    Ok(has_at_times(&some, gap) && none.len() == 0 && none.iter().next().is_none())
 }
 
 #[test]
 fn whole_leaves_go(rt: HostRuntime) -> Result<(), Fail> {
-    assert!(rt; leaves_that_go(rt.alloc())?);
+    assert!(rt; goes_to(rt.alloc(), State::WithoutLeaves)?);
     Ok(())
 }
 
-/// Whether a search among a thousand finds the first at or after each time.
+/// Whether the first departure from each time on is the one that is told.
 fn first_at_each_time(alloc: Global) -> Result<bool, NoMemory> {
-    let list = thousand(alloc)?;
+    let list = brought(
+        alloc,
+        &SharedList::empty(alloc),
+        State::Nothing,
+        State::First,
+    )?;
     for at in 0..2000u32 {
         let key = DueKey {
             stop: 1,
