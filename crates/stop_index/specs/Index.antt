@@ -37,8 +37,8 @@ departures_at t stop =
     (flat_map (trip_departures t stop) (range_with_len 0 (length t.trips)))
 
 -- no day's times are counted from a later instant than those of the day after
-abbrev pub days_rise : Timetable → Bool
-days_rise t =
+abbrev pub days_are_rising : Timetable → Bool
+days_are_rising t =
     list_all (λ day. int_le (base_of t day) (base_of t (day + 1)))
     (range_with_len 0 (length t.bases - 1))
 
@@ -46,5 +46,5 @@ days_rise t =
 unfoldable pub index_of : Timetable → Index
 index_of t = record {
   departures = map (departures_at t) (range_with_len 0 (length t.stops));
-  days_rise = days_rise t;
+  days_rise = days_are_rising t;
 }

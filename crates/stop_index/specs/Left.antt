@@ -1,8 +1,8 @@
 -- What an iterator over the departures of a stop has left.
-use Rattle.std.specs.Prelude.{◌≡◌, ℕ, ◌≤◌, Bool, ◌&&◌, List, length, map, filter, count_by, ℤ, pos, ◌+ℤ◌, int_le, int_lt}
+use Rattle.std.specs.Prelude.{◌≡◌, ℕ, ◌≤◌, Bool, ◌&&◌, ◌==◌, List, length, map, filter, count_by, ℤ, pos, ◌+ℤ◌, int_le, int_lt}
 use Rattle.std.specs.List.{flat_map, range_with_len}
 use Rattle.std.specs.List.Sorted.{IsSorted}
-use Rattle.std.specs.Ordering.{is_eq, is_lt}
+use Rattle.std.specs.Ordering.{is_lt}
 use Rattle.order.specs.Order.{ordered}
 use Rattle.sched_types.specs.Timetable.{Timetable, is_run, base_of}
 use Rattle.stop_index.specs.declared.reached.Reached.{Reached}
@@ -10,7 +10,7 @@ use Rattle.stop_index.specs.declared.reached.Reached.TheVariants.{Instant, Depar
 use Rattle.stop_index.specs.declared.slot.Slot.{Slot}
 use Rattle.stop_index.specs.declared.trip_departure.TripDeparture.{TripDeparture}
 use Rattle.stop_index.specs.Slots.{slot_cmp}
-use Rattle.stop_index.specs.Index.{departure_cmp, days_rise}
+use Rattle.stop_index.specs.Index.{departure_cmp, days_are_rising}
 
 -- a trip's departure on a day whose times are counted from base
 abbrev pub slot_at : ℤ → ℕ → TripDeparture → Slot
@@ -52,11 +52,15 @@ slots_left t departures reached end =
     ordered slot_cmp
     (filter (is_left reached end) (slots_before t departures (length t.bases)))
 
+-- a departure is that of a trip from that place
+abbrev pub is_from : ℕ → ℕ → TripDeparture → Bool
+is_from trip place departure = (departure.trip == trip) && (departure.place == place)
+
 -- departures of trips in order, each once
 pub record AreDepartures (departures : List TripDeparture) : Type 0 where
   pub sorted : IsSorted departure_cmp departures
-  pub once : (departure : TripDeparture)
-      → count_by (λ other. is_eq (departure_cmp departure other)) departures ≤ 1
+  pub once : (trip place : ℕ)
+      → count_by (is_from trip place) departures ≤ 1
 
 -- on no day before that one a departure comes after what was reached
 pub record IsOver (t : Timetable) (departures : List TripDeparture) (reached : Reached)
@@ -68,5 +72,5 @@ pub record IsOver (t : Timetable) (departures : List TripDeparture) (reached : R
 pub record IsReady (t : Timetable) (departures : List TripDeparture) (rise : Bool)
     (reached : Reached) (first_day : ℕ) : Type 0 where
   pub are : AreDepartures departures
-  pub rise_is : rise ≡ days_rise t
+  pub rise_is : rise ≡ days_are_rising t
   pub over : IsOver t departures reached first_day

@@ -3,7 +3,7 @@
 ghost use Rattle.std.specs.Prelude.{◌≡◌};
 ghost use Rattle.std.specs.Iterator.{YieldsFirst, item_count};
 ghost use Rattle.stop_index.specs.Left.{slots_left, AreDepartures};
-ghost use Rattle.stop_index.specs.Index as rule;
+ghost use Rattle.stop_index.specs.Index.{days_are_rising};
 
 use crate::days::first_day_left;
 use crate::reached::Reached;
@@ -51,7 +51,7 @@ impl<'a> Between<'a> {
         end: i64,
     ) -> Between<'a>
         requires are { AreDepartures departures.now }
-        requires rise { days_rise ≡ rule.days_rise plan.now }
+        requires rise { days_rise ≡ days_are_rising plan.now }
         ensures { result ≡ slots_left plan.entry.now departures.entry.now (Reached.Instant start) end }
     {
         Between {

@@ -4,8 +4,7 @@ ghost use Rattle.std.specs.Prelude.{◌≡◌, ℕ, ◌<◌, ◌≤◌, IsTrue, 
 ghost use Rattle.std.specs.List.{All};
 ghost use Rattle.std.specs.List.Sorted.{IsSorted};
 ghost use Rattle.sched_types.specs.Timetable.{base_of};
-ghost use Rattle.stop_index.specs.Index as rule;
-ghost use Rattle.stop_index.specs.Index.{departure_cmp};
+ghost use Rattle.stop_index.specs.Index.{departure_cmp, days_are_rising};
 ghost use Rattle.stop_index.specs.Left.{IsOver, instant_of};
 
 use crate::reached::Reached;
@@ -14,7 +13,7 @@ use sched_types::Plan;
 
 /// Whether the base of each day of the window is no later than that of the next.
 pub(crate) fn days_rise(plan: &Plan) -> bool
-    ensures { result ≡ rule.days_rise plan.now }
+    ensures { result ≡ days_are_rising plan.now }
 {
     for day in 1..plan.days() {
         if plan.base(day) < plan.base(day - 1) {
@@ -45,7 +44,7 @@ fn ends_before(plan: &Plan, day: u32, longest: u32, instant: i64) -> bool
 
 /// How many days end before an instant, where the last time of each is `longest`.
 fn days_before(plan: &Plan, longest: u32, instant: i64) -> u32
-    requires { IsTrue (rule.days_rise plan.now) }
+    requires { IsTrue (days_are_rising plan.now) }
     ensures within { result ≤ length plan.now.bases }
     ensures before { (day : ℕ) → day < result → (base_of plan.now day +ℤ pos longest) <ℤ instant }
 {
@@ -71,7 +70,7 @@ pub(crate) fn first_day_left(
     reached: &Reached,
 ) -> u32
     requires sorted { IsSorted departure_cmp departures.now }
-    requires rise { days_rise ≡ rule.days_rise plan.now }
+    requires rise { days_rise ≡ days_are_rising plan.now }
     requires over { IsOver plan.now departures.now reached.now day }
     ensures { IsOver plan.now departures.now reached.now result }
 {

@@ -4,7 +4,6 @@ ghost use Rattle.std.specs.Prelude.{◌≡◌, ◌<◌, ◌<ℤ◌, filter, leng
 ghost use Rattle.std.specs.List.Sorted.{IsSorted};
 ghost use Rattle.sched_types.specs.Timetable.{IsSmall};
 ghost use Rattle.stop_index.specs.Index.{departure_cmp};
-ghost use Rattle.stop_index.specs.Left as rule;
 ghost use Rattle.stop_index.specs.Left.{is_ahead, is_left, slot_at, slots_on, slots_before, IsReady};
 ghost use Rattle.stop_index.specs.First.{IsFirst, earlier_of, until_of};
 
@@ -12,7 +11,7 @@ use crate::days::begin_after;
 use crate::reached::Reached;
 use crate::slot::Slot;
 use crate::trip_departure::{TripDeparture, slot_at};
-use sched_types::{Plan, Run};
+use sched_types::Plan;
 
 /// Those departures that are still to come on a day whose times are counted from `base`.
 fn ahead_on<'a>(
@@ -45,7 +44,8 @@ fn first_on(
         ≡ slice_get (filter (is_left reached.now end) (slots_on plan.now departures.now day)) 0 }
 {
     let base = plan.base(day);
-    for departure in ahead_on(departures, base, day, reached) {
+    let ahead = ahead_on(departures, base, day, reached);
+    for departure in ahead {
         let slot = slot_at(base, day, *departure);
         if slot.at >= end {
             return None;
