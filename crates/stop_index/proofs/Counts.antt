@@ -49,9 +49,9 @@ module _ {X : Type 0} where
   count-filter p q (x ∷ xs) = count_tested p q x xs (count-filter p q xs) (p x) ∙ sym (count-cons (λ y. p y && q y) x xs)
 
   -- of what comes of items of which nothing that passes comes
-  pub count_flat_none : {A : Type 0} (p : X → Bool) (f : A → List X) (as : List A) → ((a : A) → count_by p (f a) ≡ 0) → count_by p (flat_map f as) ≡ 0
+  pub count_flat_none : {A : Type 0} (p : X → Bool) (f : A → List X) (items : List A) → ((a : A) → count_by p (f a) ≡ 0) → count_by p (flat_map f items) ≡ 0
   count_flat_none p f [] none = refl
-  count_flat_none p f (a ∷ as) none = omega (arith, count-append p (f a) (flat_map f as), none a, count_flat_none p f as none)
+  count_flat_none p f (a ∷ items) none = omega (arith, count-append p (f a) (flat_map f items), none a, count_flat_none p f items none)
 
   pub count_range_none : (p : X → Bool) (f : ℕ → List X) (a n : ℕ) → ((k : ℕ) → a ≤ k → k < a + n → count_by p (f k) ≡ 0) → count_by p (flat_map f (range_with_len a n)) ≡ 0
   count_range_none p f a zero none = refl
@@ -68,21 +68,21 @@ count-map p f (x ∷ xs) = omega (arith, count-cons p (f x) (map f xs), count-co
 -- Where a test passes at most one of what comes of each item, and none of what comes of items without a key, and at
 -- most one item has the key, it passes at most one of all.
 module _ {A X : Type 0} (is : X → Bool) (key : A → Bool) (f : A → List X) (outside : (a : A) → key a ≡ false → count_by is (f a) ≡ 0) (inside : (a : A) → count_by is (f a) ≤ 1) where
-  none_keyed : (as : List A) → count_by key as ≡ 0 → count_by is (flat_map f as) ≡ 0
+  none_keyed : (items : List A) → count_by key items ≡ 0 → count_by is (flat_map f items) ≡ 0
   none_keyed [] none = refl
-  none_keyed (a ∷ as) none =
-      let parts = count-cons key a as in
+  none_keyed (a ∷ items) none =
+      let parts = count-cons key a items in
       let here : key a ≡ false = not_one (key a) (omega (arith, parts, none)) in
-      omega (arith, count-append is (f a) (flat_map f as), outside a here, none_keyed as (omega (arith, parts, none)))
+      omega (arith, count-append is (f a) (flat_map f items), outside a here, none_keyed items (omega (arith, parts, none)))
 
-  pub once_flat : (as : List A) → count_by key as ≤ 1 → count_by is (flat_map f as) ≤ 1
+  pub once_flat : (items : List A) → count_by key items ≤ 1 → count_by is (flat_map f items) ≤ 1
   once_flat [] once = omega arith
-  once_flat (a ∷ as) once = by_key (key a) refl where
-    by_key : (b : Bool) → key a ≡ b → count_by is (f a ++ flat_map f as) ≤ 1
-    by_key true e =
-        omega (arith, count-append is (f a) (flat_map f as), inside a, none_keyed as (omega (arith, count-cons key a as, one_is (key a) e, once)))
-    by_key false e =
-        omega (arith, count-append is (f a) (flat_map f as), outside a e, once_flat as (omega (arith, count-cons key a as, once)))
+  once_flat (a ∷ items) once = by_key (key a) refl (λ few. once_flat items few) where
+    by_key : (b : Bool) → key a ≡ b → (count_by key items ≤ 1 → count_by is (flat_map f items) ≤ 1) → count_by is (f a ++ flat_map f items) ≤ 1
+    by_key true e rest =
+        omega (arith, count-append is (f a) (flat_map f items), inside a, none_keyed items (omega (arith, count-cons key a items, one_is (key a) e, once)))
+    by_key false e rest =
+        omega (arith, count-append is (f a) (flat_map f items), outside a e, rest (omega (arith, count-cons key a items, once)))
 
 -- a number occurs at most once among numbers one after another
 range_above : (z a n : ℕ) → z < a → count_by (λ k. nat_eq k z) (range_with_len a n) ≡ 0
@@ -137,8 +137,8 @@ same_filter p xs ys same = record { counts = λ q. count-filter p q xs ∙ same.
 pub same_map : {X Y : Type 0} (f : X → Y) (xs ys : List X) → SameItems xs ys → SameItems (map f xs) (map f ys)
 same_map f xs ys same = record { counts = λ p. count-map p f xs ∙ same.counts (λ x. p (f x)) ∙ sym (count-map p f ys) }
 
-pub same_flat : {A X : Type 0} (f g : A → List X) (as : List A) → ((a : A) → SameItems (f a) (g a)) → SameItems (flat_map f as) (flat_map g as)
+pub same_flat : {A X : Type 0} (f g : A → List X) (items : List A) → ((a : A) → SameItems (f a) (g a)) → SameItems (flat_map f items) (flat_map g items)
 same_flat f g [] same = same_are [] [] refl
-same_flat f g (a ∷ as) same =
-    record { counts = λ p. count-append p (f a) (flat_map f as) ∙ ap (λ n. n + count_by p (flat_map f as)) ((same a).counts p)
-        ∙ ap (λ n. count_by p (g a) + n) ((same_flat f g as same).counts p) ∙ sym (count-append p (g a) (flat_map g as)) }
+same_flat f g (a ∷ items) same =
+    record { counts = λ p. count-append p (f a) (flat_map f items) ∙ ap (λ n. n + count_by p (flat_map f items)) ((same a).counts p)
+        ∙ ap (λ n. count_by p (g a) + n) ((same_flat f g items same).counts p) ∙ sym (count-append p (g a) (flat_map g items)) }

@@ -3,11 +3,12 @@ use Rattle.std.proofs.Common.{◌≡◌, ℕ, zero, suc, ◌+◌, ◌-◌, ◌<�
 use Rattle.std.specs.List.{flat_map, range_with_len, AllByRecursion}
 use Rattle.std.specs.List.Sorted.{IsPartitionedBy, IsPartitionPoint, IsSorted}
 use Rattle.std.specs.Ordering.{is_eq, is_gt, is_lt}
-use Rattle.std.proofs.lemmas.Bool.{and_parts, and_from, and_left, and_right, eq-eqb, not-true, not_from_true, not_from_false}
+use Rattle.std.proofs.lemmas.Bool.{and_parts, and_from, and_left, and_right, both_ways, eq-eqb, not-true}
 use Rattle.std.proofs.lemmas.Int.{ints}
 use Rattle.std.proofs.lemmas.List.Elements.{filter_passes, recursion_from_All}
 use Rattle.std.proofs.lemmas.Cmp.{tied_itself}
 use Rattle.std.proofs.lemmas.List.Sorted.{ranks_by, sorted_far}
+use Rattle.std.proofs.lemmas.Option.{get_or_from_slice_get}
 use Rattle.order.proofs.Laws.{IsLeast, IsRising, rising_from_sorted}
 use Rattle.sched_types.specs.Timetable.{Timetable, base_of}
 use Rattle.sched_types.proofs.DepartureOrder.{filter_between}
@@ -24,16 +25,27 @@ use Rattle.stop_index.proofs.Instants.{slot_total, departure_total, same_slot, s
 use Rattle.stop_index.proofs.Ahead.{ahead_up, not_left}
 use Rattle.stop_index.proofs.Firsts.{is_same, first_of_rising}
 
+-- ---- in order
+
+-- none is above a later one
+not_above : (departures : List TripDeparture) → IsSorted departure_cmp departures → (i j : ℕ) (d : TripDeparture) → i ≤ j → j < length departures → is_gt (departure_cmp (get_or departures i d) (get_or departures j d)) ≡ false
+not_above departures sorted i j d h within =
+    above_is departure_total (get_or departures i d) (get_or departures j d)
+    ∙ sorted_far (λ x y. is_lt (departure_cmp x y)) (ranks_by departure_total (λ z. z)) departures sorted i j d h within
+
+-- and so the last has the latest time
+pub latest : (departures : List TripDeparture) → IsSorted departure_cmp departures → (last : TripDeparture) → slice_get departures (length departures - 1) ≡ Some last → All (λ d. d.seconds ≤ last.seconds) departures
+latest departures sorted last at = λ k d h.
+    let end : get_or departures (length departures - 1) d ≡ last = get_or_from_slice_get departures (length departures - 1) last d at in
+    let up : (get_or departures k d).seconds ≤ (get_or departures (length departures - 1) d).seconds =
+    seconds_up (get_or departures k d) (get_or departures (length departures - 1) d) (not_above departures sorted k (length departures - 1) d (omega arith) (omega arith)) in
+    omega (arith, ap (λ (x : TripDeparture). x.seconds) end)
+
 -- ---- those that are still to come are the last
 
 module _ (reached : Reached) (base : ℤ) (day : ℕ) where
   abbrev pub ahead : TripDeparture → Bool
   ahead d = is_ahead reached (slot_at base day d)
-
-  not_above : (departures : List TripDeparture) → IsSorted departure_cmp departures → (i j : ℕ) (d : TripDeparture) → i ≤ j → j < length departures → is_gt (departure_cmp (get_or departures i d) (get_or departures j d)) ≡ false
-  not_above departures sorted i j d h within =
-      above_is departure_total (get_or departures i d) (get_or departures j d)
-      ∙ sorted_far (λ x y. is_lt (departure_cmp x y)) (ranks_by departure_total (λ z. z)) departures sorted i j d h within
 
   ahead_later : (x y : TripDeparture) → is_gt (departure_cmp x y) ≡ false → ahead x ≡ true → ahead y ≡ true
   ahead_later x y up e = ahead_up reached (slot_at base day x) (slot_at base day y) (ap is_gt (on_day base day x y) ∙ up) e
@@ -44,7 +56,7 @@ module _ (reached : Reached) (base : ℤ) (day : ℕ) where
     by_test true a =
         let later : ahead (get_or departures j d) ≡ true = ahead_later (get_or departures i d) (get_or departures j d) (not_above departures sorted i j d h within) a in
         let clash : ahead (get_or departures j d) ≡ false = not-true (ahead (get_or departures j d)) e in
-        cc
+        absurd (both_ways (ahead (get_or departures j d)) clash later)
     by_test false a = refl
 
   pub ahead_are : (departures : List TripDeparture) (first : ℕ) → first ≤ length departures
@@ -71,17 +83,17 @@ module _ (t : Timetable) (day : ℕ) where
 
   least_slots : (x : TripDeparture) (xs : List TripDeparture) → IsLeast departure_total x xs → IsLeast slot_total (slot x) (slots_on t xs day)
   least_slots x [] least = tt
-  least_slots x (y ∷ ys) least = by_test (runs_on t day y) where
-    by_test : (b : Bool) → IsLeast slot_total (slot x) (map slot (cond b (y ∷ filter (runs_on t day) ys) (filter (runs_on t day) ys)))
-    by_test true = (ap is_gt (on_day (base_of t day) day x y) ∙ least.0, least_slots x ys least.1)
-    by_test false = least_slots x ys least.1
+  least_slots x (y ∷ ys) least = by_test (runs_on t day y) (least_slots x ys least.1) where
+    by_test : (b : Bool) → IsLeast slot_total (slot x) (slots_on t ys day) → IsLeast slot_total (slot x) (map slot (cond b (y ∷ filter (runs_on t day) ys) (filter (runs_on t day) ys)))
+    by_test true rest = (ap is_gt (on_day (base_of t day) day x y) ∙ least.0, rest)
+    by_test false rest = rest
 
   rising_slots : (xs : List TripDeparture) → IsRising departure_total xs → IsRising slot_total (slots_on t xs day)
   rising_slots [] up = tt
-  rising_slots (x ∷ xs) up = by_test (runs_on t day x) where
-    by_test : (b : Bool) → IsRising slot_total (map slot (cond b (x ∷ filter (runs_on t day) xs) (filter (runs_on t day) xs)))
-    by_test true = (least_slots x xs up.0, rising_slots xs up.1)
-    by_test false = rising_slots xs up.1
+  rising_slots (x ∷ xs) up = by_test (runs_on t day x) (rising_slots xs up.1) where
+    by_test : (b : Bool) → IsRising slot_total (slots_on t xs day) → IsRising slot_total (map slot (cond b (x ∷ filter (runs_on t day) xs) (filter (runs_on t day) xs)))
+    by_test true rest = (least_slots x xs up.0, rest)
+    by_test false rest = rest
 
   -- the first in the list is the first in order
   pub first_found : (p : Slot → Bool) (departures : List TripDeparture) (r : Option Slot) → IsSorted departure_cmp departures → r ≡ slice_get (filter p (slots_on t departures day)) 0 → IsFirst p (slots_on t departures day) r
@@ -154,8 +166,7 @@ module _ (t : Timetable) (departures : List TripDeparture) (once : (trip place :
     where
       by_test : (d : TripDeparture) (b : Bool) → is_same x (slot_at (base_of t day) day d) ≡ b → b ≡ false
       by_test d true e =
-          let clash : nat_eq day x.run.day ≡ true = eq-eqb day x.run.day (sym (ap (λ (s : Slot). s.run.day) (is_of day d e))) in
-          cc
+          absurd (both_ways (nat_eq day x.run.day) other (eq-eqb day x.run.day (sym (ap (λ (s : Slot). s.run.day) (is_of day d e)))))
       by_test d false e = refl
 
   own_day : (day : ℕ) → count_by (is_same x) (slots_on t departures day) ≤ 1

@@ -3,6 +3,8 @@ pub mod Ordered
 mod Instants
 mod Ahead
 mod Firsts
-mod Days
+mod DayLemmas
 mod DaySlots
 mod SameSlots
+mod GatherLemmas
+mod FlatLemmas

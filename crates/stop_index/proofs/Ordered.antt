@@ -73,17 +73,17 @@ module _ {X : Type 0} {cmp : X → X → Ordering} (o : IsTotalOrder cmp) where
 
   least_filter : (p : X → Bool) (x : X) (xs : List X) → IsLeast o x xs → IsLeast o x (filter p xs)
   least_filter p x [] least = tt
-  least_filter p x (y ∷ ys) least = by_test (p y) where
-    by_test : (b : Bool) → IsLeast o x (cond b (y ∷ filter p ys) (filter p ys))
-    by_test true = (least.0, least_filter p x ys least.1)
-    by_test false = least_filter p x ys least.1
+  least_filter p x (y ∷ ys) least = by_test (p y) (least_filter p x ys least.1) where
+    by_test : (b : Bool) → IsLeast o x (filter p ys) → IsLeast o x (cond b (y ∷ filter p ys) (filter p ys))
+    by_test true rest = (least.0, rest)
+    by_test false rest = rest
 
   pub rising_filter : (p : X → Bool) (xs : List X) → IsRising o xs → IsRising o (filter p xs)
   rising_filter p [] up = tt
-  rising_filter p (x ∷ xs) up = by_test (p x) where
-    by_test : (b : Bool) → IsRising o (cond b (x ∷ filter p xs) (filter p xs))
-    by_test true = (least_filter p x xs up.0, rising_filter p xs up.1)
-    by_test false = rising_filter p xs up.1
+  rising_filter p (x ∷ xs) up = by_test (p x) (rising_filter p xs up.1) where
+    by_test : (b : Bool) → IsRising o (filter p xs) → IsRising o (cond b (x ∷ filter p xs) (filter p xs))
+    by_test true rest = (least_filter p x xs up.0, rest)
+    by_test false rest = rest
 
   sorted_at : (xs : List X) → IsRising o xs → (k : ℕ) (d : X) → k + 1 < length xs → is_lt (cmp (get_or xs (k + 1) d) (get_or xs k d)) ≡ false
   sorted_at [] up k d h = absurd (omega arith)

@@ -27,41 +27,41 @@ use Rattle.stop_index.proofs.Instants.{slot_total, departure_total, same_slot, s
 
 -- ---- lists
 
-flat_alike : {A X : Type 0} (f g : A → List X) (as : List A) → ((a : A) → f a ≡ g a) → flat_map f as ≡ flat_map g as
+flat_alike : {A X : Type 0} (f g : A → List X) (items : List A) → ((a : A) → f a ≡ g a) → flat_map f items ≡ flat_map g items
 flat_alike f g [] same = refl
-flat_alike f g (a ∷ as) same = ap (λ xs. xs ++ flat_map f as) (same a) ∙ ap (λ xs. g a ++ xs) (flat_alike f g as same)
+flat_alike f g (a ∷ items) same = ap (λ xs. xs ++ flat_map f items) (same a) ∙ ap (λ xs. g a ++ xs) (flat_alike f g items same)
 
-flat_kept : {A X : Type 0} (p : A → Bool) (f : A → List X) (as : List A) → flat_map f (filter p as) ≡ flat_map (λ a. cond (p a) (f a) []) as
+flat_kept : {A X : Type 0} (p : A → Bool) (f : A → List X) (items : List A) → flat_map f (filter p items) ≡ flat_map (λ a. cond (p a) (f a) []) items
 flat_kept p f [] = refl
-flat_kept p f (a ∷ as) = by_test (p a) (flat_kept p f as) where
-  by_test : (b : Bool) → flat_map f (filter p as) ≡ flat_map (λ a. cond (p a) (f a) []) as
-      → flat_map f (cond b (a ∷ filter p as) (filter p as)) ≡ cond b (f a) [] ++ flat_map (λ a. cond (p a) (f a) []) as
+flat_kept p f (a ∷ items) = by_test (p a) (flat_kept p f items) where
+  by_test : (b : Bool) → flat_map f (filter p items) ≡ flat_map (λ a. cond (p a) (f a) []) items
+      → flat_map f (cond b (a ∷ filter p items) (filter p items)) ≡ cond b (f a) [] ++ flat_map (λ a. cond (p a) (f a) []) items
   by_test true rest = ap (λ xs. f a ++ xs) rest
   by_test false rest = rest
 
-flat_pairs : {A B C X : Type 0} (g : C → List X) (of : A → B → C) (bs : List B) (as : List A) → flat_map g (flat_map (λ a. map (of a) bs) as) ≡ flat_map (λ a. flat_map (λ b. g (of a b)) bs) as
+flat_pairs : {A B C X : Type 0} (g : C → List X) (of : A → B → C) (bs : List B) (items : List A) → flat_map g (flat_map (λ a. map (of a) bs) items) ≡ flat_map (λ a. flat_map (λ b. g (of a b)) bs) items
 flat_pairs g of bs [] = refl
-flat_pairs g of bs (a ∷ as) =
-    flat_map-append g (map (of a) bs) (flat_map (λ a. map (of a) bs) as)
-    ∙ ap (λ xs. xs ++ flat_map g (flat_map (λ a. map (of a) bs) as)) (flat_map-map g (of a) bs)
-    ∙ ap (λ xs. flat_map (λ b. g (of a b)) bs ++ xs) (flat_pairs g of bs as)
+flat_pairs g of bs (a ∷ items) =
+    flat_map-append g (map (of a) bs) (flat_map (λ a. map (of a) bs) items)
+    ∙ ap (λ xs. xs ++ flat_map g (flat_map (λ a. map (of a) bs) items)) (flat_map-map g (of a) bs)
+    ∙ ap (λ xs. flat_map (λ b. g (of a b)) bs ++ xs) (flat_pairs g of bs items)
 
 -- what becomes of those that pass of several lists
-kept_flat : {A X Y : Type 0} (s : X → Y) (p : X → Bool) (f : A → List X) (as : List A) → map s (filter p (flat_map f as)) ≡ flat_map (λ a. map s (filter p (f a))) as
+kept_flat : {A X Y : Type 0} (s : X → Y) (p : X → Bool) (f : A → List X) (items : List A) → map s (filter p (flat_map f items)) ≡ flat_map (λ a. map s (filter p (f a))) items
 kept_flat s p f [] = refl
-kept_flat s p f (a ∷ as) =
-    ap (map s) (filter-append p (f a) (flat_map f as))
-    ∙ map-append s (filter p (f a)) (filter p (flat_map f as))
-    ∙ ap (λ ys. map s (filter p (f a)) ++ ys) (kept_flat s p f as)
+kept_flat s p f (a ∷ items) =
+    ap (map s) (filter-append p (f a) (flat_map f items))
+    ∙ map-append s (filter p (f a)) (filter p (flat_map f items))
+    ∙ ap (λ ys. map s (filter p (f a)) ++ ys) (kept_flat s p f items)
 
 -- all of what comes passes, or none
-kept_all : {A X Y : Type 0} (s : X → Y) (p : X → Bool) (d : A → X) (b : Bool) (as : List A) → ((a : A) → p (d a) ≡ b) → map s (filter p (map d as)) ≡ cond b (map (λ a. s (d a)) as) []
+kept_all : {A X Y : Type 0} (s : X → Y) (p : X → Bool) (d : A → X) (b : Bool) (items : List A) → ((a : A) → p (d a) ≡ b) → map s (filter p (map d items)) ≡ cond b (map (λ a. s (d a)) items) []
 kept_all s p d true [] same = refl
 kept_all s p d false [] same = refl
-kept_all s p d true (a ∷ as) same =
-    ap (λ c. map s (cond c (d a ∷ filter p (map d as)) (filter p (map d as)))) (same a) ∙ ap (λ ys. s (d a) ∷ ys) (kept_all s p d true as same)
-kept_all s p d false (a ∷ as) same =
-    ap (λ c. map s (cond c (d a ∷ filter p (map d as)) (filter p (map d as)))) (same a) ∙ kept_all s p d false as same
+kept_all s p d true (a ∷ items) same =
+    ap (λ c. map s (cond c (d a ∷ filter p (map d items)) (filter p (map d items)))) (same a) ∙ ap (λ ys. s (d a) ∷ ys) (kept_all s p d true items same)
+kept_all s p d false (a ∷ items) same =
+    ap (λ c. map s (cond c (d a ∷ filter p (map d items)) (filter p (map d items)))) (same a) ∙ kept_all s p d false items same
 
 -- ---- the departures of a stop
 
@@ -154,9 +154,9 @@ none_at stop count (x ∷ xs) a (suc m) each past =
     ap (λ b. cond b ((a, x) ∷ filter (is_at stop) (enumerate_from (a + 1) (take m xs))) (filter (is_at stop) (enumerate_from (a + 1) (take m xs)))) (ne_eqb x.stop stop (λ e. omega arith))
     ∙ none_at stop count xs (a + 1) m (λ i p at. each (suc i) p at) past
 
-flat_none : {A X : Type 0} (f : A → List X) (as : List A) → ((a : A) → f a ≡ []) → flat_map f as ≡ []
+flat_none : {A X : Type 0} (f : A → List X) (items : List A) → ((a : A) → f a ≡ []) → flat_map f items ≡ []
 flat_none f [] none = refl
-flat_none f (a ∷ as) none = ap (λ xs. xs ++ flat_map f as) (none a) ∙ flat_none f as none
+flat_none f (a ∷ items) none = ap (λ xs. xs ++ flat_map f items) (none a) ∙ flat_none f items none
 
 module _ (t : Timetable) (sound : IsTimetable t) where
   no_departures : (stop : ℕ) → length t.stops ≤ stop → departures_at t stop ≡ []

@@ -53,6 +53,7 @@ impl StopIndex {
         requires { self.now ≡ index_of plan.now }
         ensures { result ≡ slots_between plan.entry.now stop start end }
     {
+        plan.sound();
         Between::over(plan, self.lists.list(stop), self.days_rise, start, end)
     }
 }

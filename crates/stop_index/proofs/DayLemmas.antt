@@ -1,8 +1,8 @@
 -- Days whose bases rise, and the departures of days that are over or begin too late.
-use Rattle.std.proofs.Common.{◌≡◌, ℕ, zero, suc, ◌+◌, ◌-◌, ◌<◌, ◌≤◌, zero-add, append-nil, Bool, true, false, ◌&&◌, List, [], ◌∷◌, ◌++◌, length, map, filter, get_or, slice_get, unwrap_or, count_by, ℤ, pos, ◌+ℤ◌, ◌≤ℤ◌, ◌<ℤ◌, int_lt, int_le, w64, SFits, Some, refl, sym, ap, subst, ◌∙◌, arith}
+use Rattle.std.proofs.Common.{◌≡◌, ℕ, zero, suc, ◌+◌, ◌-◌, ◌<◌, ◌≤◌, zero-add, append-nil, Bool, true, false, ◌&&◌, List, [], ◌∷◌, ◌++◌, length, map, filter, get_or, slice_get, unwrap_or, count_by, ℤ, pos, ◌+ℤ◌, ◌≤ℤ◌, ◌<ℤ◌, int_lt, int_le, to_z, of_z, w64, Some, inl, inr, refl, sym, ap, subst, ◌∙◌, arith}
 use Rattle.std.specs.List.{flat_map, list_all, range_with_len, AllByRecursion}
-use Rattle.std.proofs.lemmas.Bool.{and_parts, and_right}
-use Rattle.std.proofs.lemmas.Int.{ints}
+use Rattle.std.proofs.lemmas.Bool.{and_right, cases_lt}
+use Rattle.std.proofs.lemmas.Int.{ints, to_z-of_z}
 use Rattle.std.proofs.lemmas.List.Concat.{flat_map-append}
 use Rattle.std.proofs.lemmas.List.Folds.{list_all-append, list_all_at}
 use Rattle.std.proofs.lemmas.List.FromFn.{length-range_with_len, get_or-range_with_len}
@@ -10,13 +10,14 @@ use Rattle.std.proofs.lemmas.Option.{slice_get-get_or}
 use Rattle.order.proofs.Lists.{range_more}
 use Rattle.sched_types.specs.Timetable.{Timetable, IsTimetable, IsSmall, base_of}
 use Rattle.sched_types.proofs.Checks.{all_at}
+use Rattle.sched_types.proofs.Lists.{fits_seconds}
 use Rattle.stop_index.specs.declared.reached.Reached.{Reached}
 use Rattle.stop_index.specs.declared.slot.Slot.{Slot}
 use Rattle.stop_index.specs.declared.trip_departure.TripDeparture.{TripDeparture}
 use Rattle.stop_index.specs.Index.{days_are_rising}
 use Rattle.stop_index.specs.Left.{slot_at, runs_on, slots_on, slots_before, is_ahead, is_left, instant_of, IsOver}
 use Rattle.stop_index.proofs.Counts.{one, one_not, count-cons, count-append, count-map, count-filter, count_never, count_range_none}
-use Rattle.stop_index.proofs.Instants.{is_le_z}
+use Rattle.stop_index.proofs.Instants.{is_le_z, le_is, is_lt_z, not_lt_z}
 use Rattle.stop_index.proofs.Ahead.{not_ahead, not_left}
 
 -- ---- numbers one after another
@@ -43,22 +44,16 @@ module _ (t : Timetable) where
       ap (list_all is_next_later) (range_more 0 day day (omega arith))
       ∙ list_all-append is_next_later (range_with_len 0 day) (day ∷ [])
       ∙ ap (λ b. b && (is_next_later day && true)) so_far
-      ∙ ap (λ b. b && true) (le_later day h)
-    where
-      le_later : (day : ℕ) → base_of t day ≤ℤ base_of t (day + 1) → is_next_later day ≡ true
-      le_later day h = grind (arith, ints)
+      ∙ ap (λ b. b && true) (le_is (base_of t day) (base_of t (day + 1)) h)
+
+  not_later : (a b : ℤ) → b <ℤ a → int_le a b ≡ false
+  not_later a b h = grind (arith, ints)
 
   -- some day doesn't
   pub rise_not : (day : ℕ) → day < length t.bases - 1 → base_of t (day + 1) <ℤ base_of t day → days_are_rising t ≡ false
-  rise_not day h below = list_all_at is_next_later (range_with_len 0 (length t.bases - 1)) day 0 (omega (arith, length-range_with_len 0 (length t.bases - 1))) fails where
-    at_day : get_or (range_with_len 0 (length t.bases - 1)) day 0 ≡ day
-    at_day = get_or-range_with_len 0 (length t.bases - 1) day 0 h ∙ zero-add day
-
-    fails : is_next_later (get_or (range_with_len 0 (length t.bases - 1)) day 0) ≡ false
-    fails = ap is_next_later at_day ∙ not_later (base_of t day) (base_of t (day + 1)) below
-
-    not_later : (a b : ℤ) → b <ℤ a → int_le a b ≡ false
-    not_later a b h = grind (arith, ints)
+  rise_not day h below =
+      list_all_at is_next_later (range_with_len 0 (length t.bases - 1)) day 0 (omega (arith, length-range_with_len 0 (length t.bases - 1)))
+      (ap is_next_later (get_or-range_with_len 0 (length t.bases - 1) day 0 h ∙ zero-add day) ∙ not_later (base_of t day) (base_of t (day + 1)) below)
 
   module _ (rise : days_are_rising t ≡ true) where
     step_up : (day : ℕ) → day + 1 < length t.bases → base_of t day ≤ℤ base_of t (day + 1)
@@ -141,6 +136,73 @@ module _ (t : Timetable) where
     within = within;
     none = count_range_none (is_ahead reached) (slots_on t departures) 0 day (λ k h l. over_on reached longest k (ends k (omega arith)) departures short);
   }
+
+-- ---- a pass over the days
+
+abbrev wrapped : ℤ → ℤ
+wrapped z = to_z w64 (of_z w64 z)
+
+module _ (t : Timetable) (day : ℕ) (here before : ℤ) (from : 1 ≤ day) (at : slice_get t.bases day ≡ Some here) (at_before : slice_get t.bases (day - 1) ≡ Some before) (small : IsSmall here) (small_before : IsSmall before) where
+  is_here : base_of t (day - 1 + 1) ≡ here
+  is_here = let same : day - 1 + 1 ≡ day = omega arith in ap (base_of t) same ∙ base_is t day here at
+
+  is_before : base_of t (day - 1) ≡ before
+  is_before = base_is t (day - 1) before at_before
+
+  plain : wrapped here ≡ here
+  plain = to_z-of_z w64 here (fits_seconds here small)
+
+  plain_before : wrapped before ≡ before
+  plain_before = to_z-of_z w64 before (fits_seconds before small_before)
+
+  pub rise_step : int_lt (wrapped here) (wrapped before) ≡ false → list_all (is_next_later t) (range_with_len 0 (day - 1)) ≡ true → list_all (is_next_later t) (range_with_len 0 (day + 1 - 1)) ≡ true
+  rise_step not_below so_far =
+      let size : day + 1 - 1 ≡ day - 1 + 1 = omega arith in
+      let up : before ≤ℤ here = not_lt_z here before (ap (λ z. int_lt z before) (sym plain) ∙ ap (int_lt (wrapped here)) (sym plain_before) ∙ not_below) in
+      ap (λ n. list_all (is_next_later t) (range_with_len 0 n)) size
+      ∙ rise_more t (day - 1) so_far (subst (λ z. base_of t (day - 1) ≤ℤ z) (sym is_here) (subst (λ z. z ≤ℤ here) (sym is_before) up))
+
+  pub rise_fails : day < length t.bases → int_lt (wrapped here) (wrapped before) ≡ true → false ≡ days_are_rising t
+  rise_fails within below =
+      let down : here <ℤ before = is_lt_z here before (ap (λ z. int_lt z before) (sym plain) ∙ ap (int_lt (wrapped here)) (sym plain_before) ∙ below) in
+      sym (rise_not t (day - 1) (omega arith) (subst (λ z. z <ℤ base_of t (day - 1)) (sym is_here) (subst (λ z. here <ℤ z) (sym is_before) down)))
+
+pub rise_all : (t : Timetable) (day : ℕ) → 1 ≤ day → length t.bases ≤ day → (1 ≤ length t.bases → day ≤ length t.bases) → list_all (is_next_later t) (range_with_len 0 (day - 1)) ≡ true → true ≡ days_are_rising t
+rise_all t day from past up_to so_far = elim (cases_lt 0 (length t.bases)) [
+  | inl some ↦
+      let size : day - 1 ≡ length t.bases - 1 = omega (arith, up_to (omega arith)) in
+      sym so_far ∙ ap (λ n. list_all (is_next_later t) (range_with_len 0 n)) size
+  | inr none ↦
+      let size : 0 ≡ length t.bases - 1 = omega arith in
+      ap (λ n. list_all (is_next_later t) (range_with_len 0 n)) size
+]
+
+-- ---- the days that a search keeps apart
+
+-- the days before low end before an instant, and low and high are days of the window or its end
+pub record AreBefore (t : Timetable) (longest : ℕ) (instant : ℤ) (low high : ℕ) : Type 0 where
+  pub ordered : low ≤ high
+  pub within : high ≤ length t.bases
+  pub before : (day : ℕ) → day < low → (base_of t day +ℤ pos longest) <ℤ instant
+
+module _ (t : Timetable) (longest : ℕ) (instant : ℤ) where
+  pub before_none : (days : ℕ) → days ≡ length t.bases → AreBefore t longest instant 0 days
+  before_none days all = record { ordered = omega arith; within = omega arith; before = λ day h. absurd (omega arith) }
+
+  -- a day that ends before the instant, with all before it
+  pub before_low : (low high middle : ℕ) → AreBefore t longest instant low high → days_are_rising t ≡ true → middle < high → int_lt (base_of t middle +ℤ pos longest) instant ≡ true → AreBefore t longest instant (middle + 1) high
+  before_low low high middle are rise h ends = record {
+    ordered = omega arith;
+    within = are.within;
+    before = λ day l.
+        let within : middle < length t.bases = omega (arith, are.within) in
+        let up : base_of t day ≤ℤ base_of t middle = rising t rise day middle (omega arith) within in
+        let over : (base_of t middle +ℤ pos longest) <ℤ instant = is_lt_z (base_of t middle +ℤ pos longest) instant ends in
+        omega (arith, ints);
+  }
+
+  pub before_high : (low high middle : ℕ) → AreBefore t longest instant low high → low ≤ middle → middle < high → AreBefore t longest instant low middle
+  before_high low high middle are h l = record { ordered = h; within = omega (arith, are.within); before = are.before }
 
 -- ---- sums of seconds fit 64 bits
 
