@@ -1,6 +1,7 @@
 -- Days whose bases rise, and the departures of days that are over or begin too late.
-use Rattle.std.proofs.Common.{◌≡◌, ℕ, zero, suc, ◌+◌, ◌-◌, ◌<◌, ◌≤◌, zero-add, append-nil, Bool, true, false, ◌&&◌, List, [], ◌∷◌, ◌++◌, length, map, filter, get_or, slice_get, unwrap_or, count_by, ℤ, pos, ◌+ℤ◌, ◌≤ℤ◌, ◌<ℤ◌, int_lt, int_le, to_z, of_z, w64, Some, inl, inr, refl, sym, ap, subst, ◌∙◌, arith}
+use Rattle.std.proofs.Common.{◌≡◌, ℕ, zero, suc, ◌+◌, ◌-◌, ◌<◌, ◌≤◌, zero-add, append-nil, Bool, true, false, ◌&&◌, List, [], ◌∷◌, ◌++◌, length, map, filter, get_or, slice_get, unwrap_or, count_by, ℤ, pos, ◌+ℤ◌, ◌≤ℤ◌, ◌<ℤ◌, int_lt, int_le, to_z, of_z, w64, Option, Some, None, inl, inr, refl, sym, ap, subst, ◌∙◌, arith}
 use Rattle.std.specs.List.{flat_map, list_all, range_with_len, AllByRecursion}
+use Rattle.std.specs.List.Sorted.{IsSorted}
 use Rattle.std.proofs.lemmas.Bool.{and_right, cases_lt}
 use Rattle.std.proofs.lemmas.Int.{ints, to_z-of_z}
 use Rattle.std.proofs.lemmas.List.Concat.{flat_map-append}
@@ -14,11 +15,14 @@ use Rattle.sched_types.proofs.Lists.{fits_seconds}
 use Rattle.stop_index.specs.declared.reached.Reached.{Reached}
 use Rattle.stop_index.specs.declared.slot.Slot.{Slot}
 use Rattle.stop_index.specs.declared.trip_departure.TripDeparture.{TripDeparture}
-use Rattle.stop_index.specs.Index.{days_are_rising}
+use Rattle.stop_index.specs.Index.{departure_cmp, days_are_rising}
 use Rattle.stop_index.specs.Left.{slot_at, runs_on, slots_on, slots_before, is_ahead, is_left, instant_of, IsOver}
+use Rattle.stop_index.specs.First.{IsFirst, earlier_of, until_of}
 use Rattle.stop_index.proofs.Counts.{one, one_not, count-cons, count-append, count-map, count-filter, count_never, count_range_none}
 use Rattle.stop_index.proofs.Instants.{is_le_z, le_is, is_lt_z, not_lt_z}
 use Rattle.stop_index.proofs.Ahead.{not_ahead, not_left}
+use Rattle.stop_index.proofs.DaySlots.{first_found}
+use Rattle.stop_index.proofs.Firsts.{first_joined, earlier_none}
 
 -- ---- numbers one after another
 
@@ -136,6 +140,29 @@ module _ (t : Timetable) where
     within = within;
     none = count_range_none (is_ahead reached) (slots_on t departures) 0 day (λ k h l. over_on reached longest k (ends k (omega arith)) departures short);
   }
+
+-- ---- the first that is left, day by day
+
+module _ (t : Timetable) (reached : Reached) (end : ℤ) (departures : List TripDeparture) (day : ℕ) (best : Option Slot) (u : ℤ) (until : u ≡ until_of best end) where
+  -- one day more
+  pub first_more : (found r : Option Slot) → IsSorted departure_cmp departures → IsFirst (is_left reached end) (slots_before t departures day) best
+      → found ≡ slice_get (filter (is_left reached u) (slots_on t departures day)) 0 → r ≡ earlier_of best found → IsFirst (is_left reached end) (slots_before t departures (day + 1)) r
+  first_more found r sorted so_far is earlier =
+      let here : IsFirst (is_left reached (until_of best end)) (slots_on t departures day) found =
+      subst (λ z. IsFirst (is_left reached z) (slots_on t departures day) found) until (first_found t day (is_left reached u) departures found sorted is) in
+      let joined = first_joined reached end (slots_before t departures day) (slots_on t departures day) best found so_far here in
+      subst (λ (ss : List Slot). IsFirst (is_left reached end) ss r) (sym (slots_more t departures day))
+      (subst (λ (o : Option Slot). IsFirst (is_left reached end) (slots_before t departures day ++ slots_on t departures day) o) (sym earlier) joined)
+
+  -- none of the days from this one on has one
+  pub first_of_all : (n : ℕ) → n ≡ length t.bases → day ≤ n → days_are_rising t ≡ true → u ≤ℤ base_of t day → IsFirst (is_left reached end) (slots_before t departures day) best → IsFirst (is_left reached end) (slots_before t departures n) best
+  first_of_all n all within rise late so_far =
+      let size : day + (n - day) ≡ n = omega arith in
+      let none : IsFirst (is_left reached (until_of best end)) (flat_map (slots_on t departures) (range_with_len day (n - day))) None =
+      subst (λ z. count_by (is_left reached z) (flat_map (slots_on t departures) (range_with_len day (n - day))) ≡ 0) until (none_late t reached u departures day (n - day) rise (omega (arith, all)) late) in
+      let joined = first_joined reached end (slots_before t departures day) (flat_map (slots_on t departures) (range_with_len day (n - day))) best None so_far none in
+      subst (λ (ss : List Slot). IsFirst (is_left reached end) ss best) (sym (slots_split t departures day (n - day) n size))
+      (subst (λ (o : Option Slot). IsFirst (is_left reached end) (slots_before t departures day ++ flat_map (slots_on t departures) (range_with_len day (n - day))) o) (earlier_none best) joined)
 
 -- ---- a pass over the days
 

@@ -5,12 +5,13 @@ use Rattle.std.specs.List.Sorted.{IsPartitionedBy, IsPartitionPoint, IsSorted}
 use Rattle.std.specs.Ordering.{is_eq, is_gt, is_lt}
 use Rattle.std.proofs.lemmas.Bool.{and_parts, and_from, and_left, and_right, both_ways, eq-eqb, not-true}
 use Rattle.std.proofs.lemmas.Int.{ints}
-use Rattle.std.proofs.lemmas.List.Elements.{filter_passes, recursion_from_All}
+use Rattle.std.proofs.lemmas.List.{drop_more}
+use Rattle.std.proofs.lemmas.List.Elements.{filter_passes, All-same}
 use Rattle.std.proofs.lemmas.Cmp.{tied_itself}
 use Rattle.std.proofs.lemmas.List.Sorted.{ranks_by, sorted_far}
 use Rattle.std.proofs.lemmas.Option.{get_or_from_slice_get}
 use Rattle.order.proofs.Laws.{IsLeast, IsRising, rising_from_sorted}
-use Rattle.sched_types.specs.Timetable.{Timetable, base_of}
+use Rattle.sched_types.specs.Timetable.{Timetable, is_run, base_of}
 use Rattle.sched_types.proofs.DepartureOrder.{filter_between}
 use Rattle.stop_index.specs.declared.reached.Reached.{Reached}
 use Rattle.stop_index.specs.declared.slot.Slot.{Slot}
@@ -20,9 +21,9 @@ use Rattle.stop_index.specs.Index.{departure_cmp}
 use Rattle.stop_index.specs.Left.{slot_at, runs_on, slots_on, slots_before, is_ahead, is_left, is_from, AreDepartures}
 use Rattle.stop_index.specs.First.{IsFirst}
 use Rattle.stop_index.proofs.Counts.{one, one_is, one_not, not_one, count-cons, count_fewer, count-map, count-filter, count_never, once_flat, range_once}
-use Rattle.stop_index.proofs.Ordered.{is_equal, above_is, rising_filter}
+use Rattle.stop_index.proofs.Ordered.{is_equal, above_is, rising_filter, rising_drop}
 use Rattle.stop_index.proofs.Instants.{slot_total, departure_total, same_slot, seconds_up, on_day}
-use Rattle.stop_index.proofs.Ahead.{ahead_up, not_left}
+use Rattle.stop_index.proofs.Ahead.{ahead_up, left_from, not_left}
 use Rattle.stop_index.proofs.Firsts.{is_same, first_of_rising}
 
 -- ---- in order
@@ -152,6 +153,40 @@ module _ (t : Timetable) (day : ℕ) (reached : Reached) (end : ℤ) where
 
   pub left_past : (x : TripDeparture) (xs : List TripDeparture) → end ≤ℤ (slot_on x).at → IsRising departure_total (x ∷ xs) → left_of (x ∷ xs) ≡ []
   left_past x xs late up = none_later (x ∷ xs) x late (ap is_gt (tied_itself departure_total x), up.0)
+
+  -- ---- at one of a list of those that are still to come
+
+  module _ (list : List TripDeparture) (i : ℕ) (d : TripDeparture) (found : Slot) (h : i < length list) (is : found ≡ slot_on (get_or list i d)) where
+    own_run : runs_on t day (get_or list i d) ≡ is_run t found.run
+    own_run = ap (λ (s : Slot). is_run t s.run) (sym is)
+
+    pub left_next : is_run t found.run ≡ false → left_of (drop (i + 1) list) ≡ left_of (drop i list)
+    left_next idle = sym (ap left_of (drop_more list i d h) ∙ left_idle (get_or list i d) (drop (i + 1) list) (own_run ∙ idle))
+
+    pub left_found : is_run t found.run ≡ true → is_ahead reached found ≡ true → found.at <ℤ end → left_of (drop i list) ≡ found ∷ left_of (drop (i + 1) list)
+    left_found runs to_come before =
+        ap left_of (drop_more list i d h)
+        ∙ left_here (get_or list i d) (drop (i + 1) list) (own_run ∙ runs) (ap (is_left reached end) (sym is) ∙ left_from reached end found to_come before)
+        ∙ ap (λ s. s ∷ left_of (drop (i + 1) list)) (sym is)
+
+    pub left_over : IsRising departure_total (drop i list) → end ≤ℤ found.at → left_of (drop i list) ≡ []
+    left_over up late =
+        let later : end ≤ℤ (slot_on (get_or list i d)).at = subst (λ (s : Slot). end ≤ℤ s.at) is late in
+        ap left_of (drop_more list i d h)
+        ∙ left_past (get_or list i d) (drop (i + 1) list) later (subst (λ (xs : List TripDeparture). IsRising departure_total xs) (drop_more list i d h) up)
+
+-- those that are ahead, by any name of the base
+module _ (t : Timetable) (day : ℕ) (reached : Reached) (end : ℤ) (departures list : List TripDeparture) (base : ℤ) (same : base ≡ base_of t day) (is : list ≡ filter (ahead reached base day) departures) where
+  pub left_begins : left_of t day reached end list ≡ left_of t day reached end departures
+  left_begins = ap (left_of t day reached end) (is ∙ ap (λ b. filter (ahead reached b day) departures) same) ∙ left_ahead_are t day reached end departures
+
+  pub all_ahead : (i : ℕ) (d : TripDeparture) → i < length list → is_ahead reached (slot_at base day (get_or list i d)) ≡ true
+  all_ahead i d h = All-same (λ x. ahead reached base day x ≡ true) list (filter (ahead reached base day) departures) is (filter_passes (ahead reached base day) departures) i d h
+
+  pub all_rise : IsSorted departure_cmp departures → (i : ℕ) → IsRising departure_total (drop i list)
+  all_rise sorted i =
+      rising_drop departure_total i list
+      (subst (λ (xs : List TripDeparture). IsRising departure_total xs) (sym is) (rising_filter departure_total (ahead reached base day) departures (rising_of departures sorted)))
 
 -- ---- each departure once
 

@@ -1,6 +1,6 @@
 -- The first of some departures: of a rising list, of two lists, and what is left after it.
 use Rattle.std.proofs.Common.{◌≡◌, ℕ, zero, suc, ◌+◌, ◌<◌, ◌≤◌, Bool, true, false, not, ◌&&◌, cond, Option, Some, None, List, [], ◌∷◌, ◌++◌, filter, slice_get, count_by, ℤ, pos, ◌+ℤ◌, ◌≤ℤ◌, ◌<ℤ◌, int_lt, zero-add, refl, sym, ap, subst, ◌∙◌, Less, Equal, Greater, arith}
-use Rattle.std.specs.Prelude.{if◌then◌else◌}
+use Rattle.std.specs.Prelude.{if◌then◌else◌, IfSome}
 use Rattle.std.specs.Ordering.{is_eq, is_gt, is_lt}
 use Rattle.std.specs.declared.cmp.Ordering.{Ordering}
 use Rattle.std.proofs.lemmas.Bool.{and_parts, and_from, and_left, and_right}
@@ -145,8 +145,9 @@ earlier_none None = refl
 earlier_none (Some b) = refl
 
 -- the best so far leaves before the end
-pub best_before : (reached : Reached) (end : ℤ) (xs : List Slot) (b : Slot) → IsFirst (is_left reached end) xs (Some b) → b.at <ℤ end
-best_before reached end xs b best = left_before reached end b best.passing
+pub best_before : (reached : Reached) (end : ℤ) (xs : List Slot) (best : Option Slot) → IsFirst (is_left reached end) xs best → IfSome best (λ b. b.at <ℤ end)
+best_before reached end xs None none = tt
+best_before reached end xs (Some b) best = left_before reached end b best.passing
 
 -- ---- what is left after the first
 

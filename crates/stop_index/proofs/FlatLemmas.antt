@@ -1,5 +1,5 @@
 -- Lists one after another in one list.
-use Rattle.std.proofs.Common.{◌≡◌, ℕ, zero, suc, ◌+◌, ◌-◌, ◌<◌, ◌≤◌, List, [], ◌∷◌, ◌++◌, length, map, get_or, take, drop, slice_get, slice_index, slice_range, unwrap_or, append-nil, append_assoc, zero-add, refl, sym, ap, ◌∙◌, inl, inr, arith}
+use Rattle.std.proofs.Common.{◌≡◌, ℕ, zero, suc, ◌+◌, ◌-◌, ◌<◌, ◌≤◌, List, [], ◌∷◌, ◌++◌, length, map, get_or, take, drop, slice_get, slice_index, slice_range, unwrap_or, append-nil, append_assoc, zero-add, refl, sym, ap, subst, ◌∙◌, inl, inr, arith}
 use Rattle.std.specs.List.{range_with_len}
 use Rattle.std.proofs.lemmas.Bool.{cases_lt}
 use Rattle.std.proofs.lemmas.List.{get_or_append_left, get_or_push, length_push, length-append, length-drop, length-map, take_all, take-append-le, drop-append-le, drop_at, map-append}
@@ -116,6 +116,15 @@ flat_more offsets departures list sorted left all n size is flat = record {
       ∙ ap (λ l. lists_in offsets departures ++ l ∷ map (ordered departure_cmp) left) is
       ∙ flat.goes;
 }
+
+pub flat_begins : (offsets : List ℕ) (departures : List TripDeparture) (left all : List (List TripDeparture)) → offsets ≡ 0 ∷ [] → departures ≡ [] → left ≡ all → IsFlat offsets departures left all
+flat_begins offsets departures left all first none same = rw (first, none, same) (flat_none all)
+
+pub flat_step : (offsets offsets' : List ℕ) (departures departures' list sorted : List TripDeparture) (before left all : List (List TripDeparture)) (n : ℕ) → offsets' ≡ offsets ++ n ∷ [] → departures' ≡ departures ++ sorted
+    → n ≡ length departures' → sorted ≡ ordered departure_cmp list → before ≡ list ∷ left → IsFlat offsets departures before all → IsFlat offsets' departures' left all
+flat_step offsets offsets' departures departures' list sorted before left all n pushed extended size is here flat =
+    let P : List (List TripDeparture) → Type 0 = λ ls. IsFlat offsets departures ls all in
+    rw (pushed, extended) (flat_more offsets departures list sorted left all n (size ∙ ap length extended) is (subst P here flat))
 
 pub flat_all : (offsets : List ℕ) (departures : List TripDeparture) (left all : List (List TripDeparture)) → left ≡ [] → IsFlat offsets departures left all → lists_in offsets departures ≡ map (ordered departure_cmp) all
 flat_all offsets departures left all none flat =

@@ -3,16 +3,18 @@ use Rattle.std.proofs.Common.{◌≡◌, ◌≢◌, ℕ, zero, suc, ◌+◌, ◌
 use Rattle.std.specs.Global.{Vec}
 use Rattle.std.specs.List.{enumerate_from, flat_map, range_with_len}
 use Rattle.std.proofs.lemmas.Bool.{cases_order, eq-eqb, ne_eqb}
-use Rattle.std.proofs.lemmas.List.{same_lists, get_or-map, length-map, get_or-set_same, get_or-set_other, length-set, map-append, take_all, take_more}
+use Rattle.std.proofs.lemmas.List.{same_lists, get_or-map, length-map, get_or-set_same, get_or-set_other, length-set, map-append, map-set, take_all, take_more, length-take, get_or-take}
 use Rattle.std.proofs.lemmas.List.Concat.{flat_map-append}
 use Rattle.std.proofs.lemmas.List.Elements.{filter-append}
 use Rattle.std.proofs.lemmas.List.FromFn.{get_or-map-range_with_len, length-map-range_with_len}
+use Rattle.std.proofs.lemmas.Option.{slice_get-get_or}
 use Rattle.order.proofs.Lists.{range_more}
 use Rattle.sched_types.specs.declared.rows.Place.{Place}
-use Rattle.sched_types.specs.Timetable.{Timetable, places_of}
+use Rattle.sched_types.specs.Timetable.{Timetable, IsTimetable, places_of}
 use Rattle.stop_index.specs.declared.trip_departure.TripDeparture.{TripDeparture}
 use Rattle.stop_index.specs.Slots.{is_at, departures_of}
-use Rattle.stop_index.specs.Index.{trip_departure, trip_departures}
+use Rattle.order.specs.Order.{ordered}
+use Rattle.stop_index.specs.Index.{Index, trip_departure, trip_departures, departure_cmp, departures_at, days_are_rising, index_of}
 use Rattle.stop_index.specs.Gathered.{for_stops, gathered, AddsTrip}
 
 -- ---- lists of lists
@@ -123,6 +125,28 @@ module _ (trip : ℕ) where
           ∙ ap (λ ps. for_stops t (λ stop. before stop ++ at_stop stop ps)) (take_all i places h ∙ are);
     }
 
+-- a place's stop is one of the timetable's
+pub place_within : (t : Timetable) → IsTimetable t → (trip n i : ℕ) (places : List Place) (none : Place) → places ≡ places_of t trip → i < length (take n places) → (get_or (take n places) i none).stop < length t.stops
+place_within t sound trip n i places none are h =
+    let short : i < n = omega (arith, length-take n places) in
+    let within : i < length places = omega (arith, length-take n places) in
+    let here : get_or (take n places) i none ≡ get_or (places_of t trip) i none = get_or-take n places i none short ∙ ap (λ ps. get_or ps i none) are in
+    subst (λ (p : Place). p.stop < length t.stops) (sym here)
+    (sound.stop_is trip i (get_or (places_of t trip) i none) (slice_get-get_or (places_of t trip) i none (subst (λ (ps : List Place). i < length ps) are within)))
+
+-- one place more, where lists are vectors
+pub pushes_more : (t : Timetable) (trip i : ℕ) (places : List Place) (none : Place) (old : List (List TripDeparture)) (lists : List (Vec TripDeparture)) (list pushed : Vec TripDeparture) → i < length places
+    → (get_or places i none).stop < length t.stops → list ≡ get_or lists (get_or places i none).stop list → pushed.items ≡ list.items ++ trip_departure trip (i, get_or places i none) ∷ []
+    → IsAdding trip t (take i places) old (map (λ v. v.items) lists)
+    → IsAdding trip t (take (i + 1) places) old (map (λ v. v.items) (set lists (get_or places i none).stop pushed))
+pushes_more t trip i places none old lists list pushed h within at is adding =
+    let stop = (get_or places i none).stop in
+    let inside : stop < length lists = omega (arith, adding.size, length-map lists (λ v. v.items)) in
+    let own : list.items ≡ get_or (map (λ v. v.items) lists) stop list.items = ap (λ v. v.items) at ∙ sym (get_or-map (λ v. v.items) lists stop list list.items inside) in
+    let P : List (List TripDeparture) → Type 0 = λ ls. IsAdding trip t (take (i + 1) places) old ls in
+    subst P (sym (map-set (λ v. v.items) lists stop pushed ∙ ap (set (map (λ v. v.items) lists) stop) is))
+    (adds_more trip t places i none old (map (λ v. v.items) lists) list.items h within own adding)
+
 -- ---- one trip more
 
 pub gathers_more : (t : Timetable) (trip : ℕ) (old new : List (List TripDeparture)) → old ≡ gathered t trip → AddsTrip t trip old new → new ≡ gathered t (trip + 1)
@@ -138,3 +162,21 @@ pub as_many : (t : Timetable) (trip : ℕ) (lists : List (Vec TripDeparture)) �
 as_many t trip lists is =
     sym (length-map lists (λ v. v.items)) ∙ ap length is
     ∙ length-map-range_with_len (λ stop. flat_map (trip_departures t stop) (range_with_len 0 trip)) 0 (length t.stops)
+
+-- ---- all stops
+
+twice : {A B C : Type 0} (f : A → B) (g : B → C) (xs : List A) → map g (map f xs) ≡ map (λ x. g (f x)) xs
+twice f g [] = refl
+twice f g (x ∷ xs) = ap (λ ys. g (f x) ∷ ys) (twice f g xs)
+
+abbrev index : List (List TripDeparture) → Bool → Index
+index departures rise = record { departures = departures; days_rise = rise }
+
+-- what was gathered of all trips, each list in order, makes the index
+pub built : (t : Timetable) (lists flat : List (List TripDeparture)) (rise : Bool) → lists ≡ gathered t (length t.trips) → flat ≡ map (ordered departure_cmp) lists → rise ≡ days_are_rising t → index flat rise ≡ index_of t
+unfolding index_of
+built t lists flat rise are ordered_are rises =
+    ap (λ ds. index ds rise)
+    (ordered_are ∙ ap (map (ordered departure_cmp)) are
+    ∙ twice (λ stop. flat_map (trip_departures t stop) (range_with_len 0 (length t.trips))) (ordered departure_cmp) (range_with_len 0 (length t.stops)))
+    ∙ ap (λ r. index (map (departures_at t) (range_with_len 0 (length t.stops))) r) rises

@@ -3,8 +3,9 @@ pub mod Ordered
 mod Instants
 mod Ahead
 mod Firsts
-mod DayLemmas
 mod DaySlots
+mod DayLemmas
+mod NextLeft
 mod SameSlots
 mod GatherLemmas
 mod FlatLemmas

@@ -1,5 +1,5 @@
 -- Lists in an order that only equal items tie in: known by their items alone.
-use Rattle.std.proofs.Common.{◌≡◌, ℕ, zero, suc, ◌+◌, ◌<◌, Bool, true, false, not, ◌&&◌, cond, List, [], ◌∷◌, length, filter, get_or, replicate, count_by, refl, sym, ap, subst, ◌∙◌, Less, Equal, Greater, arith}
+use Rattle.std.proofs.Common.{◌≡◌, ℕ, zero, suc, ◌+◌, ◌<◌, Bool, true, false, not, ◌&&◌, cond, List, [], ◌∷◌, length, filter, drop, get_or, replicate, count_by, refl, sym, ap, subst, ◌∙◌, Less, Equal, Greater, arith}
 use Rattle.std.specs.Prelude.{if◌then◌else◌}
 use Rattle.std.specs.Cmp.{IsTotalOrder}
 use Rattle.std.specs.List.Sorted.{IsPermutation, IsSorted, ties}
@@ -84,6 +84,11 @@ module _ {X : Type 0} {cmp : X → X → Ordering} (o : IsTotalOrder cmp) where
     by_test : (b : Bool) → IsRising o (filter p xs) → IsRising o (cond b (x ∷ filter p xs) (filter p xs))
     by_test true rest = (least_filter p x xs up.0, rest)
     by_test false rest = rest
+
+  pub rising_drop : (n : ℕ) (xs : List X) → IsRising o xs → IsRising o (drop n xs)
+  rising_drop zero xs up = up
+  rising_drop (suc n) [] up = tt
+  rising_drop (suc n) (x ∷ xs) up = rising_drop n xs up.1
 
   sorted_at : (xs : List X) → IsRising o xs → (k : ℕ) (d : X) → k + 1 < length xs → is_lt (cmp (get_or xs (k + 1) d) (get_or xs k d)) ≡ false
   sorted_at [] up k d h = absurd (omega arith)
