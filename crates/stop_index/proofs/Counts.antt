@@ -56,8 +56,12 @@ module _ {X : Type 0} where
   pub count_range_none : (p : X → Bool) (f : ℕ → List X) (a n : ℕ) → ((k : ℕ) → a ≤ k → k < a + n → count_by p (f k) ≡ 0) → count_by p (flat_map f (range_with_len a n)) ≡ 0
   count_range_none p f a zero none = refl
   count_range_none p f a (suc n) none =
-      omega (arith, count-append p (f a) (flat_map f (range_with_len (a + 1) n)), none a (omega arith) (omega arith),
-      count_range_none p f (a + 1) n (λ k h l. none k (omega arith) (omega arith)))
+      omega (
+        arith,
+        count-append p (f a) (flat_map f (range_with_len (a + 1) n)),
+        none a (omega arith) (omega arith),
+        count_range_none p f (a + 1) n (λ k h l. none k (omega arith) (omega arith)),
+      )
 
 pub count-map : {X Y : Type 0} (p : Y → Bool) (f : X → Y) (xs : List X) → count_by p (map f xs) ≡ count_by (λ x. p (f x)) xs
 count-map p f [] = refl
@@ -140,5 +144,7 @@ same_map f xs ys same = record { counts = λ p. count-map p f xs ∙ same.counts
 pub same_flat : {A X : Type 0} (f g : A → List X) (items : List A) → ((a : A) → SameItems (f a) (g a)) → SameItems (flat_map f items) (flat_map g items)
 same_flat f g [] same = same_are [] [] refl
 same_flat f g (a ∷ items) same =
-    record { counts = λ p. count-append p (f a) (flat_map f items) ∙ ap (λ n. n + count_by p (flat_map f items)) ((same a).counts p)
-        ∙ ap (λ n. count_by p (g a) + n) ((same_flat f g items same).counts p) ∙ sym (count-append p (g a) (flat_map g items)) }
+    record {
+      counts = λ p. count-append p (f a) (flat_map f items) ∙ ap (λ n. n + count_by p (flat_map f items)) ((same a).counts p)
+          ∙ ap (λ n. count_by p (g a) + n) ((same_flat f g items same).counts p) ∙ sym (count-append p (g a) (flat_map g items));
+    }

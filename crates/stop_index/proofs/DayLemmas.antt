@@ -19,7 +19,7 @@ use Rattle.stop_index.specs.Index.{departure_cmp, days_are_rising}
 use Rattle.stop_index.specs.Left.{slot_at, runs_on, slots_on, slots_before, is_ahead, is_left, instant_of, IsOver}
 use Rattle.stop_index.specs.First.{IsFirst, earlier_of, until_of}
 use Rattle.stop_index.proofs.Counts.{one, one_not, count-cons, count-append, count-map, count-filter, count_never, count_range_none}
-use Rattle.stop_index.proofs.Instants.{is_le_z, le_is, is_lt_z, not_lt_z}
+use Rattle.stop_index.proofs.Instants.{wrapped, is_le_z, le_is, is_lt_z, not_lt_z}
 use Rattle.stop_index.proofs.Ahead.{not_ahead, not_left}
 use Rattle.stop_index.proofs.DaySlots.{first_found}
 use Rattle.stop_index.proofs.Firsts.{first_joined, earlier_none}
@@ -84,8 +84,12 @@ module _ (t : Timetable) where
 
   -- ---- bases
 
-  pub base_is : (day : ℕ) (base : ℤ) → slice_get t.bases day ≡ Some base → base_of t day ≡ base
+  base_is : (day : ℕ) (base : ℤ) → slice_get t.bases day ≡ Some base → base_of t day ≡ base
   base_is day base at = ap (λ o. unwrap_or o (pos 0)) at
+
+  -- the base that a look-up gives
+  pub looked_up : (day : ℕ) (base : ℤ) → slice_get t.bases day ≡ Some base → IsSmall base → wrapped base ≡ base_of t day
+  looked_up day base at small = to_z-of_z w64 base (fits_seconds base small) ∙ sym (base_is day base at)
 
   -- ---- departures of a day, none of which passes
 
@@ -125,8 +129,12 @@ module _ (t : Timetable) where
     over_each (d ∷ ds) short =
         let within : d.seconds ≤ longest = short.0 in
         let before : is_ahead reached (slot_at (base_of t day) day d) ≡ false = not_ahead reached (slot_at (base_of t day) day d) (omega (arith, ints)) in
-        omega (arith, count-cons (λ z. runs_on t day z && is_ahead reached (slot_at (base_of t day) day z)) d ds,
-        one_not (runs_on t day d && is_ahead reached (slot_at (base_of t day) day d)) (and_right (runs_on t day d) (is_ahead reached (slot_at (base_of t day) day d)) before), over_each ds short.1)
+        omega (
+          arith,
+          count-cons (λ z. runs_on t day z && is_ahead reached (slot_at (base_of t day) day z)) d ds,
+          one_not (runs_on t day d && is_ahead reached (slot_at (base_of t day) day d)) (and_right (runs_on t day d) (is_ahead reached (slot_at (base_of t day) day d)) before),
+          over_each ds short.1,
+        )
 
     over_on : (departures : List TripDeparture) → AllByRecursion (λ d. d.seconds ≤ longest) departures → count_by (is_ahead reached) (slots_on t departures day) ≡ 0
     over_on departures short =
@@ -165,9 +173,6 @@ module _ (t : Timetable) (reached : Reached) (end : ℤ) (departures : List Trip
       (subst (λ (o : Option Slot). IsFirst (is_left reached end) (slots_before t departures day ++ flat_map (slots_on t departures) (range_with_len day (n - day))) o) (earlier_none best) joined)
 
 -- ---- a pass over the days
-
-abbrev wrapped : ℤ → ℤ
-wrapped z = to_z w64 (of_z w64 z)
 
 module _ (t : Timetable) (day : ℕ) (here before : ℤ) (from : 1 ≤ day) (at : slice_get t.bases day ≡ Some here) (at_before : slice_get t.bases (day - 1) ≡ Some before) (small : IsSmall here) (small_before : IsSmall before) where
   is_here : base_of t (day - 1 + 1) ≡ here
@@ -230,10 +235,3 @@ module _ (t : Timetable) (longest : ℕ) (instant : ℤ) where
 
   pub before_high : (low high middle : ℕ) → AreBefore t longest instant low high → low ≤ middle → middle < high → AreBefore t longest instant low middle
   before_high low high middle are h l = record { ordered = h; within = omega (arith, are.within); before = are.before }
-
--- ---- sums of seconds fit 64 bits
-
-pub base_small : (t : Timetable) → IsTimetable t → (day : ℕ) → day < length t.bases → IsSmall (base_of t day)
-base_small t sound day h =
-    let at = slice_get-get_or t.bases day (pos 0) h in
-    subst (λ z. IsSmall z) (sym (base_is t day (get_or t.bases day (pos 0)) at)) (sound.bases_small day (get_or t.bases day (pos 0)) at)

@@ -206,10 +206,13 @@ module _ (t : Timetable) (departures : List TripDeparture) (once : (trip place :
 
   own_day : (day : ℕ) → count_by (is_same x) (slots_on t departures day) ≤ 1
   own_day day =
-      omega (arith, count-map (is_same x) (slot_at (base_of t day) day) (filter (runs_on t day) departures),
-      count-filter (runs_on t day) (λ d. is_same x (slot_at (base_of t day) day d)) departures,
-      count_fewer (is_from x.run.trip x.place) (λ d. runs_on t day d && is_same x (slot_at (base_of t day) day d)) from departures,
-      once x.run.trip x.place)
+      omega (
+        arith,
+        count-map (is_same x) (slot_at (base_of t day) day) (filter (runs_on t day) departures),
+        count-filter (runs_on t day) (λ d. is_same x (slot_at (base_of t day) day d)) departures,
+        count_fewer (is_from x.run.trip x.place) (λ d. runs_on t day d && is_same x (slot_at (base_of t day) day d)) from departures,
+        once x.run.trip x.place,
+      )
     where
       from : (d : TripDeparture) → (runs_on t day d && is_same x (slot_at (base_of t day) day d)) ≡ true → is_from x.run.trip x.place d ≡ true
       from d e =

@@ -189,8 +189,14 @@ module _ (reached : Reached) (end : ℤ) (x : Slot) (ahead : is_ahead reached x 
   split_count h (y ∷ ys) passes none =
       let parts = count-cons (λ z. was z && is_above x z) y ys in
       let here : (was y && is_above x y) ≡ false = not_one (was y && is_above x y) (omega (arith, parts, none)) in
-      omega (arith, count-cons (λ z. was z && h z) y ys, count-cons (λ z. h x && is_same x z) y ys, count-cons (λ z. now z && h z) y ys,
-      still h y (slot_cmp x y) refl passes here, split_count h ys passes (omega (arith, parts, none)))
+      omega (
+        arith,
+        count-cons (λ z. was z && h z) y ys,
+        count-cons (λ z. h x && is_same x z) y ys,
+        count-cons (λ z. now z && h z) y ys,
+        still h y (slot_cmp x y) refl passes here,
+        split_count h ys passes (omega (arith, parts, none)),
+      )
 
   never_both : (r : Ordering) (b : Bool) → ((is_lt r && b) && is_gt r) ≡ false
   never_both Less b = and_right b false refl
@@ -203,8 +209,10 @@ module _ (reached : Reached) (end : ℤ) (x : Slot) (ahead : is_ahead reached x 
     here_once false = count_never (λ y. false) all (λ y. refl)
 
     first_and_rest : SameItems (filter was all) (x ∷ filter now all)
-    first_and_rest = record { counts = λ h.
-        omega (arith, count-filter was h all, split_count h all first.passing first.first, here_once (h x), count-cons h x (filter now all), count-filter now h all) }
+    first_and_rest = record {
+      counts = λ h.
+          omega (arith, count-filter was h all, split_count h all first.passing first.first, here_once (h x), count-cons h x (filter now all), count-filter now h all);
+    }
 
     pub next_left : ordered slot_cmp (filter was all) ≡ x ∷ ordered slot_cmp (filter now all)
     next_left =

@@ -1,5 +1,5 @@
 -- Tests of instants, and the order of departures.
-use Rattle.std.proofs.Common.{◌≡◌, ℕ, ◌+◌, ◌<◌, ◌≤◌, Bool, true, false, ◌&&◌, nat_lt, ℤ, pos, ◌+ℤ◌, ◌≤ℤ◌, ◌<ℤ◌, int_lt, int_le, refl, sym, ap, ◌∙◌, inl, inr, Less, Equal, Greater, arith}
+use Rattle.std.proofs.Common.{◌≡◌, ℕ, ◌+◌, ◌<◌, ◌≤◌, Bool, true, false, ◌&&◌, nat_lt, ℤ, pos, ◌+ℤ◌, ◌≤ℤ◌, ◌<ℤ◌, int_lt, int_le, w64, to_z, of_z, SFits, refl, sym, ap, ◌∙◌, inl, inr, Less, Equal, Greater, arith}
 use Rattle.std.specs.Cmp.{IsTotalOrder}
 use Rattle.std.specs.FinMap.{nat_cmp-IsAntisymmetric, int_cmp-IsAntisymmetric}
 use Rattle.std.specs.Ordering.{int_cmp, nat_cmp, is_eq, is_gt, is_lt, ordering_then}
@@ -7,7 +7,7 @@ use Rattle.std.specs.declared.cmp.Ordering.{Ordering}
 use Rattle.std.proofs.lemmas.Bool.{cases_order}
 use Rattle.std.proofs.lemmas.Bool.Decides.{nat_tests}
 use Rattle.std.proofs.lemmas.Cmp.{int_cmp_total, nat_cmp_total, on_total, then_total, tied_itself, ranked, int_ranked}
-use Rattle.std.proofs.lemmas.Int.{ints}
+use Rattle.std.proofs.lemmas.Int.{ints, to_z-of_z}
 use Rattle.stop_index.specs.declared.slot.Slot.{Slot}
 use Rattle.stop_index.specs.declared.trip_departure.TripDeparture.{TripDeparture}
 use Rattle.stop_index.specs.Slots.{slot_cmp}
@@ -33,6 +33,21 @@ le_is a b h = grind (arith, ints)
 
 pub is_le_z : (a b : ℤ) → int_le a b ≡ true → a ≤ℤ b
 is_le_z a b e = grind (arith, ints)
+
+-- ---- instants as the code holds them
+
+abbrev pub wrapped : ℤ → ℤ
+wrapped z = to_z w64 (of_z w64 z)
+
+pub before_end : (end at : ℤ) → SFits w64 at → int_le end (wrapped at) ≡ false → at <ℤ end
+before_end end at fits e =
+    let plain : int_le end at ≡ false = ap (int_le end) (sym (to_z-of_z w64 at fits)) ∙ e in
+    grind (arith, ints)
+
+pub from_end : (end at : ℤ) → SFits w64 at → int_le end (wrapped at) ≡ true → end ≤ℤ at
+from_end end at fits e =
+    let plain : int_le end at ≡ true = ap (int_le end) (sym (to_z-of_z w64 at fits)) ∙ e in
+    grind (arith, ints)
 
 -- ---- the orders
 

@@ -1,11 +1,13 @@
 pub mod Counts
 pub mod Ordered
-mod Instants
+pub mod Instants
 mod Ahead
-mod Firsts
+pub mod Firsts
 mod DaySlots
 mod DayLemmas
 mod NextLeft
 mod SameSlots
 mod GatherLemmas
 mod FlatLemmas
+pub mod Laws
+mod CityDepartures

@@ -104,7 +104,8 @@ module _ (t : Timetable) (stop : ℕ) where
       (same_filter (runs_on t day) (departures_at t stop) gathered_at (ordered_items departure_total gathered_at)))
       (same_are (slots_on t gathered_at day) (flat_map (λ trip. of_run (run_on day trip)) trips) (of_day day))
 
-  all_same : SameItems (slots_before t (departures_at t stop) (length t.bases)) (slots_at t stop)
+  -- the departures that are kept, on all days, are all departures at the stop
+  pub all_same : SameItems (slots_before t (departures_at t stop) (length t.bases)) (slots_at t stop)
   all_same =
       same_on (slots_before t (departures_at t stop) (length t.bases)) (flat_map (λ day. flat_map (λ trip. of_run (run_on day trip)) trips) days) (slots_at t stop)
       (same_flat (slots_on t (departures_at t stop)) (λ day. flat_map (λ trip. of_run (run_on day trip)) trips) days on_each_day)
@@ -117,7 +118,7 @@ module _ (t : Timetable) (stop : ℕ) where
       ordered_same slot_total same_slot (filter (is_between start end) (slots_before t (departures_at t stop) (length t.bases))) (filter (is_between start end) (slots_at t stop))
       (same_filter (is_between start end) (slots_before t (departures_at t stop) (length t.bases)) (slots_at t stop) all_same)
 
-  -- ---- they are in order, each once
+  -- ---- an index keeps its departures in order, each once
 
   module _ (trip place : ℕ) where
     of_other : (n : ℕ) → nat_eq n trip ≡ false → count_by (is_from trip place) (trip_departures t stop n) ≡ 0
@@ -127,16 +128,22 @@ module _ (t : Timetable) (stop : ℕ) where
 
     of_own : (n : ℕ) → count_by (is_from trip place) (trip_departures t stop n) ≤ 1
     of_own n =
-        omega (arith, count-map (is_from trip place) (trip_departure n) (filter (is_at stop) (departures_of t n)),
-        count-filter (is_at stop) (λ m. is_from trip place (trip_departure n m)) (departures_of t n),
-        count_fewer (numbered place) (λ m. is_at stop m && is_from trip place (trip_departure n m))
-        (λ m e. (and_parts (nat_eq n trip) (nat_eq m.0 place) ((and_parts (is_at stop m) (is_from trip place (trip_departure n m)) e).1)).1) (departures_of t n),
-        numbers_once place 0 (take (length (places_of t n) - 1) (places_of t n)))
+        omega (
+          arith,
+          count-map (is_from trip place) (trip_departure n) (filter (is_at stop) (departures_of t n)),
+          count-filter (is_at stop) (λ m. is_from trip place (trip_departure n m)) (departures_of t n),
+          count_fewer (numbered place) (λ m. is_at stop m && is_from trip place (trip_departure n m))
+              (λ m e. (and_parts (nat_eq n trip) (nat_eq m.0 place) ((and_parts (is_at stop m) (is_from trip place (trip_departure n m)) e).1)).1) (departures_of t n),
+          numbers_once place 0 (take (length (places_of t n) - 1) (places_of t n)),
+        )
 
     once_at : count_by (is_from trip place) (departures_at t stop) ≤ 1
     once_at =
-        omega (arith, (ordered_items departure_total gathered_at).counts (is_from trip place),
-        once_flat (is_from trip place) (λ n. nat_eq n trip) (trip_departures t stop) of_other of_own trips (range_once trip 0 (length t.trips)))
+        omega (
+          arith,
+          (ordered_items departure_total gathered_at).counts (is_from trip place),
+          once_flat (is_from trip place) (λ n. nat_eq n trip) (trip_departures t stop) of_other of_own trips (range_once trip 0 (length t.trips)),
+        )
 
   pub departures_are : AreDepartures (departures_at t stop)
   departures_are = record {

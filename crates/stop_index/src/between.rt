@@ -77,7 +77,14 @@ impl<'a> Iterator for Between<'a> {
         let departures = self.departures;
         let rise = self.days_rise;
         self.first_day = first_day_left(plan, departures, rise, self.first_day, &self.reached);
-        let slot = first_left(plan, departures, rise, self.first_day, &self.reached, self.end)?;
+        let slot = first_left(
+            plan,
+            departures,
+            rise,
+            self.first_day,
+            &self.reached,
+            self.end,
+        )?;
         self.reached = Reached::Departure(slot);
         Some(slot)
     }

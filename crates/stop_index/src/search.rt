@@ -25,8 +25,9 @@ fn ahead_on<'a>(
     ensures { result.now
         ≡ filter (λ departure. is_ahead reached.now (slot_at base day departure)) departures.now }
 {
-    let first = departures
-        .partition_point(|departure| !reached.is_before(&slot_at(base, day, *departure)));
+    let first = departures.partition_point(|departure| !reached.is_before(&slot_at(
+        base, day, *departure,
+    )));
     &departures[first..]
 }
 

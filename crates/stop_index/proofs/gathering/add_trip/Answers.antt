@@ -11,8 +11,12 @@ loop-i-init c = adds_none c.args.trip c.args.plan.now (map (λ v. v.items) c.arg
 pub index_mut-list-requires : goal.index_mut-list-requires
 index_mut-list-requires c =
     let none : Place = record { stop = 0; sequence = 0; arrival = 0; departure = 0; pickup = 0 } in
-    omega (arith, place_within c.args.plan.now c.sound.ensures c.args.trip c.saturating_sub.result c.loop-i.i c.stop_times-places.result.now none c.stop_times-places.ensures.value c.loop-i-test.true,
-    c.loop-i.invariant.size, length-map c.loop-i.lists.items (λ v. v.items))
+    omega (
+      arith,
+      place_within c.args.plan.now c.sound.ensures c.args.trip c.saturating_sub.result c.loop-i.i c.stop_times-places.result.now none c.stop_times-places.ensures.value c.loop-i-test.true,
+      c.loop-i.invariant.size,
+      length-map c.loop-i.lists.items (λ v. v.items),
+    )
 
 pub loop-i-preserved : goal.loop-i-preserved
 loop-i-preserved c =

@@ -5,14 +5,11 @@ use Rattle.std.proofs.lemmas.Int.{to_z-of_z}
 use Rattle.sched_types.specs.Timetable.{base_of}
 use Rattle.stop_index.specs.Left.{is_ahead, is_left, slots_before}
 use Rattle.stop_index.specs.First.{IsFirst}
-use Rattle.stop_index.proofs.Instants.{is_le_z}
+use Rattle.stop_index.proofs.Instants.{wrapped, is_le_z}
 use Rattle.stop_index.proofs.Ahead.{left_ahead}
 use Rattle.stop_index.proofs.Firsts.{first_fewer, best_before}
 use Rattle.stop_index.proofs.DayLemmas.{first_more, first_of_all}
 use Rattle.stop_index.proofs.search.first_left.Goals as goal
-
-abbrev wrapped : ℤ → ℤ
-wrapped z = to_z w64 (of_z w64 z)
 
 pub loop-day-init : goal.loop-day-init
 loop-day-init c =

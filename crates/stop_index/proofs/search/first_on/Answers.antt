@@ -3,33 +3,18 @@ use Rattle.std.proofs.Common.{◌≡◌, ◌+◌, ◌<◌, ◌≤◌, ℤ, pos, 
 use Rattle.std.proofs.lemmas.Int.{ints, to_z-of_z}
 use Rattle.std.proofs.lemmas.List.{drop_all}
 use Rattle.sched_types.specs.Timetable.{base_of}
-use Rattle.sched_types.proofs.Lists.{fits_seconds}
 use Rattle.stop_index.specs.declared.trip_departure.TripDeparture.{TripDeparture}
 use Rattle.stop_index.specs.declared.slot.Slot.{Slot}
 use Rattle.stop_index.specs.Left.{slot_at, is_ahead}
-use Rattle.stop_index.proofs.DayLemmas.{base_is}
+use Rattle.stop_index.proofs.Instants.{wrapped, before_end, from_end}
+use Rattle.stop_index.proofs.DayLemmas.{looked_up}
 use Rattle.stop_index.proofs.DaySlots.{left_of, left_begins, all_ahead, all_rise, left_next, left_found, left_over}
 use Rattle.stop_index.proofs.search.first_on.Goals as goal
-
-abbrev wrapped : ℤ → ℤ
-wrapped z = to_z w64 (of_z w64 z)
-
-before_end : (end at : ℤ) → SFits w64 at → int_le end (wrapped at) ≡ false → at <ℤ end
-before_end end at fits e =
-    let same : wrapped at ≡ at = to_z-of_z w64 at fits in
-    let plain : int_le end at ≡ false = ap (int_le end) (sym same) ∙ e in
-    grind (arith, ints)
-
-from_end : (end at : ℤ) → SFits w64 at → int_le end (wrapped at) ≡ true → end ≤ℤ at
-from_end end at fits e =
-    let same : wrapped at ≡ at = to_z-of_z w64 at fits in
-    let plain : int_le end at ≡ true = ap (int_le end) (sym same) ∙ e in
-    grind (arith, ints)
 
 pub loop-departure-init : goal.loop-departure-init
 loop-departure-init c =
     let base : wrapped c.base-base.result ≡ base_of c.args.plan.now c.args.day =
-    to_z-of_z w64 c.base-base.result (fits_seconds c.base-base.result c.base-base.ensures.small) ∙ sym (base_is c.args.plan.now c.args.day c.base-base.result c.base-base.ensures.value) in
+    looked_up c.args.plan.now c.args.day c.base-base.result c.base-base.ensures.value c.base-base.ensures.small in
     ap (λ ss. slice_get ss 0)
     (left_begins c.args.plan.now c.args.day c.args.reached.now (wrapped c.args.end) c.args.departures.now c.ahead_on-ahead.result.now (wrapped c.base-base.result) base c.ahead_on-ahead.ensures)
 
@@ -37,7 +22,7 @@ pub loop-departure-preserved : goal.loop-departure-preserved
 loop-departure-preserved c =
     let none : TripDeparture = record { seconds = 0; trip = 0; place = 0 } in
     let base : wrapped c.base-base.result ≡ base_of c.args.plan.now c.args.day =
-    to_z-of_z w64 c.base-base.result (fits_seconds c.base-base.result c.base-base.ensures.small) ∙ sym (base_is c.args.plan.now c.args.day c.base-base.result c.base-base.ensures.value) in
+    looked_up c.args.plan.now c.args.day c.base-base.result c.base-base.ensures.value c.base-base.ensures.small in
     let here = get_or c.ahead_on-ahead.result.now c.loop-departure.departure-index none in
     ap (λ ss. slice_get ss 0)
     (left_next c.args.plan.now c.args.day c.args.reached.now (wrapped c.args.end) c.ahead_on-ahead.result.now c.loop-departure.departure-index none c.slot_at-slot.result c.loop-departure-test.true
@@ -48,7 +33,7 @@ pub returns-then-slot-end : goal.returns-then-slot-end
 returns-then-slot-end c =
     let none : TripDeparture = record { seconds = 0; trip = 0; place = 0 } in
     let base : wrapped c.base-base.result ≡ base_of c.args.plan.now c.args.day =
-    to_z-of_z w64 c.base-base.result (fits_seconds c.base-base.result c.base-base.ensures.small) ∙ sym (base_is c.args.plan.now c.args.day c.base-base.result c.base-base.ensures.value) in
+    looked_up c.args.plan.now c.args.day c.base-base.result c.base-base.ensures.value c.base-base.ensures.small in
     let here = get_or c.ahead_on-ahead.result.now c.loop-departure.departure-index none in
     let fits : SFits w64 c.slot_at-slot.result.at = search rules in
     sym (ap (λ ss. slice_get ss 0)
@@ -63,7 +48,7 @@ pub returns-then-runs : goal.returns-then-runs
 returns-then-runs c =
     let none : TripDeparture = record { seconds = 0; trip = 0; place = 0 } in
     let base : wrapped c.base-base.result ≡ base_of c.args.plan.now c.args.day =
-    to_z-of_z w64 c.base-base.result (fits_seconds c.base-base.result c.base-base.ensures.small) ∙ sym (base_is c.args.plan.now c.args.day c.base-base.result c.base-base.ensures.value) in
+    looked_up c.args.plan.now c.args.day c.base-base.result c.base-base.ensures.value c.base-base.ensures.small in
     let here = get_or c.ahead_on-ahead.result.now c.loop-departure.departure-index none in
     let fits : SFits w64 c.slot_at-slot.result.at = search rules in
     sym (ap (λ ss. slice_get ss 0)

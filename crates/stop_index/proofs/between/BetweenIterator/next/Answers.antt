@@ -4,12 +4,10 @@ use Rattle.std.proofs.lemmas.Int.{to_z-of_z}
 use Rattle.stop_index.specs.declared.reached.Reached.TheVariants.{Departure}
 use Rattle.stop_index.specs.Left.{is_ahead, slots_before, slots_left}
 use Rattle.stop_index.proofs.Counts.{none_fewer}
+use Rattle.stop_index.proofs.Instants.{wrapped}
 use Rattle.stop_index.proofs.Ahead.{left_ahead, was_ahead}
 use Rattle.stop_index.proofs.NextLeft.{nothing_left, first_is_left}
 use Rattle.stop_index.proofs.between.BetweenIterator.next.Goals as goal
-
-abbrev wrapped : ℤ → ℤ
-wrapped z = to_z w64 (of_z w64 z)
 
 pub invariant_of-self : goal.invariant_of-self
 invariant_of-self c = record { are = c.self.invariant.are; rise_is = c.self.invariant.rise_is; over = c.first_day_left-self-inside.ensures }

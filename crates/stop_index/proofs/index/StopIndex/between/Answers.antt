@@ -6,11 +6,9 @@ use Rattle.stop_index.specs.declared.trip_departure.TripDeparture.{TripDeparture
 use Rattle.std.specs.Prelude.{List}
 use Rattle.stop_index.specs.Index.{Index, departures_at, index_of}
 use Rattle.stop_index.specs.Left.{AreDepartures, slots_left}
+use Rattle.stop_index.proofs.Instants.{wrapped}
 use Rattle.stop_index.proofs.SameSlots.{departures_are, kept_at, left_at_first}
 use Rattle.stop_index.proofs.index.StopIndex.between.Goals as goal
-
-abbrev wrapped : ℤ → ℤ
-wrapped z = to_z w64 (of_z w64 z)
 
 pub over-requires-clause-are : goal.over-requires-clause-are
 over-requires-clause-are c =
