@@ -1,8 +1,7 @@
 -- Which departures are still to come, and which of them are left before an end.
-use Rattle.std.proofs.Common.{◌≡◌, ℕ, ◌+◌, ◌<◌, ◌≤◌, Bool, true, false, not, ◌&&◌, ℤ, pos, ◌+ℤ◌, ◌≤ℤ◌, ◌<ℤ◌, int_lt, int_le, refl, sym, ap, ◌∙◌, Less, Equal, Greater, arith}
-use Rattle.std.specs.Ordering.{is_eq, is_gt, is_lt}
-use Rattle.std.specs.declared.cmp.Ordering.{Ordering}
-use Rattle.std.proofs.lemmas.Bool.{and_parts, and_from, and_left, and_right}
+use Rattle.std.proofs.Common.{◌≡◌, Bool, true, false, ℤ, ◌≤ℤ◌, ◌<ℤ◌, int_lt, refl, arith}
+use Rattle.std.specs.Ordering.{is_gt}
+use Rattle.std.proofs.lemmas.Bool.{and_parts, and_from, and_right}
 use Rattle.std.proofs.lemmas.Int.{ints}
 use Rattle.stop_index.specs.declared.reached.Reached.{Reached}
 use Rattle.stop_index.specs.declared.reached.Reached.TheVariants.{Instant, Departure}
@@ -10,7 +9,7 @@ use Rattle.stop_index.specs.declared.slot.Slot.{Slot}
 use Rattle.stop_index.specs.Slots.{slot_cmp}
 use Rattle.stop_index.specs.Left.{is_ahead, is_left, instant_of}
 use Rattle.stop_index.proofs.Ordered.{below_not_above, below_through}
-use Rattle.stop_index.proofs.Instants.{slot_total, at_up, lt_is, lt_not, is_lt_z, not_lt_z, le_is, is_le_z}
+use Rattle.stop_index.proofs.Instants.{slot_total, at_up, lt_is, lt_not, is_lt_z, le_is, is_le_z}
 
 -- what comes after what is ahead is ahead
 pub ahead_up : (reached : Reached) (a b : Slot) → is_gt (slot_cmp a b) ≡ false → is_ahead reached a ≡ true → is_ahead reached b ≡ true

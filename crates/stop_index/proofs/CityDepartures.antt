@@ -1,5 +1,5 @@
 -- The departures of the small city, around the change to summer time of 30 March 2025.
-use Rattle.std.proofs.Common.{◌≡◌, ℕ, List, [], ◌∷◌, pos, true, refl}
+use Rattle.std.proofs.Common.{◌≡◌, ℕ, [], ◌∷◌, pos, true, refl}
 use Rattle.order.specs.Order.{inserted, ordered}
 use Rattle.sched_types.specs.City.{city}
 use Rattle.stop_index.specs.declared.slot.Slot.{Slot}

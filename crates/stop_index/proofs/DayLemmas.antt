@@ -1,5 +1,5 @@
 -- Days whose bases rise, and the departures of days that are over or begin too late.
-use Rattle.std.proofs.Common.{◌≡◌, ℕ, zero, suc, ◌+◌, ◌-◌, ◌<◌, ◌≤◌, zero-add, append-nil, Bool, true, false, ◌&&◌, List, [], ◌∷◌, ◌++◌, length, map, filter, get_or, slice_get, unwrap_or, count_by, ℤ, pos, ◌+ℤ◌, ◌≤ℤ◌, ◌<ℤ◌, int_lt, int_le, to_z, of_z, w64, Option, Some, None, inl, inr, refl, sym, ap, subst, ◌∙◌, arith}
+use Rattle.std.proofs.Common.{◌≡◌, ℕ, zero, suc, ◌+◌, ◌-◌, ◌<◌, ◌≤◌, zero-add, append-nil, Bool, true, false, ◌&&◌, List, [], ◌∷◌, ◌++◌, length, filter, slice_get, unwrap_or, count_by, ℤ, pos, ◌+ℤ◌, ◌≤ℤ◌, ◌<ℤ◌, int_lt, int_le, w64, Option, Some, None, inl, inr, refl, sym, ap, subst, ◌∙◌, arith}
 use Rattle.std.specs.List.{flat_map, list_all, range_with_len, AllByRecursion}
 use Rattle.std.specs.List.Sorted.{IsSorted}
 use Rattle.std.proofs.lemmas.Bool.{and_right, cases_lt}
@@ -9,7 +9,7 @@ use Rattle.std.proofs.lemmas.List.Folds.{list_all-append, list_all_at}
 use Rattle.std.proofs.lemmas.List.FromFn.{length-range_with_len, get_or-range_with_len}
 use Rattle.std.proofs.lemmas.Option.{slice_get-get_or}
 use Rattle.order.proofs.Lists.{range_more}
-use Rattle.sched_types.specs.Timetable.{Timetable, IsTimetable, IsSmall, base_of}
+use Rattle.sched_types.specs.Timetable.{Timetable, IsSmall, base_of}
 use Rattle.sched_types.proofs.Checks.{all_at}
 use Rattle.sched_types.proofs.Lists.{fits_seconds}
 use Rattle.stop_index.specs.declared.reached.Reached.{Reached}
@@ -18,7 +18,7 @@ use Rattle.stop_index.specs.declared.trip_departure.TripDeparture.{TripDeparture
 use Rattle.stop_index.specs.Index.{departure_cmp, days_are_rising}
 use Rattle.stop_index.specs.Left.{slot_at, runs_on, slots_on, slots_before, is_ahead, is_left, instant_of, IsOver}
 use Rattle.stop_index.specs.First.{IsFirst, earlier_of, until_of}
-use Rattle.stop_index.proofs.Counts.{one, one_not, count-cons, count-append, count-map, count-filter, count_never, count_range_none}
+use Rattle.stop_index.proofs.Counts.{one_not, count-cons, count-map, count-filter, count_never, count_range_none}
 use Rattle.stop_index.proofs.Instants.{wrapped, is_le_z, le_is, is_lt_z, not_lt_z}
 use Rattle.stop_index.proofs.Ahead.{not_ahead, not_left}
 use Rattle.stop_index.proofs.DaySlots.{first_found}

@@ -1,9 +1,9 @@
 -- The departures of a stop on one day: in order, each once, and the first that is left.
-use Rattle.std.proofs.Common.{◌≡◌, ℕ, zero, suc, ◌+◌, ◌-◌, ◌<◌, ◌≤◌, Bool, true, false, not, ◌&&◌, cond, nat_eq, Option, Some, None, List, [], ◌∷◌, ◌++◌, length, map, filter, get_or, take, drop, slice_get, count_by, ℤ, pos, ◌+ℤ◌, ◌≤ℤ◌, ◌<ℤ◌, int_lt, All, refl, sym, ap, subst, ◌∙◌, arith}
-use Rattle.std.specs.List.{flat_map, range_with_len, AllByRecursion}
+use Rattle.std.proofs.Common.{◌≡◌, ℕ, ◌+◌, ◌-◌, ◌<◌, ◌≤◌, Bool, true, false, not, ◌&&◌, cond, nat_eq, Option, Some, List, [], ◌∷◌, length, map, filter, get_or, take, drop, slice_get, count_by, ℤ, ◌≤ℤ◌, ◌<ℤ◌, int_lt, All, refl, sym, ap, subst, ◌∙◌, arith}
+use Rattle.std.specs.List.{range_with_len}
 use Rattle.std.specs.List.Sorted.{IsPartitionedBy, IsPartitionPoint, IsSorted}
-use Rattle.std.specs.Ordering.{is_eq, is_gt, is_lt}
-use Rattle.std.proofs.lemmas.Bool.{and_parts, and_from, and_left, and_right, both_ways, eq-eqb, not-true}
+use Rattle.std.specs.Ordering.{is_gt, is_lt}
+use Rattle.std.proofs.lemmas.Bool.{and_parts, and_from, and_left, both_ways, eq-eqb, not-true}
 use Rattle.std.proofs.lemmas.Int.{ints}
 use Rattle.std.proofs.lemmas.List.{drop_more}
 use Rattle.std.proofs.lemmas.List.Elements.{filter_passes, All-same}
@@ -18,9 +18,9 @@ use Rattle.stop_index.specs.declared.slot.Slot.{Slot}
 use Rattle.stop_index.specs.declared.trip_departure.TripDeparture.{TripDeparture}
 use Rattle.stop_index.specs.Slots.{slot_cmp}
 use Rattle.stop_index.specs.Index.{departure_cmp}
-use Rattle.stop_index.specs.Left.{slot_at, runs_on, slots_on, slots_before, is_ahead, is_left, is_from, AreDepartures}
+use Rattle.stop_index.specs.Left.{slot_at, runs_on, slots_on, slots_before, is_ahead, is_left, is_from}
 use Rattle.stop_index.specs.First.{IsFirst}
-use Rattle.stop_index.proofs.Counts.{one, one_is, one_not, not_one, count-cons, count_fewer, count-map, count-filter, count_never, once_flat, range_once}
+use Rattle.stop_index.proofs.Counts.{count_fewer, count-map, count-filter, count_never, once_flat, range_once}
 use Rattle.stop_index.proofs.Ordered.{is_equal, above_is, rising_filter, rising_drop}
 use Rattle.stop_index.proofs.Instants.{slot_total, departure_total, same_slot, seconds_up, on_day}
 use Rattle.stop_index.proofs.Ahead.{ahead_up, left_from, not_left}

@@ -1,5 +1,5 @@
 -- The first of some departures: of a rising list, of two lists, and what is left after it.
-use Rattle.std.proofs.Common.{◌≡◌, ℕ, zero, suc, ◌+◌, ◌<◌, ◌≤◌, Bool, true, false, not, ◌&&◌, cond, Option, Some, None, List, [], ◌∷◌, ◌++◌, filter, slice_get, count_by, ℤ, pos, ◌+ℤ◌, ◌≤ℤ◌, ◌<ℤ◌, int_lt, zero-add, refl, sym, ap, subst, ◌∙◌, Less, Equal, Greater, arith}
+use Rattle.std.proofs.Common.{◌≡◌, ◌+◌, ◌<◌, ◌≤◌, Bool, true, false, ◌&&◌, cond, Option, Some, None, List, [], ◌∷◌, ◌++◌, filter, slice_get, count_by, ℤ, pos, ◌+ℤ◌, ◌≤ℤ◌, ◌<ℤ◌, int_lt, zero-add, refl, sym, ap, ◌∙◌, Less, Equal, Greater, arith}
 use Rattle.std.specs.Prelude.{if◌then◌else◌, IfSome}
 use Rattle.std.specs.Ordering.{is_eq, is_gt, is_lt}
 use Rattle.std.specs.declared.cmp.Ordering.{Ordering}
@@ -16,10 +16,10 @@ use Rattle.stop_index.specs.declared.slot.Slot.{Slot}
 use Rattle.stop_index.specs.Slots.{slot_cmp}
 use Rattle.stop_index.specs.Left.{is_ahead, is_left}
 use Rattle.stop_index.specs.First.{IsFirstSlot, IsFirst, earlier_of, until_of}
-use Rattle.stop_index.proofs.Counts.{one, one_is, one_not, not_one, count-cons, count-append, count_fewer, none_fewer, count_never, count-filter, SameItems}
+use Rattle.stop_index.proofs.Counts.{one, one_is, one_not, not_one, count-cons, count-append, none_fewer, count_never, count-filter, SameItems}
 use Rattle.stop_index.proofs.Ordered.{above_is, below_not_above, below_through, not_above_back, none_from_least, ordered_same, ordered_front}
 use Rattle.stop_index.proofs.Instants.{slot_total, same_slot, at_up}
-use Rattle.stop_index.proofs.Ahead.{left_ahead, left_before, left_from, not_left, was_ahead}
+use Rattle.stop_index.proofs.Ahead.{left_ahead, left_before, left_from, was_ahead}
 
 abbrev pub is_same : Slot → Slot → Bool
 is_same x y = is_eq (slot_cmp x y)

@@ -1,5 +1,5 @@
 -- A trip's departures appended to the lists of their stops, place by place.
-use Rattle.std.proofs.Common.{◌≡◌, ◌≢◌, ℕ, zero, suc, ◌+◌, ◌-◌, ◌<◌, ◌≤◌, Bool, true, false, ◌&&◌, cond, nat_eq, List, [], ◌∷◌, ◌++◌, length, map, filter, get_or, set, take, slice_get, append-nil, append_assoc, zero-add, subst, length-take-le, refl, sym, ap, ◌∙◌, inl, inr, arith}
+use Rattle.std.proofs.Common.{◌≡◌, ◌≢◌, ℕ, ◌+◌, ◌-◌, ◌<◌, ◌≤◌, Bool, true, false, cond, nat_eq, List, [], ◌∷◌, ◌++◌, length, map, filter, get_or, set, take, append-nil, append_assoc, zero-add, subst, length-take-le, refl, sym, ap, ◌∙◌, inl, inr, arith}
 use Rattle.std.specs.Global.{Vec}
 use Rattle.std.specs.List.{enumerate_from, flat_map, range_with_len}
 use Rattle.std.proofs.lemmas.Bool.{cases_order, eq-eqb, ne_eqb}
@@ -12,7 +12,7 @@ use Rattle.order.proofs.Lists.{range_more}
 use Rattle.sched_types.specs.declared.rows.Place.{Place}
 use Rattle.sched_types.specs.Timetable.{Timetable, IsTimetable, places_of}
 use Rattle.stop_index.specs.declared.trip_departure.TripDeparture.{TripDeparture}
-use Rattle.stop_index.specs.Slots.{is_at, departures_of}
+use Rattle.stop_index.specs.Slots.{is_at}
 use Rattle.order.specs.Order.{ordered}
 use Rattle.stop_index.specs.Index.{Index, trip_departure, trip_departures, departure_cmp, departures_at, days_are_rising, index_of}
 use Rattle.stop_index.specs.Gathered.{for_stops, gathered, AddsTrip}

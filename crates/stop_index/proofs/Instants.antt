@@ -1,8 +1,8 @@
 -- Tests of instants, and the order of departures.
-use Rattle.std.proofs.Common.{◌≡◌, ℕ, ◌+◌, ◌<◌, ◌≤◌, Bool, true, false, ◌&&◌, nat_lt, ℤ, pos, ◌+ℤ◌, ◌≤ℤ◌, ◌<ℤ◌, int_lt, int_le, w64, to_z, of_z, SFits, refl, sym, ap, ◌∙◌, inl, inr, Less, Equal, Greater, arith}
+use Rattle.std.proofs.Common.{◌≡◌, ℕ, ◌<◌, ◌≤◌, true, false, ℤ, pos, ◌+ℤ◌, ◌≤ℤ◌, ◌<ℤ◌, int_lt, int_le, w64, to_z, of_z, SFits, refl, sym, ap, ◌∙◌, inl, inr, Less, Equal, Greater, arith}
 use Rattle.std.specs.Cmp.{IsTotalOrder}
 use Rattle.std.specs.FinMap.{nat_cmp-IsAntisymmetric, int_cmp-IsAntisymmetric}
-use Rattle.std.specs.Ordering.{int_cmp, nat_cmp, is_eq, is_gt, is_lt, ordering_then}
+use Rattle.std.specs.Ordering.{int_cmp, nat_cmp, is_gt, ordering_then}
 use Rattle.std.specs.declared.cmp.Ordering.{Ordering}
 use Rattle.std.proofs.lemmas.Bool.{cases_order}
 use Rattle.std.proofs.lemmas.Bool.Decides.{nat_tests}

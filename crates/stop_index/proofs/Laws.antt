@@ -1,12 +1,11 @@
 -- Laws of what is promised: one timetable has one index, and of the departures between two instants each comes once.
-use Rattle.std.proofs.Common.{◌≡◌, ℕ, ◌≤◌, length, filter, count_by, ℤ, int_le, int_lt, ◌&&◌, sym, ap, ◌∙◌, arith}
+use Rattle.std.proofs.Common.{◌≡◌, ℕ, ◌≤◌, length, filter, count_by, ℤ, ◌&&◌, sym, ◌∙◌, arith}
 use Rattle.std.proofs.lemmas.Bool.{and_parts}
 use Rattle.order.proofs.Laws.{IsRising, rising_ordered}
 use Rattle.sched_types.specs.Timetable.{Timetable}
 use Rattle.stop_index.specs.declared.slot.Slot.{Slot}
-use Rattle.stop_index.specs.Slots.{slots_at, is_between, slot_cmp, slots_between}
+use Rattle.stop_index.specs.Slots.{slots_at, is_between, slots_between}
 use Rattle.stop_index.specs.Index.{Index, departures_at, index_of}
-use Rattle.stop_index.specs.Left.{slots_before}
 use Rattle.stop_index.proofs.Counts.{count_fewer, count-filter}
 use Rattle.stop_index.proofs.Ordered.{ordered_items}
 use Rattle.stop_index.proofs.Instants.{slot_total}

@@ -1,5 +1,5 @@
 -- What an iterator has left, before and after it hands out a departure.
-use Rattle.std.proofs.Common.{◌≡◌, List, [], ◌∷◌, length, count_by, ℤ, Some, None, subst, ◌∙◌}
+use Rattle.std.proofs.Common.{◌≡◌, List, [], ◌∷◌, length, count_by, ℤ, Some, None, subst}
 use Rattle.sched_types.specs.Timetable.{Timetable}
 use Rattle.stop_index.specs.declared.reached.Reached.{Reached}
 use Rattle.stop_index.specs.declared.reached.Reached.TheVariants.{Departure}

@@ -1,11 +1,11 @@
 -- Lists in an order that only equal items tie in: known by their items alone.
-use Rattle.std.proofs.Common.{◌≡◌, ℕ, zero, suc, ◌+◌, ◌<◌, Bool, true, false, not, ◌&&◌, cond, List, [], ◌∷◌, length, filter, drop, get_or, replicate, count_by, refl, sym, ap, subst, ◌∙◌, Less, Equal, Greater, arith}
+use Rattle.std.proofs.Common.{◌≡◌, ℕ, zero, suc, ◌+◌, ◌<◌, Bool, true, false, not, ◌&&◌, cond, List, [], ◌∷◌, length, filter, drop, get_or, replicate, count_by, refl, sym, ap, ◌∙◌, Less, Equal, Greater, arith}
 use Rattle.std.specs.Prelude.{if◌then◌else◌}
 use Rattle.std.specs.Cmp.{IsTotalOrder}
 use Rattle.std.specs.List.Sorted.{IsPermutation, IsSorted, ties}
 use Rattle.std.specs.Ordering.{is_eq, is_gt, is_lt, ordering_reverse}
 use Rattle.std.specs.declared.cmp.Ordering.{Ordering}
-use Rattle.std.proofs.lemmas.Cmp.{upto, tied_itself}
+use Rattle.std.proofs.lemmas.Cmp.{upto}
 use Rattle.std.proofs.lemmas.List.Sorted.{sum_by-IsPermutation}
 use Rattle.order.specs.Order.{inserted, ordered}
 use Rattle.order.proofs.Laws.{IsLeast, IsRising, rising_only, rising_ordered, rising_from_sorted}

@@ -1,9 +1,8 @@
 -- The departures that an index keeps are, day by day, those of the timetable's runs.
-use Rattle.std.proofs.Common.{◌≡◌, ℕ, zero, suc, ◌+◌, ◌-◌, ◌<◌, ◌≤◌, Bool, true, false, ◌&&◌, cond, nat_eq, Option, Some, None, List, [], ◌∷◌, ◌++◌, length, map, filter, get_or, take, slice_get, unwrap_or, zero-add, count_by, ℤ, int_le, int_lt, refl, sym, ap, ◌∙◌, inl, inr, arith}
+use Rattle.std.proofs.Common.{◌≡◌, ℕ, zero, suc, ◌+◌, ◌-◌, ◌<◌, ◌≤◌, Bool, true, false, ◌&&◌, cond, nat_eq, Some, List, [], ◌∷◌, ◌++◌, length, map, filter, take, slice_get, unwrap_or, zero-add, count_by, ℤ, refl, sym, ap, ◌∙◌, inl, inr, arith}
 use Rattle.std.specs.List.{enumerate_from, flat_map, range_with_len}
-use Rattle.std.specs.Ordering.{is_lt}
 use Rattle.std.proofs.lemmas.Bool.{and_parts, cases_lt, ne_eqb}
-use Rattle.std.proofs.lemmas.List.{map-append, length-map}
+use Rattle.std.proofs.lemmas.List.{map-append}
 use Rattle.std.proofs.lemmas.List.Concat.{flat_map-append}
 use Rattle.std.proofs.lemmas.List.Elements.{filter-append}
 use Rattle.std.proofs.lemmas.List.Folds.{flat_map-map}
@@ -14,16 +13,15 @@ use Rattle.order.proofs.Laws.{rising_ordered}
 use Rattle.sched_types.specs.declared.rows.Place.{Place}
 use Rattle.sched_types.specs.declared.rows.Run.{Run}
 use Rattle.sched_types.specs.Timetable.{Timetable, IsTimetable, places_of, is_run, base_of}
-use Rattle.stop_index.specs.declared.reached.Reached.{Reached}
 use Rattle.stop_index.specs.declared.reached.Reached.TheVariants.{Instant}
 use Rattle.stop_index.specs.declared.slot.Slot.{Slot}
 use Rattle.stop_index.specs.declared.trip_departure.TripDeparture.{TripDeparture}
-use Rattle.stop_index.specs.Slots.{all_runs, departures_of, is_at, slot_of, run_slots, slots_at, is_between, slot_cmp, slots_between}
+use Rattle.stop_index.specs.Slots.{all_runs, departures_of, is_at, run_slots, slots_at, is_between, slots_between}
 use Rattle.stop_index.specs.Index.{trip_departure, trip_departures, departure_cmp, departures_at, index_of}
-use Rattle.stop_index.specs.Left.{slot_at, runs_on, slots_on, slots_before, is_left, slots_left, is_from, AreDepartures}
-use Rattle.stop_index.proofs.Counts.{one, one_is, one_not, count_fewer, count-map, count-filter, count_never, once_flat, range_once, numbered, numbers_once, SameItems, same_are, same_back, same_on, same_map, same_filter, same_flat}
+use Rattle.stop_index.specs.Left.{slot_at, runs_on, slots_on, slots_before, slots_left, is_from, AreDepartures}
+use Rattle.stop_index.proofs.Counts.{count_fewer, count-map, count-filter, count_never, once_flat, range_once, numbered, numbers_once, SameItems, same_are, same_on, same_map, same_filter, same_flat}
 use Rattle.stop_index.proofs.Ordered.{sorted_from_rising, ordered_items, ordered_same}
-use Rattle.stop_index.proofs.Instants.{slot_total, departure_total, same_slot, same_departure}
+use Rattle.stop_index.proofs.Instants.{slot_total, departure_total, same_slot}
 
 -- ---- lists
 

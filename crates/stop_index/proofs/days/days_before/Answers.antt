@@ -1,5 +1,5 @@
 -- The half in which the search goes on.
-use Rattle.std.proofs.Common.{◌≡◌, ◌+◌, ◌-◌, ◌/◌, ◌<◌, ◌≤◌, pos, ◌+ℤ◌, ◌<ℤ◌, w64, sym, subst, ◌∙◌, arith}
+use Rattle.std.proofs.Common.{◌+◌, ◌-◌, ◌/◌, pos, ◌+ℤ◌, ◌<ℤ◌, w64, sym, subst, ◌∙◌, arith}
 use Rattle.std.proofs.lemmas.Int.{to_z-of_z}
 use Rattle.sched_types.specs.Timetable.{base_of}
 use Rattle.stop_index.proofs.DayLemmas.{before_none, before_low, before_high}

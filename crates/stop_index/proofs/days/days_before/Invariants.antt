@@ -1,6 +1,5 @@
 -- The days before `low` end before the instant, and those from `high` on don't.
-use Rattle.std.proofs.Common.{◌≡◌, ℕ, ◌-◌, ◌<◌, ◌≤◌, length, pos, ◌+ℤ◌, ◌<ℤ◌}
-use Rattle.sched_types.specs.Timetable.{base_of}
+use Rattle.std.proofs.Common.{◌-◌}
 use Rattle.stop_index.proofs.DayLemmas.{AreBefore}
 use Rattle.stop_index.proofs.days.days_before.Given as goal
 

@@ -1,5 +1,5 @@
 -- One list more, in order, and at the end all.
-use Rattle.std.proofs.Common.{◌≡◌, ◌++◌, ◌∷◌, [], length, map, sym, ap, ◌∙◌, rules, arith}
+use Rattle.std.proofs.Common.{◌≡◌, ◌++◌, ◌∷◌, [], map, ap, ◌∙◌, rules, arith}
 use Rattle.std.proofs.lemmas.Grind.{common_steps}
 use Rattle.stop_index.proofs.Ordered.{sorted_is}
 use Rattle.stop_index.proofs.Instants.{departure_total, same_departure}

@@ -1,5 +1,5 @@
 -- One place more, and at the end all but the last.
-use Rattle.std.proofs.Common.{◌≡◌, ◌-◌, ◌<◌, ◌≤◌, length, map, take, ap, ◌∙◌, arith}
+use Rattle.std.proofs.Common.{◌-◌, ◌≤◌, length, map, take, ap, ◌∙◌, arith}
 use Rattle.std.proofs.lemmas.List.{length-map}
 use Rattle.sched_types.specs.declared.rows.Place.{Place}
 use Rattle.stop_index.proofs.GatherLemmas.{adds_none, adds_all, place_within, pushes_more}

@@ -1,5 +1,4 @@
 -- The first of the departures of the days so far.
-use Rattle.std.proofs.Common.{◌≤◌, length}
 use Rattle.stop_index.specs.Left.{is_left, slots_before}
 use Rattle.stop_index.specs.First.{IsFirst}
 use Rattle.stop_index.proofs.search.first_left.Given as goal

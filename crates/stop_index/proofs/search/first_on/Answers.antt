@@ -1,10 +1,9 @@
 -- The next in order, until one is found that runs.
-use Rattle.std.proofs.Common.{◌≡◌, ◌+◌, ◌<◌, ◌≤◌, ℤ, pos, ◌≤ℤ◌, ◌<ℤ◌, int_le, false, true, [], drop, get_or, length, slice_get, w64, to_z, of_z, SFits, sym, ap, subst, ◌∙◌, rules, arith}
-use Rattle.std.proofs.lemmas.Int.{ints, to_z-of_z}
+use Rattle.std.proofs.Common.{◌≡◌, ◌≤◌, get_or, length, slice_get, w64, SFits, sym, ap, ◌∙◌, rules, arith}
+use Rattle.std.proofs.lemmas.Int.{to_z-of_z}
 use Rattle.std.proofs.lemmas.List.{drop_all}
 use Rattle.sched_types.specs.Timetable.{base_of}
 use Rattle.stop_index.specs.declared.trip_departure.TripDeparture.{TripDeparture}
-use Rattle.stop_index.specs.declared.slot.Slot.{Slot}
 use Rattle.stop_index.specs.Left.{slot_at, is_ahead}
 use Rattle.stop_index.proofs.Instants.{wrapped, before_end, from_end}
 use Rattle.stop_index.proofs.DayLemmas.{looked_up}

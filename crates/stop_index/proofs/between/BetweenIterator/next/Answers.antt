@@ -1,5 +1,5 @@
 -- The first of those that are left is handed out.
-use Rattle.std.proofs.Common.{◌≡◌, ◌∷◌, [], ℤ, length, w64, to_z, of_z, SFits, sym, ap, subst, ◌∙◌, rules}
+use Rattle.std.proofs.Common.{◌≡◌, ◌∷◌, [], length, w64, SFits, sym, ap, ◌∙◌, rules}
 use Rattle.std.proofs.lemmas.Int.{to_z-of_z}
 use Rattle.stop_index.specs.declared.reached.Reached.TheVariants.{Departure}
 use Rattle.stop_index.specs.Left.{is_ahead, slots_before, slots_left}

@@ -1,5 +1,5 @@
 -- What the index keeps of the stop are its departures.
-use Rattle.std.proofs.Common.{◌≡◌, ℤ, [], slice_get, unwrap_or, w64, to_z, of_z, sym, ap, subst, ◌∙◌}
+use Rattle.std.proofs.Common.{◌≡◌, [], slice_get, unwrap_or, w64, sym, ap, subst, ◌∙◌}
 use Rattle.std.proofs.lemmas.Int.{to_z-of_z}
 use Rattle.stop_index.specs.declared.reached.Reached.TheVariants.{Instant}
 use Rattle.stop_index.specs.declared.trip_departure.TripDeparture.{TripDeparture}
