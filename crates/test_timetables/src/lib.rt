@@ -1,8 +1,8 @@
 //! Tests of timetables: of the rows of their files, their zones and days, their look-ups, the loading of
-//! folders, which trip an update means, and what it tells of each place.
+//! folders, the departures of a stop, which trip an update means, and what it tells of each place.
 //!
-//! They call `gtfs_rows`, `service_day`, `sched_types`, `sched_load_defs`, `sched_load`, `trip_match` and
-//! `delay_rule` by their public contracts. Every test is proved safe, and then it is run.
+//! They call `gtfs_rows`, `service_day`, `sched_types`, `sched_load_defs`, `sched_load`, `stop_index`,
+//! `trip_match` and `delay_rule` by their public contracts. Every test is proved safe, and then it is run.
 #![tactic(auto)]
 
 #[cfg(test)]
@@ -11,6 +11,8 @@ mod city_files;
 mod days;
 #[cfg(test)]
 mod delays;
+#[cfg(test)]
+mod departures;
 #[cfg(test)]
 mod file_names;
 #[cfg(test)]

@@ -1,0 +1,13 @@
+pub mod Counts
+pub mod Ordered
+pub mod Instants
+mod Ahead
+pub mod Firsts
+mod DaySlots
+mod DayLemmas
+mod NextLeft
+mod SameSlots
+mod GatherLemmas
+mod FlatLemmas
+pub mod Laws
+mod CityDepartures

@@ -1,0 +1,6 @@
+pub mod Slots
+pub mod Index
+pub mod Left
+pub mod First
+pub mod Gathered
+pub mod Flat
