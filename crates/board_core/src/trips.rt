@@ -23,7 +23,7 @@ fn counts_at(plan: &Plan, asked: u32, place: Place) -> bool
     may_board(place) && is_asked(plan, asked, place.stop)
 }
 
-/// Whether a trip has such a place.
+/// Whether a trip has such a place: whether it calls at the asked stop by the timetable.
 fn calls_at(plan: &Plan, asked: u32, trip: u32) -> bool
     requires { trip < length plan.now.trips }
     ensures { result ≡ calls_at plan.now asked trip }
@@ -47,7 +47,7 @@ fn assigns(plan: &Plan, asked: u32, update: &StopUpdate) -> bool
     }
 }
 
-/// Whether one of the updates of a trip does.
+/// Whether an update of a trip names the asked stop for one of its places.
 fn moves_to(plan: &Plan, asked: u32, update: &TripUpdate) -> bool
     ensures { result ≡ moves_to plan.now asked update.now }
 {
@@ -59,7 +59,7 @@ fn moves_to(plan: &Plan, asked: u32, update: &TripUpdate) -> bool
     false
 }
 
-/// Appends the trip of an update that does.
+/// Appends the trip of an update that names the asked stop for a place.
 fn push_moved(
     plan: &Plan,
     asked: u32,
@@ -75,7 +75,7 @@ fn push_moved(
     Ok(())
 }
 
-/// The trips of which an update names the asked stop for a place, by rising numbers: mostly none. Or out of memory.
+/// The trips of which an update names the asked stop for a place, by rising numbers, mostly none; or out of memory.
 fn moved_trips(
     alloc: Global,
     plan: &Plan,
@@ -100,7 +100,7 @@ fn is_among(numbers: &[u32], number: u32) -> bool
     numbers.binary_search(&number).is_ok()
 }
 
-/// Whether a trip calls at the asked stop, or is one of those that are moved there.
+/// Whether a trip calls at the asked stop by the timetable, or is one of those of which an update names it.
 fn may_call(plan: &Plan, asked: u32, moved: &[u32], trip: u32) -> bool
     requires trip { trip < length plan.now.trips }
     requires rise { IsNonDecreasing moved.now }
