@@ -1,6 +1,6 @@
 //! The departures of stops, as an index hands them out, next to a plain scan of the timetable.
 
-ghost use Rattle.std.specs.Prelude.{◌<◌, ◌≤◌, length};
+ghost use Rattle.std.specs.Prelude.{◌<◌, length};
 
 use crate::city_files::{AGENCY, ROUTES, STOPS, ZONE, file};
 use hub_outside::MemoryFiles;
@@ -82,12 +82,9 @@ fn agrees(alloc: Global, plan: &Plan, stop: u32, start: i64, end: i64) -> Result
     Ok(by_index.as_slice() == by_scan.as_slice())
 }
 
-/// A timetable of the city's stops in a window of so many days from 29 March 2025 on: W and N run on weekdays, S and
-/// N2 on Sundays, and all but W go on into later days.
-fn year(alloc: Global, days: u32) -> Result<Plan, AllocError>
-    requires some { 1 ≤ days }
-    requires few { days ≤ 400 }
-{
+/// A timetable of the city's stops in a window of 400 days from 29 March 2025 on: W and N run on weekdays, S and N2
+/// on Sundays, and all but W go on into later days.
+fn year(alloc: Global) -> Result<Plan, AllocError> {
     let trips = b"route_id,service_id,trip_id\nR7,WK,W\nR7,SU,S\nR7,WK,N\nR7,SU,N2\n";
     let stop_times =
         b"trip_id,arrival_time,departure_time,stop_id,stop_sequence\nW,07:00:00,07:00:00,S1,1\nW,07:30:00,07:30:00,S3,2\nW,08:00:00,08:00:00,S1,3\nW,08:30:00,08:30:00,S4,4\nS,23:59:59,23:59:59,S1,1\nS,24:00:00,24:00:00,S3,2\nS,48:00:01,48:00:01,S1,3\nS,49:30:00,49:30:00,S4,4\nN,07:00:00,07:00:00,S1,1\nN,31:00:00,31:00:00,S1,2\nN,55:00:00,55:00:00,S1,3\nN2,07:00:00,07:00:00,S3,1\nN2,31:00:00,31:00:00,S1,2\nN2,32:00:00,32:00:00,S4,3\n";
@@ -104,7 +101,7 @@ fn year(alloc: Global, days: u32) -> Result<Plan, AllocError>
     let conf = PlanConf {
         zone: Text::new(alloc, ZONE)?,
         first: 20_250_329,
-        days,
+        days: 400,
     };
     match load(
         alloc,
@@ -173,7 +170,7 @@ fn stops_without_departures_have_none(rt: HostRuntime) -> Result<(), Fail> {
 #[test]
 fn times_go_past_one_and_two_midnights(rt: HostRuntime) -> Result<(), Fail> {
     let alloc = rt.alloc();
-    let plan = year(alloc, 5)?;
+    let plan = year(alloc)?;
     // The trips are N, N2, S and W. On Sunday 30 March N2 is at S1 at 31:00 and S at 23:59:59 and 48:00:01; on the
     // two days after, W and N run.
     let found = found(alloc, &plan, 0, i64::MIN, 1743580800)?;
@@ -200,7 +197,7 @@ fn times_go_past_one_and_two_midnights(rt: HostRuntime) -> Result<(), Fail> {
 #[test]
 fn all_departures_of_four_hundred_days(rt: HostRuntime) -> Result<(), Fail> {
     let alloc = rt.alloc();
-    let plan = year(alloc, 400)?;
+    let plan = year(alloc)?;
     for stop in 0..5 {
         assert!(rt; agrees(alloc, &plan, stop, i64::MIN, i64::MAX)?);
     }
