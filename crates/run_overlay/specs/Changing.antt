@@ -18,7 +18,7 @@ use Rattle.run_overlay.specs.declared.run_key.RunKey.{RunKey}
 use Rattle.run_overlay.specs.Keyed.{changed}
 use Rattle.run_overlay.specs.Keys.{CandidateKey, id_cmp, link_key, stored_key, candidate_key, candidate_cmp, run_key}
 use Rattle.run_overlay.specs.Kept.{Mentions, FeedOverlay, IsTable, if_added, overlay_of}
-use Rattle.run_overlay.specs.Updates.{about_held, mention_in}
+use Rattle.run_overlay.specs.Updates.{about_held, about_stored, mention_in}
 
 -- ---- what becomes of an id
 
@@ -30,6 +30,15 @@ move_by t links table id = record {
   before = option_map (λ link. link.mention) (find id_cmp id links);
   after = about_held t (find id_cmp id table);
 }
+
+-- what becomes of the id of an entity where there was nothing before
+abbrev pub move_from_nothing : Timetable → Stored → Move
+move_from_nothing t stored =
+    record { id = stored.entity.id; before = None; after = about_stored t stored }
+
+-- the run that it is about after it
+abbrev pub mention_after : Move → Option Mention
+mention_after move = mention_in move.after
 
 -- The moves of some ids lead from an overlay of some table to the new table: under any other id both hold the same.
 pub record AreMoves (t : Timetable) (overlay : FeedOverlay) (table : List EntityChange)
@@ -50,7 +59,7 @@ link_change id (Some mention) None = Remove id ∷ []
 link_change id None None = []
 
 abbrev pub link_changes : Move → List (Change Link (List ℕ))
-link_changes move = link_change move.id move.before (mention_in move.after)
+link_changes move = link_change move.id move.before (mention_after move)
 
 -- what was a candidate goes, and what is one comes
 abbrev pub going : List ℕ → Option Mention → List (Change Candidate CandidateKey)
@@ -62,12 +71,16 @@ coming id None = []
 coming id (Some mention) = Put (record { mention = mention; id = id }) ∷ []
 
 abbrev pub candidate_changes : Move → List (Change Candidate CandidateKey)
-candidate_changes move = going move.id move.before ++ coming move.id (mention_in move.after)
+candidate_changes move = going move.id move.before ++ coming move.id (mention_after move)
 
 -- an entity with an update of an added trip is kept whole
 abbrev pub added_change : List ℕ → Option Stored → Change Stored (List ℕ)
 added_change id None = Remove id
 added_change id (Some stored) = Put stored
+
+-- what a table has under an id
+abbrev pub held : List EntityChange → List ℕ → Option Stored
+held table id = find id_cmp id table
 
 abbrev pub only_added : Move → Option Stored → Option Stored
 only_added move None = None
@@ -75,7 +88,7 @@ only_added move (Some stored) = if_added move.after stored
 
 abbrev pub added_changes : List EntityChange → Move → List (Change Stored (List ℕ))
 added_changes table move =
-    added_change move.id (only_added move (find id_cmp move.id table)) ∷ []
+    added_change move.id (only_added move (held table move.id)) ∷ []
 
 abbrev pub mentions_after : List EntityChange → List Move → Mentions → Mentions
 mentions_after table moves kept = record {
@@ -93,7 +106,7 @@ run_in (Some mention) = run_key mention.run ∷ []
 
 -- the run that an id's update was about, and the one that it is about now
 abbrev pub runs_of_move : Move → List RunKey
-runs_of_move move = run_in move.before ++ run_in (mention_in move.after)
+runs_of_move move = run_in move.before ++ run_in (mention_after move)
 
 abbrev pub touched_runs : List Move → List RunKey
 touched_runs moves = flat_map runs_of_move moves

@@ -16,17 +16,17 @@ use Rattle.run_overlay.specs.declared.row.LiveRow.{LiveRow}
 use Rattle.run_overlay.specs.declared.shown.Sign.{Sign}
 use Rattle.run_overlay.specs.declared.slot.LiveSlot.{LiveSlot}
 use Rattle.run_overlay.specs.declared.slot.SlotState.{SlotState}
-use Rattle.run_overlay.specs.declared.slot.SlotState.TheVariants as slot
+use Rattle.run_overlay.specs.declared.slot.SlotState.TheVariants as told
 
 -- ---- a place
 
 -- What a board shows of a place, as a departure has it. No place of a run is shown as one of an added trip.
 abbrev pub slot_state : RowState → SlotState
-slot_state state.Scheduled = slot.Scheduled
-slot_state state.Live = slot.Live
-slot_state state.Skipped = slot.Skipped
-slot_state state.Canceled = slot.Canceled
-slot_state state.Added = slot.Scheduled
+slot_state state.Scheduled = told.Scheduled
+slot_state state.Live = told.Live
+slot_state state.Skipped = told.Skipped
+slot_state state.Canceled = told.Canceled
+slot_state state.Added = told.Scheduled
 
 abbrev pub sign_of : Shown → Sign
 sign_of shown =

@@ -6,7 +6,7 @@ use Rattle.feed_defs.specs.History.{Change}
 use Rattle.sched_types.specs.declared.plans.NamedFeed.{NamedFeed}
 use Rattle.sched_types.specs.Timetable.{Timetable}
 use Rattle.trip_match_defs.specs.declared.found.Found.{Found}
-use Rattle.trip_match_defs.specs.declared.found.Found.TheVariants as match
+use Rattle.trip_match_defs.specs.declared.found.Found.TheVariants as found
 use Rattle.trip_match_defs.specs.Matching.{match_of}
 use Rattle.board_defs.specs.Choice.{Update, update_in}
 use Rattle.board_defs.specs.Feeds.{HeldEntity}
@@ -35,9 +35,9 @@ updates_of entities = filter_map (λ change. update_alone change.1) entities
 
 -- a run, at the stamp of the update; an added trip; or nothing that is known
 abbrev pub about_found : ℕ → Found → About
-about_found stamp (match.Run run) = about.Run (record { run = run; stamp = stamp })
-about_found stamp match.Added = about.Added
-about_found stamp (match.NoMatch why) = about.Nothing
+about_found stamp (found.Run run) = about.Run (record { run = run; stamp = stamp })
+about_found stamp found.Added = about.Added
+about_found stamp (found.NoMatch why) = about.Nothing
 
 abbrev pub about_update : Timetable → Option Update → About
 about_update t None = about.Nothing
