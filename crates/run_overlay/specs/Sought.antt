@@ -10,6 +10,9 @@ use Rattle.run_overlay.specs.declared.run_key.RunKey.{RunKey}
 use Rattle.run_overlay.specs.declared.slot.LiveSlot.{LiveSlot}
 use Rattle.run_overlay.specs.Keys.{CandidateKey, row_cmp, row_key, run_key}
 
+abbrev pub id_at : Bor (List ℕ) → List ℕ
+id_at id = id.now
+
 abbrev pub candidate_at : CandidateAt → CandidateKey
 candidate_at c = (run_key c.mention.run, (c.mention.stamp, c.id.now))
 

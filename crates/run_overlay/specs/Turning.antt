@@ -1,5 +1,5 @@
 -- What becomes of runs, and of their departures.
-use Rattle.std.specs.Prelude.{Bool, ◌&&◌, ◌==◌, if◌then◌else◌, ℕ, Option, Some, None, List, [], ◌∷◌, ◌++◌, map, filter, slice_get}
+use Rattle.std.specs.Prelude.{Bool, ◌&&◌, ◌==◌, if◌then◌else◌, ℕ, Option, Some, None, List, [], ◌++◌, map, filter, slice_get}
 use Rattle.std.specs.List.{filter_map, flat_map}
 use Rattle.std.specs.Option.{option_map}
 use Rattle.std.specs.FinMap.{find}

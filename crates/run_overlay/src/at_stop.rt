@@ -1,8 +1,7 @@
 //! The departures at a stop between two instants, one after another.
 
-ghost use Rattle.std.specs.Prelude.{◌≡◌, ◌&&◌, map, filter};
+ghost use Rattle.std.specs.Prelude.{◌≡◌};
 ghost use Rattle.std.specs.Iterator.{YieldsFirst, item_count};
-ghost use Rattle.run_overlay.specs.Live.{is_between};
 ghost use Rattle.run_overlay.specs.Sought.{slots_ahead, AreAhead};
 
 use crate::row::LiveRow;

@@ -2,7 +2,6 @@
 
 ghost use Rattle.std.specs.Prelude.{◌≡◌, ◌+◌, ◌≤◌, ◌++◌, [], length, map, IfOk, OnOk};
 ghost use Rattle.std.specs.List.{flat_map};
-ghost use Rattle.std.specs.FinMap.{find};
 ghost use Rattle.std.specs.Option.{option_copied};
 ghost use Rattle.shared_list.specs.declared.change.Change.TheVariants.{Put, Remove};
 ghost use Rattle.run_overlay.specs.Keyed.{naming_keys};
@@ -172,10 +171,7 @@ fn run_change(turn: Turn) -> Change<LiveRun, RunKey>
 }
 
 /// What turns change of the runs; or out of memory.
-fn run_changes(
-    alloc: Global,
-    turns: Vec<Turn>,
-) -> Result<Vec<Change<LiveRun, RunKey>>, NoMemory>
+fn run_changes(alloc: Global, turns: Vec<Turn>) -> Result<Vec<Change<LiveRun, RunKey>>, NoMemory>
     ensures { IfOk result (λ changes. changes.items ≡ map rule.run_change turns.items) }
 {
     let mut changes = Vec::with_capacity(alloc, turns.len())?;

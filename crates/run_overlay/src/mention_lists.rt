@@ -1,21 +1,19 @@
 //! The lists of what updates are about.
 
-ghost use Rattle.std.specs.Prelude.{◌≡◌, ◌≤◌, true, ◌++◌, ◌∷◌, [], length, IfOk, OnOk};
-ghost use Rattle.std.specs.List.{flat_map, list_any};
-ghost use Rattle.run_overlay.specs.declared.run_key.RunKey.{RunKey};
+ghost use Rattle.std.specs.Prelude.{◌≡◌, ◌++◌, ◌∷◌, [], IfOk, OnOk};
+ghost use Rattle.std.specs.List.{flat_map};
 ghost use Rattle.run_overlay.specs.Changing as rule;
 ghost use Rattle.run_overlay.specs.Changing.{mentions_after};
 ghost use Rattle.run_overlay.specs.Keyed.{naming_key, naming_keys};
-ghost use Rattle.run_overlay.specs.Kept.{Mentions, no_mentions};
-ghost use Rattle.run_overlay.specs.Sought.{candidate_at, is_key};
+ghost use Rattle.run_overlay.specs.Kept.{no_mentions};
+ghost use Rattle.run_overlay.specs.Sought.{candidate_at, id_at};
 
 use crate::NoMemory;
 use crate::candidate::{Candidate, CandidateAt};
 use crate::changes::changed;
+use crate::id_changes::IdChange;
 use crate::link::Link;
 use crate::mention::{About, mention_in};
-use crate::moves::Move;
-use crate::run_key::RunKey;
 use copying::Copied;
 use entity_table::{SharedStored, Stored, Table};
 use shared_list::{Change, SharedList};
@@ -57,19 +55,19 @@ impl MentionLists {
         }
     }
 
-    /// The lists after those moves, of a feed that holds now what the table has; or out of memory. Each list is changed
-    /// once, and these stay as they are.
+    /// The lists after those changes of ids, of a feed that holds now what the table has; or out of memory. Each list is
+    /// changed once, and these stay as they are.
     pub(crate) fn after(
         &self,
         alloc: Global,
         table: &Table,
-        moves: &[Move],
+        ids: &[IdChange],
     ) -> Result<MentionLists, NoMemory>
-        ensures { IfOk result (λ next. next ≡ mentions_after table.now moves.now self.now) }
+        ensures { IfOk result (λ next. next ≡ mentions_after table.now ids.now self.now) }
     {
-        let links = changed(&self.links, link_changes(alloc, moves)?)?;
-        let candidates = changed(&self.candidates, candidate_changes(alloc, moves)?)?;
-        let added = changed(&self.added, added_changes(alloc, table, moves)?)?;
+        let links = changed(&self.links, link_changes(alloc, ids)?)?;
+        let candidates = changed(&self.candidates, candidate_changes(alloc, ids)?)?;
+        let added = changed(&self.added, added_changes(alloc, table, ids)?)?;
         Ok(MentionLists {
             links,
             candidates,
@@ -99,10 +97,10 @@ impl MentionLists {
     }
 }
 
-/// Appends what a move changes of the links.
-fn push_link<'a>(one: &'a Move, out: &mut Vec<Change<Link, &'a str>>) -> Result<(), NoMemory>
-    ensures { OnOk result (naming_keys (λ id. id.now) out.new.items
-        ≡ naming_keys (λ id. id.now) out.old.items ++ rule.link_changes one.entry.now) }
+/// Appends what the change of an id comes to in the links.
+fn push_link<'a>(one: &'a IdChange, out: &mut Vec<Change<Link, &'a str>>) -> Result<(), NoMemory>
+    ensures { OnOk result (naming_keys id_at out.new.items
+        ≡ naming_keys id_at out.old.items ++ rule.link_changes one.entry.now) }
 {
     match (one.before, mention_in(one.after)) {
         (_, Some(mention)) => out.push(Change::Put(Link {
@@ -115,16 +113,16 @@ fn push_link<'a>(one: &'a Move, out: &mut Vec<Change<Link, &'a str>>) -> Result<
     Ok(())
 }
 
-/// What moves change of the links; or out of memory.
+/// What changes of ids come to in the links; or out of memory.
 fn link_changes<'a>(
     alloc: Global,
-    moves: &'a [Move],
+    ids: &'a [IdChange],
 ) -> Result<Vec<Change<Link, &'a str>>, NoMemory>
-    ensures { IfOk result (λ changes. naming_keys (λ id. id.now) changes.items
-        ≡ flat_map rule.link_changes moves.entry.now) }
+    ensures { IfOk result (λ changes. naming_keys id_at changes.items
+        ≡ flat_map rule.link_changes ids.entry.now) }
 {
-    let mut changes = Vec::with_capacity(alloc, moves.len())?;
-    for one in moves {
+    let mut changes = Vec::with_capacity(alloc, ids.len())?;
+    for one in ids {
         push_link(one, &mut changes)?;
     }
     Ok(changes)
@@ -132,7 +130,7 @@ fn link_changes<'a>(
 
 /// Appends the removal of what was a candidate.
 fn push_going<'a>(
-    one: &'a Move,
+    one: &'a IdChange,
     out: &mut Vec<Change<Candidate, CandidateAt<'a>>>,
 ) -> Result<(), NoMemory>
     ensures { OnOk result (naming_keys candidate_at out.new.items
@@ -147,12 +145,12 @@ fn push_going<'a>(
 
 /// Appends what is a candidate now.
 fn push_coming<'a>(
-    one: &'a Move,
+    one: &'a IdChange,
     out: &mut Vec<Change<Candidate, CandidateAt<'a>>>,
 ) -> Result<(), NoMemory>
     ensures { OnOk result (naming_keys candidate_at out.new.items
         ≡ naming_keys candidate_at out.old.items
-        ++ rule.coming one.entry.now.id (rule.mention_after one.entry.now)) }
+        ++ rule.coming one.entry.now.id (rule.mention_now one.entry.now)) }
 {
     if let Some(mention) = mention_in(one.after) {
         out.push(Change::Put(Candidate {
@@ -163,16 +161,16 @@ fn push_coming<'a>(
     Ok(())
 }
 
-/// What moves change of the candidates; or out of memory.
+/// What changes of ids come to in the candidates; or out of memory.
 fn candidate_changes<'a>(
     alloc: Global,
-    moves: &'a [Move],
+    ids: &'a [IdChange],
 ) -> Result<Vec<Change<Candidate, CandidateAt<'a>>>, NoMemory>
     ensures { IfOk result (λ changes. naming_keys candidate_at changes.items
-        ≡ flat_map rule.candidate_changes moves.entry.now) }
+        ≡ flat_map rule.candidate_changes ids.entry.now) }
 {
-    let mut changes = Vec::with_capacity(alloc, moves.len())?;
-    for one in moves {
+    let mut changes = Vec::with_capacity(alloc, ids.len())?;
+    for one in ids {
         push_going(one, &mut changes)?;
         push_coming(one, &mut changes)?;
     }
@@ -194,7 +192,7 @@ fn added_put<'a>(
     table: &Table,
     id: &'a str,
 ) -> Result<Change<SharedStored, &'a str>, NoMemory>
-    ensures { IfOk result (λ change. naming_key (λ id. id.now) change
+    ensures { IfOk result (λ change. naming_key id_at change
         ≡ rule.added_change id.entry.now (rule.held table.now id.entry.now)) }
 {
     match table.get(id) {
@@ -203,13 +201,13 @@ fn added_put<'a>(
     }
 }
 
-/// What a move changes of the entities with updates of added trips; or out of memory.
+/// What the change of an id comes to in the entities with updates of added trips; or out of memory.
 fn added_change<'a>(
     alloc: Global,
     table: &Table,
-    one: &'a Move,
+    one: &'a IdChange,
 ) -> Result<Change<SharedStored, &'a str>, NoMemory>
-    ensures { IfOk result (λ change. naming_key (λ id. id.now) change ∷ []
+    ensures { IfOk result (λ change. naming_key id_at change ∷ []
         ≡ rule.added_changes table.now one.entry.now) }
 {
     match one.after {
@@ -218,17 +216,17 @@ fn added_change<'a>(
     }
 }
 
-/// What moves change of them; or out of memory.
+/// What changes of ids come to in them; or out of memory.
 fn added_changes<'a>(
     alloc: Global,
     table: &Table,
-    moves: &'a [Move],
+    ids: &'a [IdChange],
 ) -> Result<Vec<Change<SharedStored, &'a str>>, NoMemory>
-    ensures { IfOk result (λ changes. naming_keys (λ id. id.now) changes.items
-        ≡ flat_map (rule.added_changes table.now) moves.entry.now) }
+    ensures { IfOk result (λ changes. naming_keys id_at changes.items
+        ≡ flat_map (rule.added_changes table.now) ids.entry.now) }
 {
-    let mut changes = Vec::with_capacity(alloc, moves.len())?;
-    for one in moves {
+    let mut changes = Vec::with_capacity(alloc, ids.len())?;
+    for one in ids {
         changes.push(added_change(alloc, table, one)?)?;
     }
     Ok(changes)

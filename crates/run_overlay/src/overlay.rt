@@ -1,11 +1,11 @@
 //! The overlay of a feed.
 
-ghost use Rattle.std.specs.Prelude.{◌≡◌, ◌+◌, ◌*◌, ◌≤◌, length, map, IfOk, List};
+ghost use Rattle.std.specs.Prelude.{◌≡◌, ◌+◌, ◌*◌, ◌≤◌, false, List, [], length, map, IfOk};
 ghost use Rattle.std.specs.Option.{option_map};
-ghost use Rattle.feed_defs.specs.History.{Change, entities_after};
+ghost use Rattle.feed_defs.specs.History.{Change, entities_after, is_full};
 ghost use Rattle.sched_types.specs.Timetable.{Timetable};
 ghost use Rattle.board_defs.specs.Choice.{chosen};
-ghost use Rattle.run_overlay.specs.Changing.{AreMoves, touched_runs};
+ghost use Rattle.run_overlay.specs.Changing.{AreIdChanges, touched_runs};
 ghost use Rattle.run_overlay.specs.Kept.{chosen_in, no_overlay, overlay_of, slots_in, told_update, IsTable};
 ghost use Rattle.run_overlay.specs.Live.{live_between};
 ghost use Rattle.run_overlay.specs.Told.{told};
@@ -13,12 +13,12 @@ ghost use Rattle.run_overlay.specs.Updates.{updates_of};
 
 use crate::NoMemory;
 use crate::at_stop::AtStop;
+use crate::id_changes::{IdChange, changes_of_entities, changes_of_table};
 use crate::live_lists::LiveLists;
 use crate::mention_lists::MentionLists;
-use crate::moves::{Move, moves_of_entities, moves_of_table};
 use crate::row::RowKey;
 use crate::run_key::RunKey;
-use crate::turns;
+use crate::turns::touched_runs;
 use delay_rule::Steps;
 use entity_table::{SharedStored, Table};
 use rt_types::{FeedMessage, Incrementality, Text};
@@ -56,7 +56,7 @@ impl Overlay {
     /// The overlay of a feed that holds nothing, whatever the timetable. It takes no memory.
     pub fn empty(alloc: Global) -> Overlay
         ensures kept { result ≡ no_overlay }
-        ensures of { (t : Timetable) → result ≡ overlay_of t [] }
+        ensures every { (t : Timetable) → result ≡ overlay_of t [] }
     {
         Overlay {
             mentions: MentionLists::empty(alloc),
@@ -76,9 +76,9 @@ impl Overlay {
         ensures few { steps.new ≤ steps.old + length table.now }
     {
         let _all = table.iter();
-        let moves = moves_of_table(alloc, plan, table)?;
+        let ids = changes_of_table(alloc, plan, table)?;
         let none = Overlay::empty(alloc);
-        none.after(alloc, plan, table, moves.as_slice(), steps)
+        none.after(alloc, plan, table, ids.as_slice(), steps)
     }
 
     /// The overlay after a message, which is that of the table after it: what [`Overlay::build`] makes of that table; or
@@ -105,7 +105,7 @@ impl Overlay {
         }
     }
 
-    /// The overlay after a differential message.
+    /// The overlay after a message that is no whole data set; or out of memory.
     fn after_entities<L: Ledger>(
         &self,
         alloc: Global,
@@ -115,32 +115,33 @@ impl Overlay {
         steps: &mut Steps<L>,
     ) -> Result<Overlay, NoMemory>
         requires before { (old : List Change) × IsTable old × (self.now ≡ overlay_of plan.now old)
-            × (table.now ≡ entities_with message.now old) }
+            × (table.now ≡ entities_after message.now old) }
+        requires differential { is_full message.now ≡ false }
         ensures overlay { IfOk result (λ next. next ≡ overlay_of plan.now table.now) }
         ensures few { steps.new ≤ steps.old + 2 * length message.now.entity }
     {
         let _all = table.iter();
         let entities = message.entity.as_slice();
-        let moves = moves_of_entities(alloc, plan, self.mentions.links(), table, entities)?;
-        self.after(alloc, plan, table, moves.as_slice(), steps)
+        let ids = changes_of_entities(alloc, plan, self.mentions.links(), table, entities)?;
+        self.after(alloc, plan, table, ids.as_slice(), steps)
     }
 
-    /// The overlay after moves that lead to the table; or out of memory.
+    /// The overlay after changes of ids that lead to the table; or out of memory.
     fn after<L: Ledger>(
         &self,
         alloc: Global,
         plan: &Plan,
         table: &Table,
-        moves: &[Move],
+        ids: &[IdChange],
         steps: &mut Steps<L>,
     ) -> Result<Overlay, NoMemory>
-        requires moves { AreMoves plan.now self.now table.now moves.now }
+        requires changes { AreIdChanges plan.now self.now table.now ids.now }
         requires table { IsTable table.now }
         ensures overlay { IfOk result (λ next. next ≡ overlay_of plan.now table.now) }
-        ensures few { steps.new ≤ steps.old + length (touched_runs moves.now) }
+        ensures few { steps.new ≤ steps.old + length (touched_runs ids.now) }
     {
-        let mentions = self.mentions.after(alloc, table, moves)?;
-        let runs = turns::touched_runs(alloc, moves)?;
+        let mentions = self.mentions.after(alloc, table, ids)?;
+        let runs = touched_runs(alloc, ids)?;
         let candidates = mentions.candidates();
         let live = self
             .live

@@ -1,10 +1,10 @@
 //! What becomes of the runs that a message touches.
 
-ghost use Rattle.std.specs.Prelude.{◌≡◌, ◌+◌, ◌≤◌, true, ◌++◌, length, map, IfOk, IsTrue, OnOk};
-ghost use Rattle.std.specs.List.{flat_map, list_any};
+ghost use Rattle.std.specs.Prelude.{◌≡◌, ◌+◌, ◌≤◌, ◌++◌, length, map, IfOk, OnOk};
+ghost use Rattle.std.specs.List.{list_any};
 ghost use Rattle.run_overlay.specs.declared.run_key.RunKey.{RunKey};
 ghost use Rattle.run_overlay.specs.Changing as changing;
-ghost use Rattle.run_overlay.specs.Kept.{live_run, mentions_of, IsTable};
+ghost use Rattle.run_overlay.specs.Kept.{live_run, mentions_of};
 ghost use Rattle.run_overlay.specs.Sought.{is_key};
 ghost use Rattle.run_overlay.specs.Turning as rule;
 ghost use Rattle.run_overlay.specs.Updates.{updates_of};
@@ -12,9 +12,9 @@ ghost use Rattle.run_overlay.specs.Updates.{updates_of};
 use crate::NoMemory;
 use crate::candidate::Candidate;
 use crate::found::{first_candidate, update_at};
+use crate::id_changes::IdChange;
 use crate::live_run::LiveRun;
 use crate::mention::{Mention, mention_in};
-use crate::moves::Move;
 use crate::places::rows_of_run;
 use crate::run_key::RunKey;
 use copying::Copied;
@@ -43,12 +43,12 @@ fn push_run(mention: Option<Mention>, runs: &mut Vec<RunKey>) -> Result<(), NoMe
     Ok(())
 }
 
-/// The runs that updates were about before the moves or are about after them, in the order of the moves; or out of memory.
-fn all_runs(alloc: Global, moves: &[Move]) -> Result<Vec<RunKey>, NoMemory>
-    ensures { IfOk result (λ runs. runs.items ≡ changing.touched_runs moves.now) }
+/// The runs that updates were about before the changes and those that they are about now, id by id; or out of memory.
+fn all_runs(alloc: Global, ids: &[IdChange]) -> Result<Vec<RunKey>, NoMemory>
+    ensures { IfOk result (λ runs. runs.items ≡ changing.touched_runs ids.now) }
 {
     let mut runs = Vec::new(alloc);
-    for one in moves {
+    for one in ids {
         push_run(one.before, &mut runs)?;
         push_run(mention_in(one.after), &mut runs)?;
     }
@@ -56,12 +56,12 @@ fn all_runs(alloc: Global, moves: &[Move]) -> Result<Vec<RunKey>, NoMemory>
 }
 
 /// The same, each once; or out of memory.
-pub(crate) fn touched_runs(alloc: Global, moves: &[Move]) -> Result<Vec<RunKey>, NoMemory>
+pub(crate) fn touched_runs(alloc: Global, ids: &[IdChange]) -> Result<Vec<RunKey>, NoMemory>
     ensures all { IfOk result (λ runs. (key : RunKey)
-        → list_any (is_key key) runs.items ≡ list_any (is_key key) (changing.touched_runs moves.now)) }
-    ensures few { IfOk result (λ runs. length runs.items ≤ length (changing.touched_runs moves.now)) }
+        → list_any (is_key key) runs.items ≡ list_any (is_key key) (changing.touched_runs ids.now)) }
+    ensures few { IfOk result (λ runs. length runs.items ≤ length (changing.touched_runs ids.now)) }
 {
-    let mut runs = all_runs(alloc, moves)?;
+    let mut runs = all_runs(alloc, ids)?;
     runs.sort_unstable();
     runs.dedup();
     Ok(runs)

@@ -1,9 +1,9 @@
-//! What becomes of the ids of a message.
+//! What becomes of the ids of entities.
 
 ghost use Rattle.std.specs.Prelude.{◌≡◌, map, IfOk};
 ghost use Rattle.std.specs.FinMap.{find};
 ghost use Rattle.std.specs.Option.{option_map};
-ghost use Rattle.run_overlay.specs.Changing.{move_by, move_from_nothing};
+ghost use Rattle.run_overlay.specs.Changing.{id_change_by, id_change_new};
 ghost use Rattle.run_overlay.specs.Keys.{id_cmp};
 
 use crate::NoMemory;
@@ -18,7 +18,7 @@ use std::alloc::Global;
 
 /// The id of an entity, the run that its update was about, if it was about one, and what its update is about now.
 #[derive(Drop)]
-pub(crate) struct Move {
+pub(crate) struct IdChange {
     pub(crate) id: Text,
     pub(crate) before: Option<Mention>,
     pub(crate) after: About,
@@ -35,15 +35,15 @@ fn mention_at(links: &SharedList<Link>, id: &str) -> Option<Mention>
 }
 
 /// What becomes of an id; or out of memory.
-fn move_of(
+fn change_of_id(
     plan: &Plan,
     links: &SharedList<Link>,
     table: &Table,
     id: &Text,
-) -> Result<Move, NoMemory>
-    ensures { IfOk result (λ one. one ≡ move_by plan.now links.now table.now id.now) }
+) -> Result<IdChange, NoMemory>
+    ensures { IfOk result (λ one. one ≡ id_change_by plan.now links.now table.now id.now) }
 {
-    Ok(Move {
+    Ok(IdChange {
         id: id.copy()?,
         before: mention_at(links, id.as_str()),
         after: about_held(plan, table, id.as_str()),
@@ -52,28 +52,28 @@ fn move_of(
 
 /// What becomes of the ids of some entities, by the links that were kept before and by the table that there is now; or
 /// out of memory.
-pub(crate) fn moves_of_entities(
+pub(crate) fn changes_of_entities(
     alloc: Global,
     plan: &Plan,
     links: &SharedList<Link>,
     table: &Table,
     entities: &[Entity],
-) -> Result<Vec<Move>, NoMemory>
-    ensures { IfOk result (λ moves. moves.items
-        ≡ map (λ entity. move_by plan.now links.now table.now entity.id) entities.now) }
+) -> Result<Vec<IdChange>, NoMemory>
+    ensures { IfOk result (λ ids. ids.items
+        ≡ map (λ entity. id_change_by plan.now links.now table.now entity.id) entities.now) }
 {
-    let mut moves = Vec::with_capacity(alloc, entities.len())?;
+    let mut ids = Vec::with_capacity(alloc, entities.len())?;
     for entity in entities {
-        moves.push(move_of(plan, links, table, &entity.id)?)?;
+        ids.push(change_of_id(plan, links, table, &entity.id)?)?;
     }
-    Ok(moves)
+    Ok(ids)
 }
 
 /// What becomes of an id that had nothing; or out of memory.
-fn move_of_stored(plan: &Plan, stored: &Stored) -> Result<Move, NoMemory>
-    ensures { IfOk result (λ one. one ≡ move_from_nothing plan.now stored.now) }
+fn change_of_stored(plan: &Plan, stored: &Stored) -> Result<IdChange, NoMemory>
+    ensures { IfOk result (λ one. one ≡ id_change_new plan.now stored.now) }
 {
-    Ok(Move {
+    Ok(IdChange {
         id: stored.entity.id.copy()?,
         before: None,
         after: about_stored(plan, stored),
@@ -81,17 +81,17 @@ fn move_of_stored(plan: &Plan, stored: &Stored) -> Result<Move, NoMemory>
 }
 
 /// What becomes of all ids of a table, where there was nothing before; or out of memory.
-pub(crate) fn moves_of_table(
+pub(crate) fn changes_of_table(
     alloc: Global,
     plan: &Plan,
     table: &Table,
-) -> Result<Vec<Move>, NoMemory>
-    ensures { IfOk result (λ moves. moves.items
-        ≡ map (λ change. move_from_nothing plan.now change.1) table.now) }
+) -> Result<Vec<IdChange>, NoMemory>
+    ensures { IfOk result (λ ids. ids.items
+        ≡ map (λ change. id_change_new plan.now change.1) table.now) }
 {
-    let mut moves = Vec::with_capacity(alloc, table.len())?;
+    let mut ids = Vec::with_capacity(alloc, table.len())?;
     for stored in table.iter() {
-        moves.push(move_of_stored(plan, stored)?)?;
+        ids.push(change_of_stored(plan, stored)?)?;
     }
-    Ok(moves)
+    Ok(ids)
 }
