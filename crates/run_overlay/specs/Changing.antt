@@ -64,7 +64,7 @@ link_changes one = link_change one.id one.before (mention_now one)
 -- what was a candidate goes, and what is one comes
 abbrev pub going : List ℕ → Option Mention → List (Change Candidate CandidateKey)
 going id None = []
-going id (Some mention) = Remove (run_key mention.run, (mention.stamp, id)) ∷ []
+going id (Some mention) = Remove (run_key mention.run, Some (mention.stamp, id)) ∷ []
 
 abbrev pub coming : List ℕ → Option Mention → List (Change Candidate CandidateKey)
 coming id None = []

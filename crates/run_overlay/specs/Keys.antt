@@ -1,6 +1,7 @@
 -- By what the lists of an overlay are ordered.
-use Rattle.std.specs.Prelude.{ℕ, List}
+use Rattle.std.specs.Prelude.{ℕ, Option, Some, List}
 use Rattle.std.specs.Cmp.Lexicographic.{slice_cmp}
+use Rattle.std.specs.Option.{option_cmp}
 use Rattle.std.specs.Ordering.{int_cmp, nat_cmp, ordering_then}
 use Rattle.std.specs.declared.cmp.Ordering.{Ordering}
 use Rattle.feed_defs.specs.declared.history.Stored.{Stored}
@@ -32,18 +33,20 @@ run_cmp a b = ordering_then (nat_cmp a.trip b.trip) (nat_cmp a.day b.day)
 abbrev pub live_run_key : LiveRun → RunKey
 live_run_key live = run_key live.run
 
--- by the run, and of one run the one that counts more first: the later stamp, then the greater id
+-- Updates about runs go by the run, and those of one run as they count, the one that counts most first: by the later
+-- stamp, and then by the greater id. A run without an update goes before them.
 abbrev pub CandidateKey : Type 0
-CandidateKey = RunKey × (ℕ × List ℕ)
+CandidateKey = RunKey × Option (ℕ × List ℕ)
+
+abbrev pub weight_cmp : ℕ × List ℕ → ℕ × List ℕ → Ordering
+weight_cmp a b = ordering_then (nat_cmp b.0 a.0) (slice_cmp nat_cmp b.1 a.1)
 
 abbrev pub candidate_key : Candidate → CandidateKey
 candidate_key candidate =
-    (run_key candidate.mention.run, (candidate.mention.stamp, candidate.id))
+    (run_key candidate.mention.run, Some (candidate.mention.stamp, candidate.id))
 
 abbrev pub candidate_cmp : CandidateKey → CandidateKey → Ordering
-candidate_cmp a b =
-    ordering_then (run_cmp a.0 b.0)
-    (ordering_then (nat_cmp b.1.0 a.1.0) (slice_cmp nat_cmp b.1.1 a.1.1))
+candidate_cmp a b = ordering_then (run_cmp a.0 b.0) (option_cmp weight_cmp a.1 b.1)
 
 -- by the stop, the expected instant, the trip, the day and the place
 abbrev pub row_key : LiveRow → RowKey

@@ -1,5 +1,5 @@
 -- Keys as they are sought, and the departures that an iterator has ahead.
-use Rattle.std.specs.Prelude.{ℕ, ◌≤◌, Bool, ◌&&◌, ◌==◌, List, map, filter, ℤ, int_lt}
+use Rattle.std.specs.Prelude.{ℕ, ◌≤◌, Bool, ◌&&◌, ◌==◌, Some, List, map, filter, ℤ, int_lt}
 use Rattle.std.specs.Borrow.{Bor}
 use Rattle.std.specs.List.{AllByRecursion}
 use Rattle.shared_list.specs.Order.{Rises}
@@ -14,7 +14,7 @@ abbrev pub id_at : Bor (List ℕ) → List ℕ
 id_at id = id.now
 
 abbrev pub candidate_at : CandidateAt → CandidateKey
-candidate_at c = (run_key c.mention.run, (c.mention.stamp, c.id.now))
+candidate_at c = (run_key c.mention.run, Some (c.mention.stamp, c.id.now))
 
 abbrev pub row_at : Bor LiveRow → RowKey
 row_at row = row_key row.now

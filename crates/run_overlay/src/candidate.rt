@@ -59,8 +59,8 @@ impl Copied for Candidate {
 }
 
 impl Keyed for Candidate {
-    // What a contract sees: the run, the stamp and the id.
-    type Key = (RunKey, (u64, Text));
+    // The run, and the stamp and the id of an update.
+    type Key = (RunKey, Option<(u64, Text)>);
 
     ghost use Rattle.run_overlay.specs.Keys.{candidate_key, candidate_cmp};
     ghost use Rattle.run_overlay.specs.Orders.{candidates_total, candidates_exact};
@@ -83,9 +83,10 @@ impl Keyed for Candidate {
 }
 
 impl<'a> KeyFor<Candidate> for CandidateAt<'a> {
+    ghost use Rattle.std.specs.Prelude.{Some};
     ghost use Rattle.run_overlay.specs.Keys.{run_key};
 
-    ghost sought = { λ c. (run_key c.mention.run, (c.mention.stamp, c.id.now)) };
+    ghost sought = { λ c. (run_key c.mention.run, Some (c.mention.stamp, c.id.now)) };
 
     fn order_of(&self, candidate: &Candidate) -> Ordering {
         in_turn(
@@ -96,14 +97,13 @@ impl<'a> KeyFor<Candidate> for CandidateAt<'a> {
     }
 }
 
-/// As an update with a stamp above all: those of the run come after it.
+/// The run alone goes before its updates.
 impl KeyFor<Candidate> for FirstOf {
-    ghost use Rattle.std.specs.Prelude.{◌^◌, []};
+    ghost use Rattle.std.specs.Prelude.{None};
 
-    ghost sought = { λ first. (first.run, (2 ^ 64, [])) };
+    ghost sought = { λ first. (first.run, None) };
 
     fn order_of(&self, candidate: &Candidate) -> Ordering {
-        let _stamp = candidate.mention.stamp;
         run_order(candidate.mention.run, self.run).then(Ordering::Greater)
     }
 }
