@@ -199,11 +199,13 @@ module _ {A K X : Type 0} {cmp : K → K → Ordering} (o : IsTotalOrder cmp) (k
 
   segments : (all : List A) → AllByRecursion (IsGiver cmp key k gives owns items) all → AllByRecursion (IsSegment cmp key k (λ a. map Put (gives a)) owns left_by IsEither) all
   segments [] h = tt
-  segments (a ∷ all) h =
-      (record {
-        apart = λ e found. puts_apart cmp key k (gives a) (h.0.apart e) found;
-        own = λ e found fine. ap (λ xs. effect cmp key k (map Put xs) found) (h.0.own e) ∙ left_again found fine;
-      }, segments all h.1)
+  segments (a ∷ all) h = (
+    record {
+      apart = λ e found. puts_apart cmp key k (gives a) (h.0.apart e) found;
+      own = λ e found fine. ap (λ xs. effect cmp key k (map Put xs) found) (h.0.own e) ∙ left_again found fine;
+    },
+    segments all h.1,
+  )
 
   -- where one of them owns the key, what is found there is what its items leave
   pub find_given : (all : List A) → AllByRecursion (IsGiver cmp key k gives owns items) all → find cmp k (by_key cmp key (flat_map gives all)) ≡ cond (list_any owns all) left_by None

@@ -61,11 +61,12 @@ module _ {I : Type 0} {cmp : I → I → Ordering} (o : IsTotalOrder cmp) (exact
     -- what is found under the key of an entry is that entry's
     pub found_own : (q : I) (es : List (I × V)) → T (is_sorted cmp es) → AllByRecursion (λ e. eq_by_cmp cmp q e.0 ≡ true → find cmp q es ≡ Some e.1) es
     found_own q [] h = tt
-    found_own q (e ∷ es) h =
-        (λ tie. ap (λ b. cond b (Some e.1) (find cmp q es)) tie,
-        all_with (λ x. cmp e.0 x.0 ≡ Less) (λ x. eq_by_cmp cmp q x.0 ≡ true → find cmp q es ≡ Some x.1) (λ x. eq_by_cmp cmp q x.0 ≡ true → find cmp q (e ∷ es) ≡ Some x.1)
-        (λ x less rest tie. ap (λ b. cond b (Some e.1) (find cmp q es)) (above_apart q e.0 x.0 less tie) ∙ rest tie)
-        es (sorted_behind o e es h) (found_own q es (second_so _ _ h)))
+    found_own q (e ∷ es) h = (
+      λ tie. ap (λ b. cond b (Some e.1) (find cmp q es)) tie,
+      all_with (λ x. cmp e.0 x.0 ≡ Less) (λ x. eq_by_cmp cmp q x.0 ≡ true → find cmp q es ≡ Some x.1) (λ x. eq_by_cmp cmp q x.0 ≡ true → find cmp q (e ∷ es) ≡ Some x.1)
+          (λ x less rest tie. ap (λ b. cond b (Some e.1) (find cmp q es)) (above_apart q e.0 x.0 less tie) ∙ rest tie)
+          es (sorted_behind o e es h) (found_own q es (second_so _ _ h)),
+    )
 
     -- what is found stands under a key that ties
     pub any_found : (q : I) (es : List (I × V)) (v : V) → find cmp q es ≡ Some v → list_any (λ e. eq_by_cmp cmp q e.0) es ≡ true

@@ -12,6 +12,7 @@ use Rattle.sched_types.specs.Timetable.{Timetable}
 use Rattle.run_overlay.specs.declared.candidate.Candidate.{Candidate}
 use Rattle.run_overlay.specs.declared.link.Link.{Link}
 use Rattle.run_overlay.specs.declared.mention.Mention.{Mention}
+use Rattle.run_overlay.specs.declared.id_changes.IdBefore.{IdBefore}
 use Rattle.run_overlay.specs.declared.id_changes.IdChange.{IdChange}
 use Rattle.run_overlay.specs.declared.run_key.RunKey.{RunKey}
 use Rattle.run_overlay.specs.Keyed.{changed}
@@ -21,14 +22,21 @@ use Rattle.run_overlay.specs.Updates.{about_held, about_stored, mention_in}
 
 -- ---- what becomes of an id
 
--- The run that its update was about, by the links that are kept, and what the update is about that the table has
--- there now.
-abbrev pub id_change_by : Timetable → List (List ℕ × Link) → List EntityChange → List ℕ → IdChange
-id_change_by t links table id = record {
-  id = id;
-  before = option_map (λ link. link.mention) (find id_cmp id links);
-  after = about_held t (find id_cmp id table);
+-- the run that its update was about, by the links that are kept
+abbrev pub id_before : List (List ℕ × Link) → List ℕ → IdBefore
+id_before links id =
+    record { id = id; before = option_map (λ link. link.mention) (find id_cmp id links) }
+
+-- and what the update is about that the table has there now
+abbrev pub id_change : Timetable → List EntityChange → IdBefore → IdChange
+id_change t table one = record {
+  id = one.id;
+  before = one.before;
+  after = about_held t (find id_cmp one.id table);
 }
+
+abbrev pub id_change_by : Timetable → List (List ℕ × Link) → List EntityChange → List ℕ → IdChange
+id_change_by t links table id = id_change t table (id_before links id)
 
 -- what becomes of the id of an entity where there was nothing before
 abbrev pub id_change_new : Timetable → Stored → IdChange

@@ -5,6 +5,7 @@ pub mod Updates
 pub mod Live
 pub mod Kept
 pub mod Changing
+pub mod Named
 pub mod Turning
 pub mod Sought
 pub mod Told

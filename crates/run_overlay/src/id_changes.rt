@@ -3,7 +3,7 @@
 ghost use Rattle.std.specs.Prelude.{◌≡◌, map, IfOk};
 ghost use Rattle.std.specs.FinMap.{find};
 ghost use Rattle.std.specs.Option.{option_map};
-ghost use Rattle.run_overlay.specs.Changing.{id_change_by, id_change_new};
+ghost use Rattle.run_overlay.specs.Changing.{id_before, id_change, id_change_new};
 ghost use Rattle.run_overlay.specs.Keys.{id_cmp};
 
 use crate::NoMemory;
@@ -16,7 +16,14 @@ use sched_types::Plan;
 use shared_list::SharedList;
 use std::alloc::Global;
 
-/// The id of an entity, the run that its update was about, if it was about one, and what its update is about now.
+/// The id of an entity of a message, and the run that the update under it was about before, if it was about one.
+#[derive(Drop)]
+pub(crate) struct IdBefore {
+    pub(crate) id: Text,
+    pub(crate) before: Option<Mention>,
+}
+
+/// The same, and what the update is about that the table has under the id now.
 #[derive(Drop)]
 pub(crate) struct IdChange {
     pub(crate) id: Text,
@@ -34,39 +41,59 @@ fn mention_at(links: &SharedList<Link>, id: &str) -> Option<Mention>
     }
 }
 
-/// What becomes of an id; or out of memory.
-fn change_of_id(
-    plan: &Plan,
-    links: &SharedList<Link>,
-    table: &Table,
-    id: &Text,
-) -> Result<IdChange, NoMemory>
-    ensures { IfOk result (λ one. one ≡ id_change_by plan.now links.now table.now id.now) }
+/// An id with what its update was about; or out of memory.
+fn before_of(links: &SharedList<Link>, id: &Text) -> Result<IdBefore, NoMemory>
+    ensures { IfOk result (λ one. one ≡ id_before links.now id.now) }
 {
-    Ok(IdChange {
+    Ok(IdBefore {
         id: id.copy()?,
         before: mention_at(links, id.as_str()),
-        after: about_held(plan, table, id.as_str()),
     })
 }
 
-/// What becomes of the ids of some entities, by the links that were kept before and by the table that there is now; or
-/// out of memory.
-pub(crate) fn changes_of_entities(
+/// The ids of some entities, with what their updates were about, by the links that are kept; or out of memory.
+pub(crate) fn ids_before(
     alloc: Global,
-    plan: &Plan,
     links: &SharedList<Link>,
-    table: &Table,
     entities: &[Entity],
-) -> Result<Vec<IdChange>, NoMemory>
+) -> Result<Vec<IdBefore>, NoMemory>
     ensures { IfOk result (λ ids. ids.items
-        ≡ map (λ entity. id_change_by plan.now links.now table.now entity.id) entities.now) }
+        ≡ map (λ entity. id_before links.now entity.id) entities.now) }
 {
     let mut ids = Vec::with_capacity(alloc, entities.len())?;
     for entity in entities {
-        ids.push(change_of_id(plan, links, table, &entity.id)?)?;
+        ids.push(before_of(links, &entity.id)?)?;
     }
     Ok(ids)
+}
+
+/// What becomes of an id, by the table that there is now.
+fn change_of(plan: &Plan, table: &Table, one: IdBefore) -> IdChange
+    ensures { result ≡ id_change plan.now table.now one }
+{
+    let after = about_held(plan, table, one.id.as_str());
+    IdChange {
+        id: one.id,
+        before: one.before,
+        after,
+    }
+}
+
+/// What becomes of some ids, by the table that there is now; or out of memory.
+pub(crate) fn changes_of_ids(
+    alloc: Global,
+    plan: &Plan,
+    table: &Table,
+    ids: Vec<IdBefore>,
+) -> Result<Vec<IdChange>, NoMemory>
+    ensures { IfOk result (λ changes. changes.items
+        ≡ map (id_change plan.now table.now) ids.items) }
+{
+    let mut changes = Vec::with_capacity(alloc, ids.len())?;
+    for one in ids {
+        changes.push(change_of(plan, table, one))?;
+    }
+    Ok(changes)
 }
 
 /// What becomes of an id that had nothing; or out of memory.

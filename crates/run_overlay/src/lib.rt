@@ -4,7 +4,8 @@
 //! the one before a message: both are `overlay_of` (`specs/Kept`) of the table that there is now. `change` goes over the
 //! entities of the message alone. Each is looked up, to see which run its update was about and which one it is about
 //! now; and each of these runs is walked at most once, by the update that counts for it now. So a message adds at most
-//! two steps for each of its entities, however much the feed holds.
+//! two steps for each of its entities, however much the feed holds. [`Overlay::ids_of`] and [`Overlay::change_by`] are the
+//! two halves of it, for who moves the message's entities into the table in between.
 //!
 //! [`Overlay::chosen`] tells which update counts for a run, as `chosen` of `board_defs` says of this feed's updates
 //! alone. [`Overlay::at_stop`] hands out the departures at a stop, of the runs for which an update counts, that are expected
@@ -34,6 +35,7 @@ mod live_lists;
 mod live_run;
 mod mention;
 mod mention_lists;
+mod message_ids;
 mod overlay;
 mod places;
 mod row;
@@ -44,6 +46,7 @@ mod turns;
 
 pub use at_stop::AtStop;
 pub use mention::stamp_of;
+pub use message_ids::MessageIds;
 pub use overlay::{Chosen, Overlay};
 pub use slot::{LiveSlot, SlotState};
 pub use std::alloc::AllocError as NoMemory;

@@ -1,27 +1,29 @@
 //! The overlay of a feed.
 
-ghost use Rattle.std.specs.Prelude.{◌≡◌, ◌+◌, ◌*◌, ◌≤◌, false, List, [], length, map, IfOk};
+ghost use Rattle.std.specs.Prelude.{◌≡◌, ◌+◌, ◌*◌, ◌≤◌, List, [], length, map, IfOk};
 ghost use Rattle.std.specs.Option.{option_map};
-ghost use Rattle.feed_defs.specs.History.{Change, entities_after, is_full};
+ghost use Rattle.feed_defs.specs.History.{Change, entities_after};
 ghost use Rattle.sched_types.specs.Timetable.{Timetable};
 ghost use Rattle.board_defs.specs.Choice.{chosen};
 ghost use Rattle.run_overlay.specs.Changing.{AreIdChanges, touched_runs};
 ghost use Rattle.run_overlay.specs.Kept.{chosen_in, no_overlay, overlay_of, slots_in, told_update, IsTable};
 ghost use Rattle.run_overlay.specs.Live.{live_between};
+ghost use Rattle.run_overlay.specs.Named.{named_by, IsAfter};
 ghost use Rattle.run_overlay.specs.Told.{told};
 ghost use Rattle.run_overlay.specs.Updates.{updates_of};
 
 use crate::NoMemory;
 use crate::at_stop::AtStop;
-use crate::id_changes::{IdChange, changes_of_entities, changes_of_table};
+use crate::id_changes::{IdChange, changes_of_ids, changes_of_table};
 use crate::live_lists::LiveLists;
 use crate::mention_lists::MentionLists;
+use crate::message_ids::MessageIds;
 use crate::row::RowKey;
 use crate::run_key::RunKey;
 use crate::turns::touched_runs;
 use delay_rule::Steps;
 use entity_table::{SharedStored, Table};
-use rt_types::{FeedMessage, Incrementality, Text};
+use rt_types::{FeedMessage, Text};
 use sched_types::{Plan, Run};
 use shared_list::Iter;
 use std::alloc::Global;
@@ -97,33 +99,39 @@ impl Overlay {
         ensures overlay { IfOk result (λ next. next ≡ overlay_of plan.now table.now) }
         ensures few { steps.new ≤ steps.old + 2 * length message.now.entity }
     {
-        match message.header.incrementality {
-            Some(Incrementality::Differential) => {
-                self.after_entities(alloc, plan, table, message, steps)
-            }
-            Some(Incrementality::FullDataset) | None => Overlay::build(alloc, plan, table, steps),
-        }
+        let ids = self.ids_of(alloc, message)?;
+        self.change_by(alloc, plan, table, ids, steps)
     }
 
-    /// The overlay after a message that is no whole data set; or out of memory.
-    fn after_entities<L: Ledger>(
+    /// The ids that a message names, as [`Overlay::change_by`] takes them; or out of memory. So who moves the entities
+    /// of the message into the table need not keep the message.
+    pub fn ids_of(&self, alloc: Global, message: &FeedMessage) -> Result<MessageIds, NoMemory>
+        ensures { IfOk result (λ ids. ids ≡ named_by self.now message.now) }
+    {
+        MessageIds::of(alloc, self.mentions.links(), message)
+    }
+
+    /// What [`Overlay::change`] gives, by the ids that the message names.
+    pub fn change_by<L: Ledger>(
         &self,
         alloc: Global,
         plan: &Plan,
         table: &Table,
-        message: &FeedMessage,
+        ids: MessageIds,
         steps: &mut Steps<L>,
     ) -> Result<Overlay, NoMemory>
-        requires before { (old : List Change) × IsTable old × (self.now ≡ overlay_of plan.now old)
-            × (table.now ≡ entities_after message.now old) }
-        requires differential { is_full message.now ≡ false }
+        requires { IsAfter plan.now self.now table.now ids }
         ensures overlay { IfOk result (λ next. next ≡ overlay_of plan.now table.now) }
-        ensures few { steps.new ≤ steps.old + 2 * length message.now.entity }
+        ensures few { steps.new ≤ steps.old + 2 * ids.count }
     {
-        let _all = table.iter();
-        let entities = message.entity.as_slice();
-        let ids = changes_of_entities(alloc, plan, self.mentions.links(), table, entities)?;
-        self.after(alloc, plan, table, ids.as_slice(), steps)
+        match ids.into_ids() {
+            Some(ids) => {
+                let _all = table.iter();
+                let changes = changes_of_ids(alloc, plan, table, ids)?;
+                self.after(alloc, plan, table, changes.as_slice(), steps)
+            }
+            None => Overlay::build(alloc, plan, table, steps),
+        }
     }
 
     /// The overlay after changes of ids that lead to the table; or out of memory.
