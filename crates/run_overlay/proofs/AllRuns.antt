@@ -1,5 +1,5 @@
 -- Each run of a timetable is among its runs, and none is there twice.
-use Rattle.std.proofs.Common.{◌≡◌, ℕ, ◌<◌, ◌≤◌, Bool, true, false, nat_eq, cond, List, [], ◌∷◌, ◌++◌, length, map, filter, count_by, refl, sym, ap, subst, ◌∙◌, arith, zero-add}
+use Rattle.std.proofs.Common.{◌≡◌, ℕ, ◌<◌, ◌≤◌, Bool, true, false, nat_eq, cond, List, [], ◌∷◌, length, map, filter, count_by, refl, sym, ap, subst, ◌∙◌, arith, zero-add}
 use Rattle.std.specs.Prelude.{◌&&◌, ◌||◌}
 use Rattle.std.specs.List.{flat_map, list_any, range_with_len}
 use Rattle.std.proofs.lemmas.Bool.{and_parts, and_right}
@@ -24,11 +24,11 @@ any_filter p q (x ∷ xs) kept = by_test (p x) (kept x) (any_filter p q xs kept)
   by_test true kept rest = ap (λ c. q x || c) rest
   by_test false kept rest = rest ∙ not_there (q x) (list_any q xs) kept
 
-any_flat : {A X : Type 0} (q : X → Bool) (f : A → List X) (items : List A) → list_any q (flat_map f items) ≡ list_any (λ a. list_any q (f a)) items
+pub any_flat : {A X : Type 0} (q : X → Bool) (f : A → List X) (items : List A) → list_any q (flat_map f items) ≡ list_any (λ a. list_any q (f a)) items
 any_flat q f [] = refl
 any_flat q f (a ∷ items) = list_any-append q (f a) (flat_map f items) ∙ ap (λ b. list_any q (f a) || b) (any_flat q f items)
 
-any_map : {A X : Type 0} (q : X → Bool) (f : A → X) (items : List A) → list_any q (map f items) ≡ list_any (λ a. q (f a)) items
+pub any_map : {A X : Type 0} (q : X → Bool) (f : A → X) (items : List A) → list_any q (map f items) ≡ list_any (λ a. q (f a)) items
 any_map q f [] = refl
 any_map q f (a ∷ items) = ap (λ b. q (f a) || b) (any_map q f items)
 

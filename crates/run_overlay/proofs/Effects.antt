@@ -5,13 +5,14 @@ use Rattle.std.specs.Cmp.{IsTotalOrder}
 use Rattle.std.specs.List.{AllByRecursion, flat_map, list_any}
 use Rattle.std.specs.Ordering.{eq_by_cmp}
 use Rattle.std.specs.declared.cmp.Ordering.{Ordering}
-use Rattle.std.specs.FinMap.{find, is_sorted}
+use Rattle.std.specs.FinMap.{IsAntisymmetric, find, is_sorted}
+use Rattle.std.specs.FinMap.Entries.{same_entries}
 use Rattle.std.proofs.lemmas.List.{map-append}
 use Rattle.shared_list.specs.declared.change.Change.{Change}
 use Rattle.shared_list.specs.declared.change.Change.TheVariants.{Put, Remove}
 use Rattle.shared_list.specs.Changes.{after_change, after_changes}
 use Rattle.shared_list.proofs.ChangeLaws.{find-change, sorted-changes}
-use Rattle.run_overlay.specs.Keyed.{with_item, by_key, changed, naming_key, naming_keys}
+use Rattle.run_overlay.specs.Keyed.{with_item, by_key, changed, naming_keys}
 
 -- ---- the effect of changes
 
@@ -174,6 +175,38 @@ module _ {K X : Type 0} {cmp : K → K → Ordering} (o : IsTotalOrder cmp) (key
 
   pub find_by_key : (k : K) (xs : List X) → find cmp k (by_key cmp key xs) ≡ effect cmp key k (map Put xs) None
   find_by_key k xs = ap (find cmp k) (by_key_is xs) ∙ find_changed k [] (map Put xs)
+
+-- ---- a list of which several things change the keys that they own
+
+pub flat_same : {A X : Type 0} (f g : A → List X) → ((a : A) → f a ≡ g a) → (items : List A) → flat_map f items ≡ flat_map g items
+flat_same f g same [] = refl
+flat_same f g same (a ∷ items) = ap (λ xs. xs ++ flat_map f items) (same a) ∙ ap (λ xs. g a ++ xs) (flat_same f g same items)
+
+module _ {A K X : Type 0} {order : K → K → Ordering} (total : IsTotalOrder order) (exact : IsAntisymmetric order) (key : X → K) (owns : K → A → Bool) (segment : A → List (Change X K))
+    (was goal : K → Option X) (items : List A) (same : (k : K) → list_any (owns k) items ≡ false → goal k ≡ was k) where
+  abbrev pub IsFine : K → Option X → Type 0
+  IsFine k found = (found ≡ was k) ⊎ (found ≡ goal k)
+
+  either_goal : (k : K) (b : Bool) → list_any (owns k) items ≡ b → cond b (goal k) (was k) ≡ goal k
+  either_goal k true e = refl
+  either_goal k false e = sym (same k e)
+
+  each : (P : A → Type 0) → ((a : A) → P a) → (all : List A) → AllByRecursion P all
+  each P is [] = tt
+  each P is (a ∷ all) = (is a, each P is all)
+
+  -- where each thing's segment brings its keys to their goal, the list becomes the one that has the goals
+  pub all_changed : (old new : List (K × X)) → T (is_sorted order old) → T (is_sorted order new) → ((k : K) → find order k old ≡ was k) → ((k : K) → find order k new ≡ goal k)
+      → ((k : K) (a : A) → IsSegment order key k segment (owns k) (goal k) (IsFine k) a)
+      → changed order key old (flat_map segment items) ≡ new
+  all_changed old new up upper before now segments =
+      same_entries order total exact (changed order key old (flat_map segment items)) new
+      (sorted_changed total key old (flat_map segment items) up) upper
+      (λ k. find_changed total key k old (flat_map segment items)
+      ∙ ap (effect order key k (flat_map segment items)) (before k)
+      ∙ settled order key k segment (owns k) (goal k) (IsFine k) (inr refl) items (each (IsSegment order key k segment (owns k) (goal k) (IsFine k)) (segments k) items) (was k) (inl refl)
+      ∙ either_goal k (list_any (owns k) items) refl
+      ∙ sym (now k))
 
 -- ---- items that several things give
 

@@ -1,6 +1,6 @@
 -- A run that a trip descriptor is about is one of the timetable.
 use Rattle.std.proofs.Common.{◌≡◌, ℕ, Bool, true, false, cond, Option, Some, None, List, [], ◌∷◌, length, map, filter, ℤ, pos, refl}
-use Rattle.std.specs.Prelude.{if◌then◌else◌, IfSome, ◌&&◌, fold, int_lt}
+use Rattle.std.specs.Prelude.{if◌then◌else◌, IfSome, fold, int_lt}
 use Rattle.std.specs.List.{AllByRecursion, list_any, range_with_len}
 use Rattle.std.proofs.lemmas.Bool.{and_parts}
 use Rattle.rt_types.specs.declared.descriptor.TripRef.{TripRef}

@@ -1,15 +1,13 @@
 -- The lists of what updates are about, after the changes of some ids, are those of the table that there is then.
 use Rattle.std.proofs.Common.{◌≡◌, ℕ, List, [], ◌∷◌, ◌++◌, Bool, true, false, cond, Option, Some, None, map, refl, sym, ap, subst, ◌∙◌, inl, inr}
-use Rattle.std.specs.Prelude.{◌⊎◌, T}
+use Rattle.std.specs.Prelude.{◌⊎◌, IfSome}
 use Rattle.std.specs.Cmp.{IsTotalOrder}
 use Rattle.std.specs.Cmp.Lexicographic.{bytes_decides, nat_list_cmp_total}
-use Rattle.std.specs.FinMap.{IsAntisymmetric, find, is_sorted, slice_cmp-IsAntisymmetric, nat_cmp-IsAntisymmetric}
-use Rattle.std.specs.FinMap.Entries.{same_entries}
+use Rattle.std.specs.FinMap.{IsAntisymmetric, find, slice_cmp-IsAntisymmetric, nat_cmp-IsAntisymmetric}
 use Rattle.std.specs.List.{AllByRecursion, filter_map, flat_map, list_any}
 use Rattle.std.specs.Option.{option_map}
 use Rattle.std.specs.Ordering.{eq_by_cmp}
 use Rattle.std.specs.Str.{bytes_eq}
-use Rattle.std.specs.declared.cmp.Ordering.{Ordering}
 use Rattle.std.proofs.lemmas.List.Folds.{flat_map-map}
 use Rattle.std.proofs.lemmas.Map.Text.{is_eq-slice_cmp}
 use Rattle.shared_list.specs.declared.change.Change.{Change}
@@ -25,10 +23,10 @@ use Rattle.run_overlay.specs.declared.mention.Mention.{Mention}
 use Rattle.run_overlay.specs.Changing.{id_change_by, link_change, link_changes, going, coming, candidate_changes, added_change, added_changes, only_added, mentions_after}
 use Rattle.run_overlay.specs.Keyed.{by_key, changed}
 use Rattle.run_overlay.specs.Keys.{CandidateKey, id_cmp, link_key, stored_key, candidate_key, candidate_cmp}
-use Rattle.run_overlay.specs.Kept.{IsTable, Mentions, added_of, candidate_of, if_added, link_of, mentions_of}
+use Rattle.run_overlay.specs.Kept.{IsTable, added_of, candidate_of, if_added, link_of, mentions_of}
 use Rattle.run_overlay.specs.Orders.{candidates_total, candidates_exact}
 use Rattle.run_overlay.specs.Updates.{about_held, about_stored, mention_in}
-use Rattle.run_overlay.proofs.Effects.{IsSegment, effect, find_changed, settled, sorted_by_key, sorted_changed}
+use Rattle.run_overlay.proofs.Effects.{IsSegment, all_changed, effect, flat_same, sorted_by_key}
 use Rattle.run_overlay.proofs.Tables.{TellsId, all_each, all_of, find_of_entries, found_so, given_at, if_tied, tie_same, tie_self}
 
 -- ---- ids
@@ -56,34 +54,6 @@ pub own_ids : (es : List EntityChange) → IsTable es → AllByRecursion (λ (e 
 own_ids es table =
     subst (λ (xs : List EntityChange). AllByRecursion (λ e. e.1.entity.id ≡ e.0) xs) table.keyed (own_each (map (λ c. c.1) es))
 
--- ---- changes of ids, of a list that has at each key what the entity of one id gives
-
-module _ {K X : Type 0} {order : K → K → Ordering} (total : IsTotalOrder order) (exact : IsAntisymmetric order) (key : X → K) (id_in : K → List ℕ) (segment : List ℕ → List (Change X K))
-    (was goal : K → Option X) (ids : List (List ℕ)) (same : (k : K) → list_any (bytes_eq (id_in k)) ids ≡ false → goal k ≡ was k) where
-  abbrev IsFine : K → Option X → Type 0
-  IsFine k found = (found ≡ was k) ⊎ (found ≡ goal k)
-
-  either_goal : (k : K) (b : Bool) → list_any (bytes_eq (id_in k)) ids ≡ b → cond b (goal k) (was k) ≡ goal k
-  either_goal k true e = refl
-  either_goal k false e = sym (same k e)
-
-  -- where each id's segment brings its keys to their goal, the list becomes the one that has the goals
-  pub all_changed : (old new : List (K × X)) → T (is_sorted order old) → T (is_sorted order new) → ((k : K) → find order k old ≡ was k) → ((k : K) → find order k new ≡ goal k)
-      → ((k : K) (id : List ℕ) → IsSegment order key k segment (bytes_eq (id_in k)) (goal k) (IsFine k) id)
-      → changed order key old (flat_map segment ids) ≡ new
-  all_changed old new up upper before now segments =
-      same_entries order total exact (changed order key old (flat_map segment ids)) new
-      (sorted_changed total key old (flat_map segment ids) up) upper
-      (λ k. find_changed total key k old (flat_map segment ids)
-      ∙ ap (effect order key k (flat_map segment ids)) (before k)
-      ∙ settled order key k segment (bytes_eq (id_in k)) (goal k) (IsFine k) (inr refl) ids (all_of (IsSegment order key k segment (bytes_eq (id_in k)) (goal k) (IsFine k)) (segments k) ids) (was k) (inl refl)
-      ∙ either_goal k (list_any (bytes_eq (id_in k)) ids) refl
-      ∙ sym (now k))
-
-flat_same : {A X : Type 0} (f g : A → List X) → ((a : A) → f a ≡ g a) → (items : List A) → flat_map f items ≡ flat_map g items
-flat_same f g same [] = refl
-flat_same f g same (a ∷ items) = ap (λ xs. xs ++ flat_map f items) (same a) ∙ ap (λ xs. g a ++ xs) (flat_same f g same items)
-
 module _ (t : Timetable) where
   -- the run that what is held under an id is about
   abbrev pub mention_held : Option Stored → Option Mention
@@ -94,14 +64,14 @@ module _ (t : Timetable) where
   abbrev link_with : List ℕ → Mention → Link
   link_with id mention = record { id = id; mention = mention }
 
-  abbrev link_at : List ℕ → Option Stored → Option Link
+  abbrev pub link_at : List ℕ → Option Stored → Option Link
   link_at id found = given_at id_cmp link_key (λ k. k) (link_of t) id found
 
   link_tells : (id : List ℕ) (mention : Option Mention) → TellsId id_cmp link_key (λ k. k) id (option_map (link_with id) mention)
   link_tells id None = tt
   link_tells id (Some mention) = λ k tie. tie_same ids_total ids_exact k id tie
 
-  find_link : (es : List EntityChange) → IsTable es → (id : List ℕ) → find id_cmp id (by_key id_cmp link_key (filter_map (link_of t) es)) ≡ link_at id (find id_cmp id es)
+  pub find_link : (es : List EntityChange) → IsTable es → (id : List ℕ) → find id_cmp id (by_key id_cmp link_key (filter_map (link_of t) es)) ≡ link_at id (find id_cmp id es)
   find_link es table id =
       find_of_entries ids_total ids_exact ids_total link_key (λ k. k) (link_of t) id es table.rising
       (all_of (λ e. TellsId id_cmp link_key (λ k. k) e.0 (link_of t e)) (λ e. link_tells e.0 (mention_in (about_stored t e.1))) es)
@@ -139,32 +109,32 @@ module _ (t : Timetable) where
 
   -- ---- candidates
 
-  abbrev candidate_with : List ℕ → Mention → Candidate
+  abbrev pub candidate_with : List ℕ → Mention → Candidate
   candidate_with id mention = record { mention = mention; id = id }
 
-  abbrev weight_id : Option (ℕ × List ℕ) → List ℕ
+  abbrev pub weight_id : Option (ℕ × List ℕ) → List ℕ
   weight_id None = []
   weight_id (Some weight) = weight.1
 
-  abbrev id_of : CandidateKey → List ℕ
+  abbrev pub id_of : CandidateKey → List ℕ
   id_of k = weight_id k.1
 
-  abbrev candidate_at : CandidateKey → List ℕ → Option Mention → Option Candidate
+  abbrev pub candidate_at : CandidateKey → List ℕ → Option Mention → Option Candidate
   candidate_at k id mention = if_tied candidate_cmp candidate_key k (option_map (candidate_with id) mention)
 
-  abbrev candidate_given : CandidateKey → Option Stored → Option Candidate
+  abbrev pub candidate_given : CandidateKey → Option Stored → Option Candidate
   candidate_given k found = given_at candidate_cmp candidate_key id_of (candidate_of t) k found
 
   candidate_tells : (id : List ℕ) (mention : Option Mention) → TellsId candidate_cmp candidate_key id_of id (option_map (candidate_with id) mention)
   candidate_tells id None = tt
   candidate_tells id (Some mention) = λ k tie. ap id_of (tie_same candidates_total candidates_exact k (candidate_key (candidate_with id mention)) tie)
 
-  find_candidate : (es : List EntityChange) → IsTable es → (k : CandidateKey) → find candidate_cmp k (by_key candidate_cmp candidate_key (filter_map (candidate_of t) es)) ≡ candidate_given k (find id_cmp (id_of k) es)
+  pub find_candidate : (es : List EntityChange) → IsTable es → (k : CandidateKey) → find candidate_cmp k (by_key candidate_cmp candidate_key (filter_map (candidate_of t) es)) ≡ candidate_given k (find id_cmp (id_of k) es)
   find_candidate es table k =
       find_of_entries ids_total ids_exact candidates_total candidate_key id_of (candidate_of t) k es table.rising
       (all_of (λ e. TellsId candidate_cmp candidate_key id_of e.0 (candidate_of t e)) (λ e. candidate_tells e.0 (mention_in (about_stored t e.1))) es)
 
-  candidate_is : (k : CandidateKey) (found : Option Stored) → candidate_given k found ≡ candidate_at k (id_of k) (mention_held found)
+  pub candidate_is : (k : CandidateKey) (found : Option Stored) → candidate_given k found ≡ candidate_at k (id_of k) (mention_held found)
   candidate_is k None = refl
   candidate_is k (Some s) = refl
 
@@ -299,7 +269,7 @@ module _ (t : Timetable) where
         ap (changed id_cmp link_key old_links)
         (flat_map-map link_changes (id_change_by t old_links new) ids
         ∙ flat_same (λ id. link_changes (id_change_by t old_links new id)) link_segment (λ id. ap (λ before. link_change id before (mention_after id)) (before_is old was id)) ids)
-        ∙ all_changed ids_total ids_exact link_key (λ k. k) link_segment (λ k. link_at k (find id_cmp k old)) (λ k. link_at k (find id_cmp k new)) ids (λ k e. ap (link_at k) (others k e))
+        ∙ all_changed ids_total ids_exact link_key (λ k. bytes_eq k) link_segment (λ k. link_at k (find id_cmp k old)) (λ k. link_at k (find id_cmp k new)) ids (λ k e. ap (link_at k) (others k e))
         old_links (by_key id_cmp link_key (filter_map (link_of t) new)) (sorted_by_key ids_total link_key (filter_map (link_of t) old)) (sorted_by_key ids_total link_key (filter_map (link_of t) new))
         (find_link old was) (find_link new is) links_segments
 
@@ -327,7 +297,7 @@ module _ (t : Timetable) where
         ap (changed candidate_cmp candidate_key old_candidates)
         (flat_map-map candidate_changes (id_change_by t old_links new) ids
         ∙ flat_same (λ id. candidate_changes (id_change_by t old_links new id)) candidate_segment (λ id. ap (λ before. going id before ++ coming id (mention_after id)) (before_is old was id)) ids)
-        ∙ all_changed candidates_total candidates_exact candidate_key id_of candidate_segment (λ k. candidate_given k (find id_cmp (id_of k) old)) (λ k. candidate_given k (find id_cmp (id_of k) new)) ids (λ k e. ap (candidate_given k) (others (id_of k) e))
+        ∙ all_changed candidates_total candidates_exact candidate_key (λ k. bytes_eq (id_of k)) candidate_segment (λ k. candidate_given k (find id_cmp (id_of k) old)) (λ k. candidate_given k (find id_cmp (id_of k) new)) ids (λ k e. ap (candidate_given k) (others (id_of k) e))
         old_candidates (by_key candidate_cmp candidate_key (filter_map (candidate_of t) new)) (sorted_by_key candidates_total candidate_key (filter_map (candidate_of t) old)) (sorted_by_key candidates_total candidate_key (filter_map (candidate_of t) new))
         (find_candidate old was) (find_candidate new is) candidates_segments
 
@@ -357,7 +327,7 @@ module _ (t : Timetable) where
         ap (changed id_cmp stored_key old_added)
         (flat_map-map (added_changes new) (id_change_by t old_links new) ids
         ∙ flat_same (λ id. added_changes new (id_change_by t old_links new id)) added_segment by_change ids)
-        ∙ all_changed ids_total ids_exact stored_key (λ k. k) added_segment (λ k. added_at k (find id_cmp k old)) (λ k. added_at k (find id_cmp k new)) ids (λ k e. ap (added_at k) (others k e))
+        ∙ all_changed ids_total ids_exact stored_key (λ k. bytes_eq k) added_segment (λ k. added_at k (find id_cmp k old)) (λ k. added_at k (find id_cmp k new)) ids (λ k e. ap (added_at k) (others k e))
         old_added (by_key id_cmp stored_key (filter_map (added_of t) new)) (sorted_by_key ids_total stored_key (filter_map (added_of t) old)) (sorted_by_key ids_total stored_key (filter_map (added_of t) new))
         (find_added old was) (find_added new is) added_segments
 

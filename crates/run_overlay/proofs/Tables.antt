@@ -1,6 +1,6 @@
 -- What a table has under an id, and lists of what its entities give.
-use Rattle.std.proofs.Common.{◌≡◌, ℕ, List, [], ◌∷◌, ◌++◌, Bool, true, false, cond, Option, Some, None, map, filter, refl, sym, ap, subst, ◌∙◌, Less, Equal, Greater}
-use Rattle.std.specs.Prelude.{◌&&◌, ◌||◌, IfSome, T}
+use Rattle.std.proofs.Common.{◌≡◌, List, [], ◌∷◌, ◌++◌, Bool, true, false, cond, Option, Some, None, map, refl, sym, ap, subst, ◌∙◌, Less, Equal, Greater}
+use Rattle.std.specs.Prelude.{◌||◌, IfSome, T}
 use Rattle.std.specs.Cmp.{IsTotalOrder}
 use Rattle.std.specs.FinMap.{IsAntisymmetric, find, is_sorted}
 use Rattle.std.specs.List.{AllByRecursion, cons_option, filter_map, flat_map, list_any}
@@ -9,7 +9,6 @@ use Rattle.std.specs.Ordering.{eq_by_cmp, is_eq, ordering_reverse}
 use Rattle.std.specs.declared.cmp.Ordering.{Ordering}
 use Rattle.std.proofs.lemmas.Cmp.{tied_itself}
 use Rattle.shared_list.specs.declared.change.Change.TheVariants.{Put}
-use Rattle.shared_list.specs.Order.{AllAbove}
 use Rattle.shared_list.proofs.Middle.{second_so, sorted_behind}
 use Rattle.run_overlay.specs.Keyed.{by_key}
 use Rattle.run_overlay.proofs.Effects.{IsApart, IsGiver, effect, find_given}
@@ -34,6 +33,10 @@ filter_map_flat {X} {Y} f (x ∷ xs) = by_option (f x) (filter_map_flat f xs) wh
   by_option : (o : Option Y) → filter_map f xs ≡ flat_map (λ x. option_to_list (f x)) xs → cons_option o (filter_map f xs) ≡ option_to_list o ++ flat_map (λ x. option_to_list (f x)) xs
   by_option None rest = rest
   by_option (Some y) rest = ap (λ ys. y ∷ ys) rest
+
+pub filter_map_same : {X Y : Type 0} (f g : X → Option Y) → ((x : X) → f x ≡ g x) → (xs : List X) → filter_map f xs ≡ filter_map g xs
+filter_map_same f g same [] = refl
+filter_map_same f g same (x ∷ xs) = ap (λ y. cons_option y (filter_map f xs)) (same x) ∙ ap (cons_option (g x)) (filter_map_same f g same xs)
 
 -- ---- orders
 
@@ -68,7 +71,15 @@ module _ {I : Type 0} {cmp : I → I → Ordering} (o : IsTotalOrder cmp) (exact
           es (sorted_behind o e es h) (found_own q es (second_so _ _ h)),
     )
 
-    -- what is found stands under a key that ties
+    above_none : (q : I) (es : List (I × V)) → AllByRecursion (λ e. cmp q e.0 ≡ Less) es → find cmp q es ≡ None
+    above_none q [] all = refl
+    above_none q (e ∷ es) all = ap (λ r. cond (is_eq r) (Some e.1) (find cmp q es)) all.0 ∙ above_none q es all.1
+
+    -- after the entry with a key there is none with it
+    pub none_after : (q : I) (e : I × V) (es : List (I × V)) → T (is_sorted cmp (e ∷ es)) → eq_by_cmp cmp q e.0 ≡ true → find cmp q es ≡ None
+    none_after q e es h tie = ap (λ k. find cmp k es) (tie_same q e.0 tie) ∙ above_none e.0 es (sorted_behind o e es h)
+
+    -- what is found is there under a key that ties
     pub any_found : (q : I) (es : List (I × V)) (v : V) → find cmp q es ≡ Some v → list_any (λ e. eq_by_cmp cmp q e.0) es ≡ true
     any_found q [] v e = cc
     any_found q (e ∷ es) v at = by_tie (eq_by_cmp cmp q e.0) at (λ there. any_found q es v there) where

@@ -1,5 +1,5 @@
 -- The orders of an overlay's lists are total, and only equal keys tie in them.
-use Rattle.std.specs.Prelude.{ℕ, Option, Some, None, List, ℤ, T}
+use Rattle.std.specs.Prelude.{ℕ, Some, None, List, ℤ, T}
 use Rattle.std.proofs.Common.{refl, sym, ap, subst}
 use Rattle.std.specs.Cmp.{IsTotalOrder}
 use Rattle.std.specs.Cmp.Lexicographic.{slice_cmp, options_total}
@@ -20,12 +20,12 @@ runs_exact a b tie =
     ap (λ (p : ℕ × ℕ). record { trip = p.0; day = p.1 })
     (exact_pairs nat_cmp nat_cmp exact_unsigned exact_unsigned (a.trip, a.day) (b.trip, b.day) tie)
 
-weights_total : IsTotalOrder weight_cmp
+pub weights_total : IsTotalOrder weight_cmp
 weights_total =
     then_total (on_total (λ (weight : ℕ × List ℕ). weight.0) (back_total nat_cmp_total))
     (on_total (λ (weight : ℕ × List ℕ). weight.1) (back_total nat_list_cmp_total))
 
-weights_exact : IsAntisymmetric weight_cmp
+pub weights_exact : IsAntisymmetric weight_cmp
 weights_exact a b tie =
     exact_pairs (λ x y. nat_cmp y x) (λ x y. slice_cmp nat_cmp y x)
     (λ x y e. sym (exact_unsigned y x e)) (λ x y e. sym (exact_bytes y x e)) a b tie

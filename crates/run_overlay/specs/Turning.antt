@@ -63,11 +63,12 @@ run_of_key key = record { trip = key.trip; day = key.day }
 abbrev pub turn_of : Timetable → List Update → RunKey → Turn
 turn_of t updates key = record { run = key; now = live_run t updates (run_of_key key) }
 
+abbrev pub turned_run : RunKey → Option LiveRun → Change LiveRun RunKey
+turned_run key None = Remove key
+turned_run key (Some live) = Put live
+
 abbrev pub run_change : Turn → Change LiveRun RunKey
-run_change turn = change_of turn.now where
-  change_of : Option LiveRun → Change LiveRun RunKey
-  change_of None = Remove turn.run
-  change_of (Some live) = Put live
+run_change turn = turned_run turn.run turn.now
 
 -- the departures of a run that has an update
 abbrev pub rows_kept : Option LiveRun → List LiveRow

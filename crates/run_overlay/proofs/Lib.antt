@@ -1,0 +1,16 @@
+pub mod Effects
+pub mod Tables
+pub mod Entries
+pub mod Greatest
+pub mod AllRuns
+pub mod Matches
+pub mod Mentioned
+pub mod Choosing
+pub mod RunNow
+pub mod Untouched
+pub mod Lived
+pub mod Steps
+pub mod Alone
+pub mod After
+pub mod Once
+pub mod Slots
