@@ -59,7 +59,7 @@ module _ (t : Timetable) (overlay : FeedOverlay) (table : List EntityChange) (ch
   live_then : live_after t (updates_of table) keys overlay.live ≡ live_of t (updates_of table)
   live_then =
       ap (live_after t (updates_of table) keys) live_kept
-      ∙ lived t are.old table are.was is keys
+      ∙ lived t (updates_of are.old) (updates_of table) keys
       (λ key none. untouched t are.old table are.was is are.ids are.others key (ap (λ cs. list_any (is_key key) (touched_runs cs)) (sym changes_are) ∙ sym (all key) ∙ none))
 
   -- The overlay is that of the table, where the turned runs are those that the changes touch.

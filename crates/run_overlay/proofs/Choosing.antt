@@ -36,7 +36,7 @@ use Rattle.run_overlay.proofs.Entries.{HasItsKey, all_from, all_given, all_passi
 use Rattle.run_overlay.proofs.Greatest.{above_greatest, neither_above, none_greatest}
 use Rattle.run_overlay.proofs.Matches.{RunsIfFound, match_runs}
 use Rattle.run_overlay.proofs.Mentioned.{candidate_at, candidate_is, find_candidate, ids_exact, ids_total, mention_held, own_ids}
-use Rattle.run_overlay.proofs.Tables.{all_each, all_with, found_so, tie_self}
+use Rattle.run_overlay.proofs.Tables.{all_each, all_of, all_with, found_so, tie_self}
 
 choices_total : IsTotalOrder choice_cmp
 choices_total =
@@ -65,6 +65,17 @@ pub found_is : (run : Run) (f : Found) → is_run_found run f ≡ true → f ≡
 found_is run (found.Run other) same = ap found.Run (run_same other run same)
 found_is run found.Added same = cc
 found_is run (found.NoMatch why) same = cc
+
+-- what counts for a run is about it, so that it is one of the timetable
+about_runs : (t : Timetable) (run : Run) (u : Update) → is_about t run u ≡ true → is_run t run ≡ true
+about_runs t run u about = subst (RunsIfFound t) (found_is run (match_of t u.update.trip u.stamp) about) (match_runs t u.update.trip u.stamp)
+
+pub chosen_runs : (t : Timetable) (updates : List Update) (run : Run) → IfSome (chosen t updates run) (λ u. is_run t run ≡ true)
+unfolding chosen
+chosen_runs t updates run =
+    each_greatest choice_cmp (λ u. is_run t run ≡ true) (filter (is_about t run) updates)
+    (all_each (λ u. Unit {0} × (is_about t run u ≡ true)) (λ u. is_run t run ≡ true) (λ u passes. about_runs t run u passes.1) (filter (is_about t run) updates)
+    (all_passing (λ u. Unit {0}) (is_about t run) updates (all_of (λ u. Unit {0}) (λ u. tt) updates)))
 
 -- ---- updates of entities
 
@@ -274,13 +285,6 @@ module _ (t : Timetable) (es : List EntityChange) (table : IsTable es) where
         first_with (filter (is_of_run run) (map (λ e. e.1) candidates)) refl
         (all_passing IsOfTable (is_of_run run) (map (λ e. e.1) candidates) (items_so IsOfTable candidates candidates_so))
         (chosen t (updates_of es) run) refl chosen_so
-
-    -- what counts for a run is about it, so that it is one of the timetable
-    pub chosen_runs : IfSome (chosen t (updates_of es) run) (λ u. is_run t run ≡ true)
-    chosen_runs = by_chosen (chosen t (updates_of es) run) chosen_so where
-      by_chosen : (best : Option Update) → IfSome best Counts → IfSome best (λ u. is_run t run ≡ true)
-      by_chosen None held = tt
-      by_chosen (Some u) held = subst (RunsIfFound t) (found_is run (match_of t u.update.trip u.stamp) held.1) (match_runs t u.update.trip u.stamp)
 
 -- ---- the first candidate from the run on
 

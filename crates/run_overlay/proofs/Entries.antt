@@ -8,6 +8,7 @@ use Rattle.std.specs.List.{AllByRecursion, cons_option, filter_map}
 use Rattle.std.specs.Ordering.{eq_by_cmp, is_gt}
 use Rattle.std.specs.declared.cmp.Ordering.{Ordering}
 use Rattle.std.proofs.lemmas.Cmp.{tied_itself}
+use Rattle.shared_list.specs.Order.{entries}
 use Rattle.shared_list.proofs.Middle.{second_so, sorted_behind}
 use Rattle.run_overlay.specs.Keyed.{by_key, with_item}
 use Rattle.run_overlay.proofs.Tables.{all_each, all_of, all_with, found_own, tie_self}
@@ -70,6 +71,14 @@ none_passing {E} {X} item p (e ∷ es) none = by_test (p (item e)) refl none (no
 -- an entry has the key of its item
 abbrev pub HasItsKey : {K X : Type 0} → (X → K) → K × X → Type 0
 HasItsKey key e = e.0 ≡ key e.1
+
+each_own : {K X : Type 0} (key : X → K) (xs : List X) → AllByRecursion (HasItsKey key) (entries key xs)
+each_own key [] = tt
+each_own key (x ∷ xs) = (refl, each_own key xs)
+
+-- as a list's own contract says it
+pub keyed_each : {K X : Type 0} (key : X → K) (es : List (K × X)) → entries key (map (λ e. e.1) es) ≡ es → AllByRecursion (HasItsKey key) es
+keyed_each key es keyed = subst (AllByRecursion (HasItsKey key)) keyed (each_own key (map (λ e. e.1) es))
 
 module _ {K X : Type 0} {cmp : K → K → Ordering} (exact : IsAntisymmetric cmp) (Q : K → X → Type 0) where
   abbrev Each : List (K × X) → Type 0

@@ -14,3 +14,5 @@ pub mod Alone
 pub mod After
 pub mod Once
 pub mod Slots
+pub mod Read
+pub mod Said

@@ -10,7 +10,6 @@ use Rattle.std.proofs.lemmas.Cmp.{eq_by_cmp_equiv}
 use Rattle.std.proofs.lemmas.List.Folds.{flat_map-map}
 use Rattle.shared_list.specs.declared.change.Change.{Change}
 use Rattle.shared_list.specs.declared.change.Change.TheVariants.{Put, Remove}
-use Rattle.feed_defs.specs.History.{Change as EntityChange}
 use Rattle.sched_types.specs.declared.rows.Place.{Place}
 use Rattle.sched_types.specs.declared.rows.Run.{Run}
 use Rattle.sched_types.specs.Timetable.{Timetable, is_run}
@@ -22,12 +21,11 @@ use Rattle.run_overlay.specs.declared.row.RowKey.{RowKey}
 use Rattle.run_overlay.specs.declared.run_key.RunKey.{RunKey}
 use Rattle.run_overlay.specs.Keyed.{by_key, changed}
 use Rattle.run_overlay.specs.Keys.{live_run_key, row_cmp, row_key, run_cmp, run_key}
-use Rattle.run_overlay.specs.Kept.{IsTable, live_of, live_run, run_by}
+use Rattle.run_overlay.specs.Kept.{live_of, live_run, run_by}
 use Rattle.run_overlay.specs.Live.{live_place, live_row, live_rows, rows_by, sign_of}
 use Rattle.run_overlay.specs.Orders.{rows_exact, rows_total, runs_exact, runs_total}
 use Rattle.run_overlay.specs.Sought.{is_key}
 use Rattle.run_overlay.specs.Turning.{live_after, row_changes, rows_kept, run_change, run_of_key, turn_of}
-use Rattle.run_overlay.specs.Updates.{updates_of}
 use Rattle.run_overlay.proofs.AllRuns.{any_run}
 use Rattle.run_overlay.proofs.Choosing.{chosen_runs, run_same, run_tied}
 use Rattle.run_overlay.proofs.Effects.{IsApart, IsGiver, IsSegment, all_changed, effect, effect-append, find_given, flat_same, puts_apart, removes_apart, sorted_by_key, turned}
@@ -81,10 +79,7 @@ other_rows k run other row of_it = by_tie (eq_by_cmp row_cmp k (row_key row)) re
 
 -- ---- what the lists have at a key
 
-module _ (t : Timetable) (es : List EntityChange) (table : IsTable es) where
-  abbrev updates : List Update
-  updates = updates_of es
-
+module _ (t : Timetable) (updates : List Update) where
   both_same : {X : Type 0} (b : Bool) (x : X) → cond b x x ≡ x
   both_same true x = refl
   both_same false x = refl
@@ -123,7 +118,7 @@ module _ (t : Timetable) (es : List EntityChange) (table : IsTable es) where
       ap (λ xs. find run_cmp k (by_key run_cmp live_run_key xs)) (filter_map_flat (live_run t updates) (all_runs t))
       ∙ find_given runs_total live_run_key k (λ r. option_to_list (live_run t updates r)) (is_owner k) (option_to_list (live_run t updates (run_of_key k))) (all_runs t)
       (all_of (IsGiver run_cmp live_run_key k (λ r. option_to_list (live_run t updates r)) (is_owner k) (option_to_list (live_run t updates (run_of_key k)))) (runs_given k) (all_runs t))
-      ∙ run_left k (chosen t updates (run_of_key k)) (chosen_runs t es table (run_of_key k))
+      ∙ run_left k (chosen t updates (run_of_key k)) (chosen_runs t updates (run_of_key k))
 
   -- departures
   abbrev pub rows_at_run : RunKey → List LiveRow
@@ -150,7 +145,7 @@ module _ (t : Timetable) (es : List EntityChange) (table : IsTable es) where
   find_row k =
       find_given rows_total row_key k (live_rows t updates) (is_owner (run_in_row k)) (rows_at_run (run_in_row k)) (all_runs t)
       (all_of (IsGiver row_cmp row_key k (live_rows t updates) (is_owner (run_in_row k)) (rows_at_run (run_in_row k))) (rows_given k) (all_runs t))
-      ∙ rows_left k (chosen t updates (run_of_key (run_in_row k))) (chosen_runs t es table (run_of_key (run_in_row k)))
+      ∙ rows_left k (chosen t updates (run_of_key (run_in_row k))) (chosen_runs t updates (run_of_key (run_in_row k)))
 
   pub runs_sorted : T (is_sorted run_cmp (live_of t updates).runs)
   unfolding live_of
@@ -175,11 +170,10 @@ map_single : {A X : Type 0} (f : A → X) (items : List A) → map f items ≡ f
 map_single f [] = refl
 map_single f (a ∷ items) = ap (λ xs. f a ∷ xs) (map_single f items)
 
-module _ (t : Timetable) (old new : List EntityChange) (was : IsTable old) (is : IsTable new) (keys : List RunKey)
-    (same : (key : RunKey) → list_any (is_key key) keys ≡ false → chosen t (updates_of new) (run_of_key key) ≡ chosen t (updates_of old) (run_of_key key)) where
+module _ (t : Timetable) (old new : List Update) (keys : List RunKey) (same : (key : RunKey) → list_any (is_key key) keys ≡ false → chosen t new (run_of_key key) ≡ chosen t old (run_of_key key)) where
   -- runs
   abbrev run_segment : RunKey → List (Change LiveRun RunKey)
-  run_segment key = run_change (turn_of t (updates_of new) key) ∷ []
+  run_segment key = run_change (turn_of t new key) ∷ []
 
   other_run : (k key : RunKey) → is_key k key ≡ false → (best : Option Update) (found : Option LiveRun) → effect run_cmp live_run_key k (run_change (record { run = key; now = option_map (run_by t (run_of_key key)) best }) ∷ []) found ≡ found
   other_run k key other None found = ap (λ b. cond b None found) (key_tied k key ∙ other)
@@ -189,60 +183,60 @@ module _ (t : Timetable) (old new : List EntityChange) (was : IsTable old) (is :
   its_run k None found = ap (λ b. cond b None found) (tie_self runs_total runs_exact k)
   its_run k (Some u) found = ap (λ b. cond b (Some (run_by t (run_of_key k) u)) found) (tie_self runs_total runs_exact k)
 
-  run_segments : (k key : RunKey) → IsSegment run_cmp live_run_key k run_segment (is_key k) (live_run t (updates_of new) (run_of_key k)) (λ found. (found ≡ live_run t (updates_of old) (run_of_key k)) ⊎ (found ≡ live_run t (updates_of new) (run_of_key k))) key
+  run_segments : (k key : RunKey) → IsSegment run_cmp live_run_key k run_segment (is_key k) (live_run t new (run_of_key k)) (λ found. (found ≡ live_run t old (run_of_key k)) ⊎ (found ≡ live_run t new (run_of_key k))) key
   run_segments k key = record {
-    apart = λ other found. other_run k key other (chosen t (updates_of new) (run_of_key key)) found;
+    apart = λ other found. other_run k key other (chosen t new (run_of_key key)) found;
     own = λ own found fine.
-        subst (λ x. effect run_cmp live_run_key k (run_segment x) found ≡ live_run t (updates_of new) (run_of_key k)) (key_same k key own)
-        (its_run k (chosen t (updates_of new) (run_of_key k)) found);
+        subst (λ x. effect run_cmp live_run_key k (run_segment x) found ≡ live_run t new (run_of_key k)) (key_same k key own)
+        (its_run k (chosen t new (run_of_key k)) found);
   }
 
-  runs_turned : changed run_cmp live_run_key (live_of t (updates_of old)).runs (map run_change (map (turn_of t (updates_of new)) keys)) ≡ (live_of t (updates_of new)).runs
+  runs_turned : changed run_cmp live_run_key (live_of t old).runs (map run_change (map (turn_of t new) keys)) ≡ (live_of t new).runs
   runs_turned =
-      ap (changed run_cmp live_run_key (live_of t (updates_of old)).runs)
-      (map_single run_change (map (turn_of t (updates_of new)) keys)
-      ∙ flat_map-map (λ turn. run_change turn ∷ []) (turn_of t (updates_of new)) keys)
-      ∙ all_changed runs_total runs_exact live_run_key is_key run_segment (λ k. live_run t (updates_of old) (run_of_key k)) (λ k. live_run t (updates_of new) (run_of_key k)) keys (λ k none. ap (option_map (run_by t (run_of_key k))) (same k none))
-      (live_of t (updates_of old)).runs (live_of t (updates_of new)).runs (runs_sorted t old was) (runs_sorted t new is) (find_run t old was) (find_run t new is) run_segments
+      ap (changed run_cmp live_run_key (live_of t old).runs)
+      (map_single run_change (map (turn_of t new) keys)
+      ∙ flat_map-map (λ turn. run_change turn ∷ []) (turn_of t new) keys)
+      ∙ all_changed runs_total runs_exact live_run_key is_key run_segment (λ k. live_run t old (run_of_key k)) (λ k. live_run t new (run_of_key k)) keys (λ k none. ap (option_map (run_by t (run_of_key k))) (same k none))
+      (live_of t old).runs (live_of t new).runs (runs_sorted t old) (runs_sorted t new) (find_run t old) (find_run t new) run_segments
 
   -- departures
   abbrev row_segment : RunKey → List (Change LiveRow RowKey)
-  row_segment key = map (λ row. Remove (row_key row)) (rows_at_run t old was key) ++ map Put (rows_at_run t new is key)
+  row_segment key = map (λ row. Remove (row_key row)) (rows_at_run t old key) ++ map Put (rows_at_run t new key)
 
-  by_turn : (key : RunKey) → row_changes (live_of t (updates_of old)).runs (turn_of t (updates_of new) key) ≡ row_segment key
+  by_turn : (key : RunKey) → row_changes (live_of t old).runs (turn_of t new key) ≡ row_segment key
   by_turn key =
-      ap (λ xs. map (λ row. Remove (row_key row)) xs ++ map Put (rows_kept (live_run t (updates_of new) (run_of_key key))))
-      (ap rows_kept (find_run t old was key) ∙ kept_rows t old was (run_of_key key))
-      ∙ ap (λ xs. map (λ row. Remove (row_key row)) (rows_at_run t old was key) ++ map Put xs) (kept_rows t new is (run_of_key key))
+      ap (λ xs. map (λ row. Remove (row_key row)) xs ++ map Put (rows_kept (live_run t new (run_of_key key))))
+      (ap rows_kept (find_run t old key) ∙ kept_rows t old (run_of_key key))
+      ∙ ap (λ xs. map (λ row. Remove (row_key row)) (rows_at_run t old key) ++ map Put xs) (kept_rows t new (run_of_key key))
 
-  apart_rows : (k : RowKey) (key : RunKey) (es : List EntityChange) → is_key (run_in_row k) key ≡ false → AllByRecursion (IsApart row_cmp row_key k) (live_rows t (updates_of es) (run_of_key key))
-  apart_rows k key es other =
+  apart_rows : (k : RowKey) (key : RunKey) (updates : List Update) → is_key (run_in_row k) key ≡ false → AllByRecursion (IsApart row_cmp row_key k) (live_rows t updates (run_of_key key))
+  apart_rows k key updates other =
       all_each (IsOfRun (run_of_key key)) (IsApart row_cmp row_key k) (other_rows k (run_of_key key) (key_tied (run_in_row k) key ∙ other))
-      (live_rows t (updates_of es) (run_of_key key)) (live_of_run t (updates_of es) (run_of_key key))
+      (live_rows t updates (run_of_key key)) (live_of_run t updates (run_of_key key))
 
-  row_segments : (k : RowKey) (key : RunKey) → IsSegment row_cmp row_key k row_segment (is_key (run_in_row k)) (row_at_key t new is k) (λ found. (found ≡ row_at_key t old was k) ⊎ (found ≡ row_at_key t new is k)) key
+  row_segments : (k : RowKey) (key : RunKey) → IsSegment row_cmp row_key k row_segment (is_key (run_in_row k)) (row_at_key t new k) (λ found. (found ≡ row_at_key t old k) ⊎ (found ≡ row_at_key t new k)) key
   row_segments k key = record {
     apart = λ other found.
-        effect-append row_cmp row_key k (map (λ row. Remove (row_key row)) (rows_at_run t old was key)) (map Put (rows_at_run t new is key)) found
-        ∙ ap (effect row_cmp row_key k (map Put (rows_at_run t new is key))) (removes_apart row_cmp row_key k (rows_at_run t old was key) (apart_rows k key old other) found)
-        ∙ puts_apart row_cmp row_key k (rows_at_run t new is key) (apart_rows k key new other) found;
+        effect-append row_cmp row_key k (map (λ row. Remove (row_key row)) (rows_at_run t old key)) (map Put (rows_at_run t new key)) found
+        ∙ ap (effect row_cmp row_key k (map Put (rows_at_run t new key))) (removes_apart row_cmp row_key k (rows_at_run t old key) (apart_rows k key old other) found)
+        ∙ puts_apart row_cmp row_key k (rows_at_run t new key) (apart_rows k key new other) found;
     own = λ own found fine.
-        subst (λ x. effect row_cmp row_key k (row_segment x) found ≡ row_at_key t new is k) (key_same (run_in_row k) key own)
-        (turned row_cmp row_key k (rows_at_run t old was (run_in_row k)) (rows_at_run t new is (run_in_row k)) found fine);
+        subst (λ x. effect row_cmp row_key k (row_segment x) found ≡ row_at_key t new k) (key_same (run_in_row k) key own)
+        (turned row_cmp row_key k (rows_at_run t old (run_in_row k)) (rows_at_run t new (run_in_row k)) found fine);
   }
 
-  same_rows : (k : RowKey) → list_any (is_key (run_in_row k)) keys ≡ false → row_at_key t new is k ≡ row_at_key t old was k
+  same_rows : (k : RowKey) → list_any (is_key (run_in_row k)) keys ≡ false → row_at_key t new k ≡ row_at_key t old k
   unfolding live_rows
   same_rows k none = ap (λ best. effect row_cmp row_key k (map Put (rows_by t (run_of_key (run_in_row k)) best)) None) (same (run_in_row k) none)
 
-  rows_turned : changed row_cmp row_key (live_of t (updates_of old)).rows (flat_map (row_changes (live_of t (updates_of old)).runs) (map (turn_of t (updates_of new)) keys)) ≡ (live_of t (updates_of new)).rows
+  rows_turned : changed row_cmp row_key (live_of t old).rows (flat_map (row_changes (live_of t old).runs) (map (turn_of t new) keys)) ≡ (live_of t new).rows
   rows_turned =
-      ap (changed row_cmp row_key (live_of t (updates_of old)).rows)
-      (flat_map-map (row_changes (live_of t (updates_of old)).runs) (turn_of t (updates_of new)) keys
-      ∙ flat_same (λ key. row_changes (live_of t (updates_of old)).runs (turn_of t (updates_of new) key)) row_segment by_turn keys)
-      ∙ all_changed rows_total rows_exact row_key (λ k. is_key (run_in_row k)) row_segment (row_at_key t old was) (row_at_key t new is) keys same_rows
-      (live_of t (updates_of old)).rows (live_of t (updates_of new)).rows (rows_sorted t old was) (rows_sorted t new is) (find_row t old was) (find_row t new is) row_segments
+      ap (changed row_cmp row_key (live_of t old).rows)
+      (flat_map-map (row_changes (live_of t old).runs) (turn_of t new) keys
+      ∙ flat_same (λ key. row_changes (live_of t old).runs (turn_of t new key)) row_segment by_turn keys)
+      ∙ all_changed rows_total rows_exact row_key (λ k. is_key (run_in_row k)) row_segment (row_at_key t old) (row_at_key t new) keys same_rows
+      (live_of t old).rows (live_of t new).rows (rows_sorted t old) (rows_sorted t new) (find_row t old) (find_row t new) row_segments
 
   -- Turning runs, of which there are all for which another update counts now, makes the lists of the new table.
-  pub lived : live_after t (updates_of new) keys (live_of t (updates_of old)) ≡ live_of t (updates_of new)
+  pub lived : live_after t new keys (live_of t old) ≡ live_of t new
   lived = λ i. record { runs = runs_turned i; rows = rows_turned i }

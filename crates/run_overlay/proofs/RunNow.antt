@@ -69,7 +69,7 @@ module _ (t : Timetable) (es : List EntityChange) (table : IsTable es) (run : Ru
       record {
         counts = u;
         there = ap (λ (x : Candidate). trip_held (find id_cmp x.id es)) (sym is) ∙ held_of (find id_cmp u.id es) u held.0;
-        runs = of_some (λ x. is_run t run ≡ true) (chosen t (updates_of es) run) u at (chosen_runs t es table run);
+        runs = of_some (λ x. is_run t run ≡ true) (chosen t (updates_of es) run) u at (chosen_runs t (updates_of es) run);
         now = λ v same.
             ap (option_map (run_by t run)) at
             ∙ ap (λ rows. Some (record { run = run; id = u.id; stamp = u.stamp; rows = rows })) (sym (rows_same t run u))
