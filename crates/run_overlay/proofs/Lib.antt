@@ -16,3 +16,4 @@ pub mod Once
 pub mod Slots
 pub mod Read
 pub mod Said
+pub mod CityOverlay
