@@ -191,7 +191,7 @@ module _ (t : Timetable) (overlay : FeedOverlay) (table : List EntityChange) (na
     by_full false part at =
         let same : ids_of_it ≡ ids = cc in (
           changes_of_message m t overlay after.old table ids after.was after.kept after.now part (sym same),
-          sym (ap length same) ∙ length-map (λ (e : Entity). id_before overlay.mentions.links e.id) m.entity ∙ sym count_is,
+          sym (ap length same) ∙ length-map m.entity (λ (e : Entity). id_before overlay.mentions.links e.id) ∙ sym count_is,
         )
 
   -- where none are, it is one, and so the table has no more entities than it
