@@ -20,7 +20,8 @@ use Rattle.delay_rule_defs.specs.Delays.{states}
 use Rattle.order.specs.Order.{inserted, ordered}
 use Rattle.board_defs.specs.Choice.{chosen, added_updates}
 use Rattle.board_defs.specs.Fold.{fold_of}
-use Rattle.board_defs.specs.Rows.{all_runs, run_rows, board_at, board}
+use Rattle.sched_types.specs.Runs.{all_runs}
+use Rattle.board_defs.specs.Rows.{run_rows, board_at, board}
 use Rattle.board_defs.specs.Rows.Subject.{RunOf, AddedTrip}
 use Rattle.alert_defs.specs.declared.rows.AlertRow.{AlertRow}
 use Rattle.alert_defs.specs.Touching.{touches}

@@ -9,7 +9,8 @@ use Rattle.sched_types.specs.declared.rows.Place.{Place}
 use Rattle.sched_types.specs.declared.rows.Run.{Run}
 use Rattle.sched_types.specs.Timetable.{Timetable, is_run}
 use Rattle.board_defs.specs.Choice.{Update, chosen}
-use Rattle.board_defs.specs.Rows.{BoardRow, all_runs, run_rows, place_row, shown_row, shown_at, departures_of, is_within, may_board}
+use Rattle.sched_types.specs.Runs.{all_runs, departures_of}
+use Rattle.board_defs.specs.Rows.{BoardRow, run_rows, place_row, shown_row, shown_at, is_within, may_board}
 use Rattle.board_core.specs.Calling.{may_call}
 use Rattle.board_core.specs.RunUpdates.{UpdateOfRun, AreChoices}
 use Rattle.board_core.specs.Departures.{shown_with, in_window, row_by, rows_at, rows_of_run, run_on, rows_on_day, rows_there}

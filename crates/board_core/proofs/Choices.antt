@@ -21,7 +21,7 @@ use Rattle.board_parts.proofs.Lists.{both_maps, filter_is}
 use Rattle.board_core.specs.declared.run_updates.Updates.{Updates}
 use Rattle.board_core.specs.RunUpdates.{UpdateOfRun, with_run, run_update, run_update_at, added_update, added_update_at, run_cmp, key_of, key_of_update, is_of_run, weight_cmp, update_for, AreChoices}
 use Rattle.board_core.specs.Found.{AreUpdates}
-use Rattle.board_core.proofs.OrderedMap.{map_greatest}
+use Rattle.order.proofs.OrderedMap.{map_greatest}
 
 pub run_total : IsTotalOrder run_cmp
 run_total = then_total (on_total (λ key. key.day) nat_cmp_total) (on_total (λ key. key.trip) nat_cmp_total)

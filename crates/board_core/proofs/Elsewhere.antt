@@ -11,13 +11,14 @@ use Rattle.sched_types.specs.Timetable.{Timetable, is_run, places_of}
 use Rattle.delay_rule_defs.specs.Delays.{assigned_stop, states}
 use Rattle.delay_rule_defs.proofs.StopLaw.{stops_of_states}
 use Rattle.order.specs.Order.{greatest}
-use Rattle.board_defs.specs.Rows.{BoardRow, RunOf, Shown, is_asked, may_board, stands_at, departures_of, row_of, shown_row}
+use Rattle.sched_types.specs.Runs.{departures_of}
+use Rattle.board_defs.specs.Rows.{BoardRow, RunOf, Shown, is_asked, may_board, stands_at, row_of, shown_row}
 use Rattle.board_core.specs.Calling.{counts_at, calls_at, is_asked_one, assigns, moves_to, moves_trip, may_call}
 use Rattle.board_core.specs.RunUpdates.{UpdateOfRun, is_of_run, weight_cmp, update_for}
 use Rattle.board_core.specs.Departures.{shown_with, in_window, row_by, rows_at, rows_of_run}
 use Rattle.board_core.specs.declared.departure.Asked.{Asked}
 use Rattle.board_core.proofs.Choices.{of_run_is}
-use Rattle.board_core.proofs.OrderedMap.{each_greatest}
+use Rattle.order.proofs.OrderedMap.{each_greatest}
 use Rattle.board_core.proofs.ShownStops.{stop_with}
 
 -- ---- tests

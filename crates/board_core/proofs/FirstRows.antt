@@ -13,7 +13,8 @@ use Rattle.board_defs.specs.declared.query.BoardQuery.{BoardQuery}
 use Rattle.board_defs.specs.declared.row.Row.{Row}
 use Rattle.board_defs.specs.Choice.{Update, updates_at, added_updates, not_outdone}
 use Rattle.board_defs.specs.Fold.{FeedFold, fold_of}
-use Rattle.board_defs.specs.Rows.{BoardRow, row_cmp, all_runs, run_rows, added_rows, added_trip_rows, is_within, board_at, board_in, board_of, board, timetable_in, rows}
+use Rattle.sched_types.specs.Runs.{all_runs}
+use Rattle.board_defs.specs.Rows.{BoardRow, row_cmp, run_rows, added_rows, added_trip_rows, is_within, board_at, board_in, board_of, board, timetable_in, rows}
 use Rattle.board_defs.specs.Views.{HubKept, StandsFor, folds_of}
 use Rattle.alert_defs.specs.Alerts.{touched_as}
 use Rattle.alert_select.specs.declared.subject.Subject.{Subject}
@@ -33,7 +34,7 @@ use Rattle.board_core.specs.Found.{AreUpdates}
 use Rattle.board_core.specs.Lines.{line_row, line_cmp, date_texts, subject_of, IsInPlan}
 use Rattle.board_core.specs.RunUpdates.{UpdateOfRun}
 use Rattle.board_core.proofs.AllRows.{rows_are}
-use Rattle.board_core.proofs.OrderedMap.{each_ordered, map_ordered}
+use Rattle.order.proofs.OrderedMap.{each_ordered, map_ordered}
 use Rattle.board_core.proofs.RowOrder.{rows_order, lines_order}
 
 -- an answer that is one list is another that is equal

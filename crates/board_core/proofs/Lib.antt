@@ -1,4 +1,3 @@
-pub mod OrderedMap
 pub mod Choices
 pub mod Moved
 pub mod ShownStops

@@ -11,7 +11,8 @@ use Rattle.sched_types.specs.Timetable.{Timetable, is_run}
 use Rattle.delay_rule_defs.specs.Delays.{states}
 use Rattle.delay_rule.specs.Near.{IsNearState, IsAtStop}
 use Rattle.trip_match_defs.specs.Matching.{relation_of}
-use Rattle.board_defs.specs.Rows.{BoardRow, RunOf, Shown, as_scheduled, by_relation, is_within, may_board, departures_of, shown_row, route_text, stop_id_of, date_text}
+use Rattle.sched_types.specs.Runs.{departures_of}
+use Rattle.board_defs.specs.Rows.{BoardRow, RunOf, Shown, as_scheduled, by_relation, is_within, may_board, shown_row, route_text, stop_id_of, date_text}
 use Rattle.board_core.specs.Calling.{may_call}
 use Rattle.board_core.specs.RunUpdates.{UpdateOfRun, update_for}
 use Rattle.board_core.specs.declared.departure.Asked.{Asked}

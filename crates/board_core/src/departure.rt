@@ -6,7 +6,8 @@ ghost use Rattle.std.specs.Option.{option_map, option_and_then, option_to_list};
 ghost use Rattle.text_defs.specs.Moments.{last_moment};
 ghost use Rattle.sched_types.specs.Timetable.{IsSmall, places_of};
 ghost use Rattle.delay_rule.specs.Near.{IsNear, IsNearState, IsAtStop};
-ghost use Rattle.board_defs.specs.Rows.{may_board, stands_at, departures_of, shown_row};
+ghost use Rattle.sched_types.specs.Runs.{departures_of};
+ghost use Rattle.board_defs.specs.Rows.{may_board, stands_at, shown_row};
 ghost use Rattle.board_parts.specs.Appended.{Adds};
 ghost use Rattle.board_core.specs.Departures.{as_row, as_shown, shown_by, in_window, row_by, rows_at, IsThere};
 

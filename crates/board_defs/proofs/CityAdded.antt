@@ -19,7 +19,8 @@ use Rattle.board_defs.specs.declared.row.Row.{Row}
 use Rattle.board_defs.specs.declared.row.RowState.TheVariants as state
 use Rattle.board_defs.specs.Choice.{chosen, added_updates}
 use Rattle.board_defs.specs.Fold.{fold_of}
-use Rattle.board_defs.specs.Rows.{all_runs, run_rows, added_trip_rows, board_at, board, rows}
+use Rattle.sched_types.specs.Runs.{all_runs}
+use Rattle.board_defs.specs.Rows.{run_rows, added_trip_rows, board_at, board, rows}
 use Rattle.board_defs.proofs.Parts.{stop_update, trip_on, trip_update, entity_of, message_at, entry_of, hill_row}
 
 -- the city with the feeds a and b

@@ -19,6 +19,7 @@ use Rattle.sched_types.specs.declared.rows.Place.{Place}
 use Rattle.sched_types.specs.declared.rows.Route.{Route}
 use Rattle.sched_types.specs.declared.rows.Run.{Run}
 use Rattle.sched_types.specs.declared.rows.Trip.{Trip}
+use Rattle.sched_types.specs.Runs.{all_runs, departures_of}
 use Rattle.sched_types.specs.Schedules.{Schedules}
 use Rattle.sched_types.specs.Timetable.{Timetable, number_of, places_of, is_run, names_parent, base_of, dates_of}
 use Rattle.delay_rule_defs.specs.declared.state.StopState.{StopState}
@@ -49,14 +50,6 @@ pub record BoardRow : Type 0 where
 
 -- ---- which places count
 
--- all runs of a timetable, by day and then by trip
-unfoldable pub all_runs : Timetable → List Run
-all_runs t =
-    filter (is_run t)
-    (flat_map (λ day. map (λ trip. record { trip = trip; day = day })
-    (range_with_len 0 (length t.trips)))
-    (range_with_len 0 (length t.bases)))
-
 -- the stop is the asked one, or names it as its parent_station (GTFS Schedule, stops.txt)
 abbrev pub is_asked : Timetable → ℕ → ℕ → Bool
 is_asked t asked stop = (stop == asked) || names_parent asked (slice_get t.stops stop)
@@ -64,11 +57,6 @@ is_asked t asked stop = (stop == asked) || names_parent asked (slice_get t.stops
 -- passengers may board there (GTFS Schedule, stop_times.txt, pickup_type: 1 is no pickup)
 abbrev pub may_board : Place → Bool
 may_board place = not (place.pickup == 1)
-
--- the places of a trip but the last, at which nobody boards, with their numbers
-abbrev pub departures_of : Timetable → ℕ → List (ℕ × Place)
-departures_of t trip = let places = places_of t trip in
-    enumerate_from 0 (take (length places - 1) places)
 
 -- ---- what a board says of a place
 

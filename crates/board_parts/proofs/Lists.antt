@@ -51,15 +51,6 @@ both_maps {Y = Y} f g (x ∷ xs) = by_option (g x) (both_maps f g xs) where
   by_option None rest = rest
   by_option (Some y) rest = ap (cons_option (f y)) rest
 
-pub filter_map_same : {X Y : Type 0} (f g : X → Option Y) (xs : List X) → ((x : X) → f x ≡ g x) → filter_map f xs ≡ filter_map g xs
-filter_map_same f g [] same = refl
-filter_map_same f g (x ∷ xs) same =
-    ap (λ o. cons_option o (filter_map f xs)) (same x) ∙ ap (cons_option (g x)) (filter_map_same f g xs same)
-
-pub cons_is : {X : Type 0} (o : Option X) (xs : List X) → cons_option o xs ≡ option_to_list o ++ xs
-cons_is None xs = refl
-cons_is (Some x) xs = refl
-
 pub map_twice : {X Y Z : Type 0} (f : X → Y) (g : Y → Z) (xs : List X) → map (λ x. g (f x)) xs ≡ map g (map f xs)
 map_twice f g [] = refl
 map_twice f g (x ∷ xs) = ap (λ ys. g (f x) ∷ ys) (map_twice f g xs)

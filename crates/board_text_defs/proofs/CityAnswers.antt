@@ -14,7 +14,8 @@ use Rattle.board_defs.specs.declared.row.Row.{Row}
 use Rattle.board_defs.specs.declared.row.RowState.TheVariants as state
 use Rattle.board_defs.specs.Choice.{chosen, added_updates}
 use Rattle.board_defs.specs.Fold.{fold_of}
-use Rattle.board_defs.specs.Rows.{all_runs, run_rows, board_at, board}
+use Rattle.sched_types.specs.Runs.{all_runs}
+use Rattle.board_defs.specs.Rows.{run_rows, board_at, board}
 use Rattle.board_text_defs.specs.Lines.{tab, between_tabs}
 use Rattle.board_text_defs.specs.BoardText.{board_text, row_line}
 use Rattle.board_text_defs.specs.BoardJson.{board_json}

@@ -1,2 +1,5 @@
 pub mod Laws
 pub mod Lists
+pub mod Counts
+pub mod Ordered
+pub mod OrderedMap

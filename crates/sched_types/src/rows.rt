@@ -58,8 +58,8 @@ pub struct Place {
     pub pickup: u8,
 }
 
-/// A trip on a day of the window, by their numbers.
-#[derive(Clone, Copy, Debug, PartialEq, Eq)]
+/// A trip on a day of the window, by their numbers. Runs go by the trip, and then by the day.
+#[derive(Clone, Copy, Debug, PartialEq, Eq, PartialOrd, Ord)]
 pub struct Run {
     /// The number of the trip, in byte order of the ids.
     pub trip: u32,

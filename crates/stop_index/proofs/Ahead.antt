@@ -8,7 +8,7 @@ use Rattle.stop_index.specs.declared.reached.Reached.TheVariants.{Instant, Depar
 use Rattle.stop_index.specs.declared.slot.Slot.{Slot}
 use Rattle.stop_index.specs.Slots.{slot_cmp}
 use Rattle.stop_index.specs.Left.{is_ahead, is_left, instant_of}
-use Rattle.stop_index.proofs.Ordered.{below_not_above, below_through}
+use Rattle.order.proofs.Ordered.{below_not_above, below_through}
 use Rattle.stop_index.proofs.Instants.{slot_total, at_up, lt_is, lt_not, is_lt_z, le_is, is_le_z}
 
 -- what comes after what is ahead is ahead

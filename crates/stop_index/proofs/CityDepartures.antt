@@ -4,7 +4,8 @@ use Rattle.order.specs.Order.{inserted, ordered}
 use Rattle.sched_types.specs.City.{city}
 use Rattle.stop_index.specs.declared.slot.Slot.{Slot}
 use Rattle.stop_index.specs.declared.trip_departure.TripDeparture.{TripDeparture}
-use Rattle.stop_index.specs.Slots.{all_runs, slots_between}
+use Rattle.sched_types.specs.Runs.{all_runs}
+use Rattle.stop_index.specs.Slots.{slots_between}
 use Rattle.stop_index.specs.Index.{Index, index_of}
 
 abbrev leaving : ℕ → ℕ → ℕ → ℕ → Slot

@@ -18,7 +18,7 @@ use Rattle.stop_index.specs.declared.trip_departure.TripDeparture.{TripDeparture
 use Rattle.stop_index.specs.Index.{departure_cmp, days_are_rising}
 use Rattle.stop_index.specs.Left.{slot_at, runs_on, slots_on, slots_before, is_ahead, is_left, instant_of, IsOver}
 use Rattle.stop_index.specs.First.{IsFirst, earlier_of, until_of}
-use Rattle.stop_index.proofs.Counts.{one_not, count-cons, count-map, count-filter, count_never, count_range_none}
+use Rattle.order.proofs.Counts.{one_not, count-cons, count-map, count-filter, count_never, count_range_none}
 use Rattle.stop_index.proofs.Instants.{wrapped, is_le_z, le_is, is_lt_z, not_lt_z}
 use Rattle.stop_index.proofs.Ahead.{not_ahead, not_left}
 use Rattle.stop_index.proofs.DaySlots.{first_found}

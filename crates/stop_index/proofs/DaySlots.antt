@@ -20,8 +20,8 @@ use Rattle.stop_index.specs.Slots.{slot_cmp}
 use Rattle.stop_index.specs.Index.{departure_cmp}
 use Rattle.stop_index.specs.Left.{slot_at, runs_on, slots_on, slots_before, is_ahead, is_left, is_from}
 use Rattle.stop_index.specs.First.{IsFirst}
-use Rattle.stop_index.proofs.Counts.{count_fewer, count-map, count-filter, count_never, once_flat, range_once}
-use Rattle.stop_index.proofs.Ordered.{is_equal, above_is, rising_filter, rising_drop}
+use Rattle.order.proofs.Counts.{count_fewer, count-map, count-filter, count_never, once_flat, range_once}
+use Rattle.order.proofs.Ordered.{is_equal, above_is, rising_filter, rising_drop}
 use Rattle.stop_index.proofs.Instants.{slot_total, departure_total, same_slot, seconds_up, on_day}
 use Rattle.stop_index.proofs.Ahead.{ahead_up, left_from, not_left}
 use Rattle.stop_index.proofs.Firsts.{is_same, first_of_rising}

@@ -16,8 +16,8 @@ use Rattle.stop_index.specs.declared.slot.Slot.{Slot}
 use Rattle.stop_index.specs.Slots.{slot_cmp}
 use Rattle.stop_index.specs.Left.{is_ahead, is_left}
 use Rattle.stop_index.specs.First.{IsFirstSlot, IsFirst, earlier_of, until_of}
-use Rattle.stop_index.proofs.Counts.{one, one_is, one_not, not_one, count-cons, count-append, none_fewer, count_never, count-filter, SameItems}
-use Rattle.stop_index.proofs.Ordered.{above_is, below_not_above, below_through, not_above_back, none_from_least, ordered_same, ordered_front}
+use Rattle.order.proofs.Counts.{one, one_is, one_not, not_one, count-cons, count-append, none_fewer, count_never, count-filter, SameItems}
+use Rattle.order.proofs.Ordered.{above_is, below_not_above, below_through, not_above_back, none_from_least, ordered_same, ordered_front}
 use Rattle.stop_index.proofs.Instants.{slot_total, same_slot, at_up}
 use Rattle.stop_index.proofs.Ahead.{left_ahead, left_before, left_from, was_ahead}
 

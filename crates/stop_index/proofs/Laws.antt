@@ -6,8 +6,8 @@ use Rattle.sched_types.specs.Timetable.{Timetable}
 use Rattle.stop_index.specs.declared.slot.Slot.{Slot}
 use Rattle.stop_index.specs.Slots.{slots_at, is_between, slots_between}
 use Rattle.stop_index.specs.Index.{Index, departures_at, index_of}
-use Rattle.stop_index.proofs.Counts.{count_fewer, count-filter}
-use Rattle.stop_index.proofs.Ordered.{ordered_items}
+use Rattle.order.proofs.Counts.{count_fewer, count-filter}
+use Rattle.order.proofs.Ordered.{ordered_items}
 use Rattle.stop_index.proofs.Instants.{slot_total}
 use Rattle.stop_index.proofs.Firsts.{is_same}
 use Rattle.stop_index.proofs.DaySlots.{once_before}

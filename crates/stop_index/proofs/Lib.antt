@@ -1,5 +1,3 @@
-pub mod Counts
-pub mod Ordered
 pub mod Instants
 mod Ahead
 pub mod Firsts

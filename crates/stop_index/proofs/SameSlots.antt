@@ -16,11 +16,12 @@ use Rattle.sched_types.specs.Timetable.{Timetable, IsTimetable, places_of, is_ru
 use Rattle.stop_index.specs.declared.reached.Reached.TheVariants.{Instant}
 use Rattle.stop_index.specs.declared.slot.Slot.{Slot}
 use Rattle.stop_index.specs.declared.trip_departure.TripDeparture.{TripDeparture}
-use Rattle.stop_index.specs.Slots.{all_runs, departures_of, is_at, run_slots, slots_at, is_between, slots_between}
+use Rattle.sched_types.specs.Runs.{all_runs, departures_of}
+use Rattle.stop_index.specs.Slots.{is_at, run_slots, slots_at, is_between, slots_between}
 use Rattle.stop_index.specs.Index.{trip_departure, trip_departures, departure_cmp, departures_at, index_of}
 use Rattle.stop_index.specs.Left.{slot_at, runs_on, slots_on, slots_before, slots_left, is_from, AreDepartures}
-use Rattle.stop_index.proofs.Counts.{count_fewer, count-map, count-filter, count_never, once_flat, range_once, numbered, numbers_once, SameItems, same_are, same_on, same_map, same_filter, same_flat}
-use Rattle.stop_index.proofs.Ordered.{sorted_from_rising, ordered_items, ordered_same}
+use Rattle.order.proofs.Counts.{count_fewer, count-map, count-filter, count_never, once_flat, range_once, numbered, numbers_once, SameItems, same_are, same_on, same_map, same_filter, same_flat}
+use Rattle.order.proofs.Ordered.{sorted_from_rising, ordered_items, ordered_same}
 use Rattle.stop_index.proofs.Instants.{slot_total, departure_total, same_slot}
 
 -- ---- lists

@@ -7,7 +7,8 @@ use Rattle.order.specs.Order.{ordered}
 use Rattle.sched_types.specs.declared.rows.Place.{Place}
 use Rattle.sched_types.specs.Timetable.{Timetable, base_of}
 use Rattle.stop_index.specs.declared.trip_departure.TripDeparture.{TripDeparture}
-use Rattle.stop_index.specs.Slots.{departures_of, is_at}
+use Rattle.sched_types.specs.Runs.{departures_of}
+use Rattle.stop_index.specs.Slots.{is_at}
 
 -- for each stop its departures, on whatever day, and whether no day begins later than the day after it
 pub record Index : Type 0 where

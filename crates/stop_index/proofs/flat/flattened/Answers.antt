@@ -1,7 +1,7 @@
 -- One list more, in order, and at the end all.
 use Rattle.std.proofs.Common.{◌≡◌, ◌++◌, ◌∷◌, [], map, ap, ◌∙◌, rules, arith}
 use Rattle.std.proofs.lemmas.Grind.{common_steps}
-use Rattle.stop_index.proofs.Ordered.{sorted_is}
+use Rattle.order.proofs.Ordered.{sorted_is}
 use Rattle.stop_index.proofs.Instants.{departure_total, same_departure}
 use Rattle.stop_index.proofs.FlatLemmas.{flat_begins, flat_step, flat_all}
 use Rattle.stop_index.proofs.flat.flattened.Goals as goal

@@ -3,7 +3,7 @@ use Rattle.std.proofs.Common.{◌≡◌, ◌∷◌, [], length, w64, SFits, sym,
 use Rattle.std.proofs.lemmas.Int.{to_z-of_z}
 use Rattle.stop_index.specs.declared.reached.Reached.TheVariants.{Departure}
 use Rattle.stop_index.specs.Left.{is_ahead, slots_before, slots_left}
-use Rattle.stop_index.proofs.Counts.{none_fewer}
+use Rattle.order.proofs.Counts.{none_fewer}
 use Rattle.stop_index.proofs.Instants.{wrapped}
 use Rattle.stop_index.proofs.Ahead.{left_ahead, was_ahead}
 use Rattle.stop_index.proofs.NextLeft.{nothing_left, first_is_left}

@@ -9,7 +9,7 @@ use Rattle.std.proofs.lemmas.Cmp.{upto}
 use Rattle.std.proofs.lemmas.List.Sorted.{sum_by-IsPermutation}
 use Rattle.order.specs.Order.{inserted, ordered}
 use Rattle.order.proofs.Laws.{IsLeast, IsRising, rising_only, rising_ordered, rising_from_sorted}
-use Rattle.stop_index.proofs.Counts.{one, one_is, one_not, not_one, count-cons, SameItems, same_cons, same_back, same_on}
+use Rattle.order.proofs.Counts.{one, one_is, one_not, not_one, count-cons, SameItems, same_cons, same_back, same_on}
 
 reversed_gt : (r : Ordering) → is_gt (ordering_reverse r) ≡ is_lt r
 reversed_gt Less = refl
