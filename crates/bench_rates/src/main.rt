@@ -7,23 +7,29 @@
 //! nothing, so that a script can take the start away. Then one line tells how many looks answered and how many
 //! messages were accepted, whatever the schedule was.
 //!
-//! `words` reads the words, `messages` makes the messages, and `looks` and `intake` do what is timed.
+//! `bench_rates departures CONFIG START SPAN TIMES` makes the index of the configuration's first timetable, and goes so
+//! often over the departures at all stops from that instant on, for so many seconds. The line tells how many these were.
+//!
+//! `words` reads the words, `messages` makes the messages, and `looks`, `intake` and `departures` do what is timed.
 #![tactic(auto)]
 
 ghost use Rattle.std.specs.Prelude.{◌≡◌, ◌≤◌, ◌++◌, codes, IfOk};
 ghost use Rattle.std.specs.String.{string_bytes};
 ghost use Rattle.std.specs.Fmt.{decimal};
+ghost use Rattle.bench_rates.specs.Tasks.{IsMeasurable};
 
+mod departures;
 mod intake;
 mod looks;
 mod messages;
 mod words;
 
+use hub_outside::StdFiles;
 use std::alloc::{AllocError as NoMemory, Global};
 use std::process::ExitCode;
 use std::sync::Wait;
 use std::thread::Threads;
-use words::{Task, Way, read_task};
+use words::{Command, Departures, Task, Way, read_command};
 
 /// What a run counted.
 #[derive(Debug, Drop)]
@@ -55,12 +61,9 @@ fn line(alloc: Global, looks: u64, accepted: u64) -> Result<String, NoMemory>
     format!(in alloc; "looks {looks} accepted {accepted}\n")
 }
 
-/// Does the task, and prints the line; the exit status.
-fn run<R: Threads + Wait + Sync + Print>(rt: &R, alloc: Global, task: &Task) -> u8
-    requires some { 1 ≤ task.now.threads }
-    requires few { task.now.threads ≤ 64 }
-{
-    let Ok(tally) = tally_of(rt, alloc, task) else {
+/// Prints the line of a run, if it ended; the exit status.
+fn print_line<R: Print>(rt: &R, alloc: Global, tally: Option<Tally>) -> u8 {
+    let Some(tally) = tally else {
         return 6;
     };
     let Ok(line) = line(alloc, tally.looks, tally.accepted) else {
@@ -72,11 +75,24 @@ fn run<R: Threads + Wait + Sync + Print>(rt: &R, alloc: Global, task: &Task) -> 
     }
 }
 
+/// Does what is asked for; none where memory ran out, or where the timetable can't be loaded.
+fn run(rt: &HostRuntime, command: &Command) -> Option<Tally>
+    requires { IsMeasurable command.now }
+{
+    match command {
+        Command::Rates(task) => tally_of(rt, rt.alloc(), task).ok(),
+        Command::Departures(asked) => {
+            departures::counted(rt.alloc(), &mut StdFiles::new(rt), asked).ok()
+        }
+    }
+}
+
 fn main(rt: HostRuntime) -> ExitCode {
-    let status = match read_task(std::env::args(&rt)) {
-        Some(task) => run(&rt, rt.alloc(), &task),
+    let status = match read_command(std::env::args(&rt)) {
+        Some(command) => print_line(&rt, rt.alloc(), run(&rt, &command)),
         None => match rt.eprintln(
-            "usage: bench_rates cell|mutex|offer|none THREADS LOOKS MESSAGES (1 to 64 threads)",
+            "usage: bench_rates cell|mutex|offer|none THREADS LOOKS MESSAGES (1 to 64 threads), or \
+             bench_rates departures CONFIG START SPAN TIMES",
         ) {
             Ok(()) => 2,
             Err(_) => 2,

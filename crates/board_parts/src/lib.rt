@@ -2,19 +2,21 @@
 //! what they hold, trip updates as they count, and what every row needs.
 //!
 //! A `HubView` has the hub's timetables and the view of each of its feeds. It never changes: `with_feed` gives the view
-//! with one message more, which shares all other feeds with it. A contract sees it as `HubKept` of `board_defs`.
+//! with one message more, which shares all other feeds with it, and the `Indexes`: the departures of each timetable by
+//! their stops (`stop_index`), made once. A contract sees a view as `HubKept` of `board_defs`.
 //! An `Oracle` is where readers get the newest view: its meanings are the history that was published, the timetables,
 //! and how often it was looked at. `StandsFor` of `board_defs` says what history a view stands for.
 //! `feeds_of` and `entities_of` go over the feeds of a schedule, and over what they hold, by feed and then by id; each
 //! list of the hub is made by one of these walks. `Update` is a trip update, with the order in which updates count.
 //! `window` says which stops and instants a board asks for and what counts at a moment, and `wording` how routes and stops are named.
 //!
-//! It stands on `feed_view` for what is kept of a feed, on `alert_select` for the alerts in it, and on the definitions
-//! of `board_defs`.
+//! It stands on `feed_view` for what is kept of a feed, on `alert_select` for the alerts in it, on `stop_index`, and on
+//! the definitions of `board_defs`.
 #![tactic(auto)]
 
 mod entities;
 mod feeds;
+mod indexes;
 mod oracle;
 mod updates;
 mod view;
@@ -23,6 +25,7 @@ mod wording;
 
 pub use entities::{HeldEntities, HeldEntity};
 pub use feeds::{HubFeed, HubFeeds, ScheduleFeeds};
+pub use indexes::Indexes;
 pub use oracle::Oracle;
 pub use std::alloc::AllocError as NoMemory;
 pub use updates::{Update, stamp_of};

@@ -2,25 +2,31 @@
 
 ghost use Rattle.std.specs.Prelude.{◌≡◌, ◌+◌, ◌<◌, Some, true, false, length, map, replicate, IfOk};
 ghost use Rattle.std.specs.Arc.{arc_value};
+ghost use Rattle.std.specs.Option.{option_map};
 ghost use Rattle.sched_types.specs.Schedules.{AreSchedules};
 ghost use Rattle.board_defs.specs.Feeds as rule;
 ghost use Rattle.board_defs.specs.Rows.{timetable_in};
 ghost use Rattle.board_defs.specs.Views.{IsHub, nothing_kept, feed_at, folds_of, hub_first, hub_with};
 ghost use Rattle.board_parts.specs.Walks.{walked_in};
+ghost use Rattle.stop_index.specs.Index.{index_of};
 
 use crate::NoMemory;
 use crate::entities::HeldEntities;
 use crate::feeds::{HubFeeds, ScheduleFeeds};
+use crate::indexes::Indexes;
 use feed_view::FeedView;
 use sched_types::{Plan, Plans};
 use std::alloc::Global;
 use std::marker::Model;
 use std::sync::Arc;
+use stop_index::StopIndex;
 
 /// What is kept of a hub. A contract sees it as `HubKept`, and it never changes.
 #[derive(Drop)]
 pub struct HubView {
     plans: Arc<Plans>,
+    // One for each timetable, made once and shared by all views.
+    indexes: Arc<Indexes>,
     // One for each feed of the plans.
     feeds: Vec<Arc<FeedView>>,
     // How many messages of all feeds were accepted.
@@ -30,6 +36,7 @@ pub struct HubView {
 impl Model for HubView {
     ghost use Rattle.std.specs.Prelude.{map};
     ghost use Rattle.board_defs.specs.Views.{HubKept, IsHub};
+    ghost use Rattle.board_parts.specs.Indexed.{IsIndexed};
 
     ghost Value = { HubKept };
 
@@ -39,7 +46,7 @@ impl Model for HubView {
       entries = v.entries;
     } };
 
-    ghost invariant = { λ v. IsHub (record {
+    ghost invariant = { λ v. IsIndexed v.indexes.value (record {
       plans = v.plans.value;
       feeds = map (λ feed. feed.value) v.feeds.items;
       entries = v.entries;
@@ -47,13 +54,16 @@ impl Model for HubView {
 }
 
 impl HubView {
-    /// The view of a hub with those timetables and feeds that accepted nothing; or want of memory.
+    /// The view of a hub with those timetables and feeds that accepted nothing; or out of memory. The departures of the
+    /// timetables are put in order by their stops.
     pub fn first(alloc: Global, plans: Arc<Plans>) -> Result<HubView, NoMemory>
         ensures { IfOk result (λ view. view ≡ hub_first (arc_value plans)) }
     {
         let feeds = empty_feeds(alloc, plans.feeds().len())?;
+        let indexes = Arc::new(alloc, Indexes::build(alloc, &plans)?)?;
         Ok(HubView {
             plans,
+            indexes,
             feeds,
             entries: 0,
         })
@@ -72,6 +82,7 @@ impl HubView {
         feeds[feed as usize] = Arc::new(alloc, view)?;
         Ok(HubView {
             plans: Arc::try_clone(&self.plans)?,
+            indexes: Arc::try_clone(&self.indexes)?,
             feeds,
             entries: self.entries + 1,
         })
@@ -97,6 +108,15 @@ impl HubView {
         ensures { timetable_in self.entry.now.plans schedule ≡ Some result.now }
     {
         &self.plans().plans()[schedule as usize].plan
+    }
+
+    /// The departures of that timetable by their stops.
+    pub fn index(&self, schedule: u32) -> &StopIndex
+        requires { schedule < length self.now.plans.plans }
+        ensures { option_map index_of (timetable_in self.entry.now.plans schedule)
+            ≡ Some result.now }
+    {
+        self.indexes.of(schedule)
     }
 
     /// All feeds with what they say, by their numbers.

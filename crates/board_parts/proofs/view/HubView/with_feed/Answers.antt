@@ -6,13 +6,15 @@ use Rattle.board_parts.proofs.NextView.{next_is, next_hub}
 use Rattle.board_parts.proofs.view.HubView.with_feed.Goals as goal
 
 pub overflow_add-result : goal.overflow_add-result
-overflow_add-result c = omega (arith, entries_fit _ c.self.invariant (rw c.deref.ensures at c.sound.ensures.few_feeds))
+overflow_add-result c = omega (arith, entries_fit _ c.self.invariant.hub (rw c.deref.ensures at c.sound.ensures.few_feeds))
 
 pub invariant_of-result : goal.invariant_of-result
-invariant_of-result c =
-    next_hub (λ feed. feed.value) c.in_ok-feeds.feeds.items c.self.inside.feeds.items c.in_ok-feeds-2.field-0 c.args.view c.self.inside.plans.value c.in_ok-try_clone.field-0.value c.args.feed c.self.inside.entries
-    (rw c.as_slice.ensures.value at c.in_ok-feeds.ensures) c.in_ok-feeds-2.ensures.ok c.in_ok-try_clone.ensures c.self.invariant
-    (rw (← c.self.view_is) at c.requires.feed) (rw (← c.self.view_is) at c.requires.more) (let few : c.args.view.fold.count ≤ last_moment = omega arith in few)
+invariant_of-result c = record {
+  hub = next_hub (λ feed. feed.value) c.in_ok-feeds.feeds.items c.self.inside.feeds.items c.in_ok-feeds-2.field-0 c.args.view c.self.inside.plans.value c.in_ok-try_clone.field-0.value c.args.feed c.self.inside.entries
+    (rw c.as_slice.ensures.value at c.in_ok-feeds.ensures) c.in_ok-feeds-2.ensures.ok c.in_ok-try_clone.ensures c.self.invariant.hub
+    (rw (← c.self.view_is) at c.requires.feed) (rw (← c.self.view_is) at c.requires.more) (let few : c.args.view.fold.count ≤ last_moment = omega arith in few);
+  indexed = same_indexes c.in_ok-try_clone-2.ensures c.in_ok-try_clone.ensures c.self.invariant.indexed;
+}
 
 pub returns : goal.returns
 returns c =
