@@ -1,7 +1,8 @@
 -- The next view is the hub with one message more.
-use Rattle.std.proofs.Common.{◌≤◌, arith}
+use Rattle.std.proofs.Common.{◌≤◌, ap, sym, ◌∙◌, arith}
 use Rattle.text_defs.specs.Moments.{last_moment}
 use Rattle.board_defs.proofs.ViewLaws.{entries_fit}
+use Rattle.board_parts.specs.Indexed.{indexes_of}
 use Rattle.board_parts.proofs.NextView.{next_is, next_hub}
 use Rattle.board_parts.proofs.view.HubView.with_feed.Goals as goal
 
@@ -11,9 +12,9 @@ overflow_add-result c = omega (arith, entries_fit _ c.self.invariant.hub (rw c.d
 pub invariant_of-result : goal.invariant_of-result
 invariant_of-result c = record {
   hub = next_hub (λ feed. feed.value) c.in_ok-feeds.feeds.items c.self.inside.feeds.items c.in_ok-feeds-2.field-0 c.args.view c.self.inside.plans.value c.in_ok-try_clone.field-0.value c.args.feed c.self.inside.entries
-    (rw c.as_slice.ensures.value at c.in_ok-feeds.ensures) c.in_ok-feeds-2.ensures.ok c.in_ok-try_clone.ensures c.self.invariant.hub
-    (rw (← c.self.view_is) at c.requires.feed) (rw (← c.self.view_is) at c.requires.more) (let few : c.args.view.fold.count ≤ last_moment = omega arith in few);
-  indexed = same_indexes c.in_ok-try_clone-2.ensures c.in_ok-try_clone.ensures c.self.invariant.indexed;
+      (rw c.as_slice.ensures.value at c.in_ok-feeds.ensures) c.in_ok-feeds-2.ensures.ok c.in_ok-try_clone.ensures c.self.invariant.hub
+      (rw (← c.self.view_is) at c.requires.feed) (rw (← c.self.view_is) at c.requires.more) (let few : c.args.view.fold.count ≤ last_moment = omega arith in few);
+  indexed = c.in_ok-try_clone-2.ensures ∙ c.self.invariant.indexed ∙ ap indexes_of (sym c.in_ok-try_clone.ensures);
 }
 
 pub returns : goal.returns
