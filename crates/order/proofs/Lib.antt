@@ -3,3 +3,4 @@ pub mod Lists
 pub mod Counts
 pub mod Ordered
 pub mod OrderedMap
+pub mod Greatest

@@ -25,11 +25,11 @@ use Rattle.run_overlay.specs.Turning.{live_after}
 use Rattle.run_overlay.specs.Updates.{about_held, updates_of}
 use Rattle.run_overlay.proofs.AllRuns.{any_map}
 use Rattle.run_overlay.proofs.Alone.{none_kept}
-use Rattle.run_overlay.proofs.Entries.{found_each}
+use Rattle.keyed_lists.proofs.Entries.{found_each}
 use Rattle.run_overlay.proofs.Lived.{lived}
 use Rattle.run_overlay.proofs.Steps.{few_held}
 use Rattle.run_overlay.proofs.Mentioned.{id_tie, ids_exact, ids_total, mentions_are, own_ids}
-use Rattle.run_overlay.proofs.Tables.{all_with, any_found}
+use Rattle.keyed_lists.proofs.Tables.{all_with, any_found}
 use Rattle.run_overlay.proofs.Untouched.{untouched}
 
 -- ---- after changes of ids

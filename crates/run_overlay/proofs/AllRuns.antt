@@ -8,7 +8,7 @@ use Rattle.std.proofs.lemmas.List.FromFn.{get_or-range_with_len, length-range_wi
 use Rattle.sched_types.specs.declared.rows.Run.{Run}
 use Rattle.sched_types.specs.Timetable.{Timetable, is_run}
 use Rattle.sched_types.proofs.TimetableLaws.{run_has, run_trip}
-use Rattle.board_defs.specs.Rows.{all_runs}
+use Rattle.sched_types.specs.Runs.{all_runs}
 use Rattle.order.proofs.Counts.{count-filter, count-map, count_fewer, count_never, once_flat, range_once}
 
 -- ---- lists

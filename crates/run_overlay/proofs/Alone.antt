@@ -6,13 +6,13 @@ use Rattle.feed_defs.specs.History.{Change as EntityChange}
 use Rattle.sched_types.specs.Timetable.{Timetable}
 use Rattle.board_defs.specs.Choice.{Update, chosen, if_counting, update_at, updates_at}
 use Rattle.board_defs.specs.Fold.{FeedFold}
-use Rattle.board_defs.specs.Rows.{all_runs}
-use Rattle.run_overlay.specs.Keyed.{by_key}
+use Rattle.sched_types.specs.Runs.{all_runs}
+use Rattle.keyed_lists.specs.Keyed.{by_key}
 use Rattle.run_overlay.specs.Keys.{live_run_key, row_cmp, row_key, run_cmp}
 use Rattle.run_overlay.specs.Kept.{live_of, live_run, mentions_of, no_mentions, no_overlay, nothing_live, overlay_of}
 use Rattle.run_overlay.specs.Live.{live_rows}
 use Rattle.run_overlay.specs.Updates.{feed_alone, held_alone, update_alone, updates_of}
-use Rattle.run_overlay.proofs.Tables.{filter_map_same}
+use Rattle.keyed_lists.proofs.Tables.{filter_map_same}
 
 -- ---- the updates of a feed alone are those of a hub of it, at whatever moment
 

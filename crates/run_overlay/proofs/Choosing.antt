@@ -25,18 +25,18 @@ use Rattle.shared_list.specs.Order.{entries_from}
 use Rattle.shared_list.proofs.Middle.{second_so, sorted_behind}
 use Rattle.run_overlay.specs.declared.candidate.Candidate.{Candidate}
 use Rattle.run_overlay.specs.declared.mention.Mention.{Mention}
-use Rattle.run_overlay.specs.Keyed.{by_key}
+use Rattle.keyed_lists.specs.Keyed.{by_key}
 use Rattle.run_overlay.specs.Keys.{CandidateKey, candidate_cmp, candidate_key, id_cmp, run_cmp, run_key, weight_cmp}
 use Rattle.run_overlay.specs.Kept.{IsTable, candidate_of}
 use Rattle.run_overlay.specs.Orders.{candidates_exact, candidates_total, runs_total, weights_exact, weights_total}
 use Rattle.run_overlay.specs.Turning.{first_of, is_of_run}
 use Rattle.run_overlay.specs.Updates.{about_found, about_stored, about_update, held_alone, mention_in, update_alone, updates_of}
-use Rattle.run_overlay.proofs.Effects.{sorted_by_key}
-use Rattle.run_overlay.proofs.Entries.{HasItsKey, all_from, all_given, all_passing, by_key_keyed, by_key_so, first_least, found_each, none_passing, of_some}
-use Rattle.run_overlay.proofs.Greatest.{above_greatest, neither_above, none_greatest}
+use Rattle.keyed_lists.proofs.Effects.{sorted_by_key}
+use Rattle.keyed_lists.proofs.Entries.{HasItsKey, all_from, all_given, all_passing, by_key_keyed, by_key_so, first_least, found_each, none_passing, of_some}
+use Rattle.order.proofs.Greatest.{above_greatest, neither_above, none_greatest}
 use Rattle.run_overlay.proofs.Matches.{RunsIfFound, match_runs}
 use Rattle.run_overlay.proofs.Mentioned.{candidate_at, candidate_is, find_candidate, ids_exact, ids_total, mention_held, own_ids}
-use Rattle.run_overlay.proofs.Tables.{all_each, all_of, all_with, found_so, tie_self}
+use Rattle.keyed_lists.proofs.Tables.{all_each, all_of, all_with, found_so, tie_self}
 
 choices_total : IsTotalOrder choice_cmp
 choices_total =

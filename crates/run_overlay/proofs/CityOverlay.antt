@@ -11,7 +11,7 @@ use Rattle.trip_match_defs.specs.Matching.{match_of, by_near}
 use Rattle.delay_rule_defs.specs.Delays.{states}
 use Rattle.order.specs.Order.{inserted, ordered}
 use Rattle.board_defs.specs.Choice.{chosen}
-use Rattle.board_defs.specs.Rows.{all_runs}
+use Rattle.sched_types.specs.Runs.{all_runs}
 use Rattle.board_defs.proofs.Parts.{late, stop_update, trip_update, entity_of, first_trip}
 use Rattle.run_overlay.specs.declared.slot.LiveSlot.{LiveSlot}
 use Rattle.run_overlay.specs.declared.slot.SlotState.{SlotState}

@@ -1,7 +1,3 @@
-pub mod Effects
-pub mod Tables
-pub mod Entries
-pub mod Greatest
 pub mod AllRuns
 pub mod Matches
 pub mod Mentioned
@@ -12,8 +8,6 @@ pub mod Lived
 pub mod Steps
 pub mod Alone
 pub mod After
-pub mod Once
 pub mod Slots
 pub mod Read
-pub mod Said
 pub mod CityOverlay

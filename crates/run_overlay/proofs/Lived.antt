@@ -14,12 +14,13 @@ use Rattle.sched_types.specs.declared.rows.Place.{Place}
 use Rattle.sched_types.specs.declared.rows.Run.{Run}
 use Rattle.sched_types.specs.Timetable.{Timetable, is_run}
 use Rattle.board_defs.specs.Choice.{Update, chosen}
-use Rattle.board_defs.specs.Rows.{Shown, all_runs, departures_of, may_board, shown_at}
+use Rattle.sched_types.specs.Runs.{all_runs, departures_of}
+use Rattle.board_defs.specs.Rows.{Shown, may_board, shown_at}
 use Rattle.run_overlay.specs.declared.live_run.LiveRun.{LiveRun}
 use Rattle.run_overlay.specs.declared.row.LiveRow.{LiveRow}
 use Rattle.run_overlay.specs.declared.row.RowKey.{RowKey}
 use Rattle.run_overlay.specs.declared.run_key.RunKey.{RunKey}
-use Rattle.run_overlay.specs.Keyed.{by_key, changed}
+use Rattle.keyed_lists.specs.Keyed.{by_key, changed}
 use Rattle.run_overlay.specs.Keys.{live_run_key, row_cmp, row_key, run_cmp, run_key}
 use Rattle.run_overlay.specs.Kept.{live_of, live_run, run_by}
 use Rattle.run_overlay.specs.Live.{live_place, live_row, live_rows, rows_by, sign_of}
@@ -28,9 +29,9 @@ use Rattle.run_overlay.specs.Sought.{is_key}
 use Rattle.run_overlay.specs.Turning.{live_after, row_changes, rows_kept, run_change, run_of_key, turn_of}
 use Rattle.run_overlay.proofs.AllRuns.{any_run}
 use Rattle.run_overlay.proofs.Choosing.{chosen_runs, run_same, run_tied}
-use Rattle.run_overlay.proofs.Effects.{IsApart, IsGiver, IsSegment, all_changed, effect, effect-append, find_given, flat_same, puts_apart, removes_apart, sorted_by_key, turned}
-use Rattle.run_overlay.proofs.Entries.{all_from}
-use Rattle.run_overlay.proofs.Tables.{all_each, all_of, filter_map_flat, tie_same, tie_self}
+use Rattle.keyed_lists.proofs.Effects.{IsApart, IsGiver, IsSegment, all_changed, effect, effect-append, find_given, flat_same, puts_apart, removes_apart, sorted_by_key, turned}
+use Rattle.keyed_lists.proofs.Entries.{all_from}
+use Rattle.keyed_lists.proofs.Tables.{all_each, all_of, filter_map_flat, tie_same, tie_self}
 
 -- ---- keys of runs
 

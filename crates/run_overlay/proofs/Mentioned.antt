@@ -21,13 +21,13 @@ use Rattle.run_overlay.specs.declared.mention.About.{About}
 use Rattle.run_overlay.specs.declared.mention.About.TheVariants as about
 use Rattle.run_overlay.specs.declared.mention.Mention.{Mention}
 use Rattle.run_overlay.specs.Changing.{id_change_by, link_change, link_changes, going, coming, candidate_changes, added_change, added_changes, only_added, mentions_after}
-use Rattle.run_overlay.specs.Keyed.{by_key, changed}
+use Rattle.keyed_lists.specs.Keyed.{by_key, changed}
 use Rattle.run_overlay.specs.Keys.{CandidateKey, id_cmp, link_key, stored_key, candidate_key, candidate_cmp}
 use Rattle.run_overlay.specs.Kept.{IsTable, added_of, candidate_of, if_added, link_of, mentions_of}
 use Rattle.run_overlay.specs.Orders.{candidates_total, candidates_exact}
 use Rattle.run_overlay.specs.Updates.{about_held, about_stored, mention_in}
-use Rattle.run_overlay.proofs.Effects.{IsSegment, all_changed, effect, flat_same, sorted_by_key}
-use Rattle.run_overlay.proofs.Tables.{TellsId, all_each, all_of, find_of_entries, found_so, given_at, if_tied, tie_same, tie_self}
+use Rattle.keyed_lists.proofs.Effects.{IsSegment, all_changed, effect, flat_same, sorted_by_key}
+use Rattle.keyed_lists.proofs.Tables.{TellsId, all_each, all_of, find_of_entries, found_so, given_at, if_tied, tie_same, tie_self}
 
 -- ---- ids
 

@@ -11,7 +11,7 @@ use Rattle.sched_types.specs.Timetable.{Timetable, is_run}
 use Rattle.delay_rule_defs.specs.Delays.{states}
 use Rattle.trip_match_defs.specs.Matching.{relation_of}
 use Rattle.board_defs.specs.Choice.{Update, chosen}
-use Rattle.board_defs.specs.Rows.{departures_of}
+use Rattle.sched_types.specs.Runs.{departures_of}
 use Rattle.run_overlay.specs.declared.candidate.Candidate.{Candidate}
 use Rattle.run_overlay.specs.declared.live_run.LiveRun.{LiveRun}
 use Rattle.run_overlay.specs.Keys.{id_cmp}
@@ -20,8 +20,8 @@ use Rattle.run_overlay.specs.Live.{live_place, rows_by}
 use Rattle.run_overlay.specs.Turning.{first_of, place_by, rows_with}
 use Rattle.run_overlay.specs.Updates.{update_alone, updates_of}
 use Rattle.run_overlay.proofs.Choosing.{Counts, as_candidate, chosen_runs, chosen_so, first_chosen, held_trip}
-use Rattle.run_overlay.proofs.Entries.{of_some}
-use Rattle.run_overlay.proofs.Tables.{filter_map_same}
+use Rattle.keyed_lists.proofs.Entries.{of_some}
+use Rattle.keyed_lists.proofs.Tables.{filter_map_same}
 
 -- the departures by the states of places are those by the update
 pub rows_same : (t : Timetable) (run : Run) (u : Update) → rows_with t run u.update ≡ rows_by t run (Some u)

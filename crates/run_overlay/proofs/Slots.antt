@@ -18,7 +18,8 @@ use Rattle.sched_types.specs.declared.rows.Place.{Place}
 use Rattle.sched_types.specs.declared.rows.Run.{Run}
 use Rattle.sched_types.specs.Timetable.{Timetable, places_of}
 use Rattle.board_defs.specs.Choice.{Update, chosen}
-use Rattle.board_defs.specs.Rows.{Shown, all_runs, departures_of, may_board, shown_at}
+use Rattle.sched_types.specs.Runs.{all_runs, departures_of}
+use Rattle.board_defs.specs.Rows.{Shown, may_board, shown_at}
 use Rattle.shared_list.specs.Order.{entries, entries_from}
 use Rattle.shared_list.proofs.Middle.{second_so, sorted_behind}
 use Rattle.feed_defs.specs.History.{Change as EntityChange}
@@ -33,10 +34,10 @@ use Rattle.run_overlay.specs.Sought.{AreAhead, is_ahead, slots_ahead}
 use Rattle.run_overlay.specs.Turning.{run_of_key}
 use Rattle.run_overlay.specs.Updates.{updates_of}
 use Rattle.run_overlay.proofs.AllRuns.{is_this, run_once}
-use Rattle.run_overlay.proofs.Entries.{HasItsKey, all_passing}
+use Rattle.keyed_lists.proofs.Entries.{HasItsKey, all_passing}
 use Rattle.run_overlay.proofs.Lived.{IsOfRun, key_tied, live_of_run, other_rows, run_in_row}
-use Rattle.run_overlay.proofs.Once.{count_given, filter_of_map, filter_ordered, filter_twice, keys_total, none_counted, once_ordered}
-use Rattle.run_overlay.proofs.Tables.{all_each, all_of, tie_same}
+use Rattle.keyed_lists.proofs.Once.{count_given, filter_of_map, filter_ordered, filter_twice, keys_total, none_counted, once_ordered}
+use Rattle.keyed_lists.proofs.Tables.{all_each, all_of, tie_same}
 
 -- ---- at most one departure has a key
 

@@ -28,7 +28,7 @@ use Rattle.run_overlay.specs.Updates.{update_alone, updates_of}
 use Rattle.run_overlay.proofs.AllRuns.{any_flat, any_map}
 use Rattle.run_overlay.proofs.Choosing.{mentions, run_itself}
 use Rattle.run_overlay.proofs.Mentioned.{before_is, id_same, ids_exact, ids_total, mention_held}
-use Rattle.run_overlay.proofs.Tables.{none_after}
+use Rattle.keyed_lists.proofs.Tables.{none_after}
 
 -- ---- lists
 

@@ -15,7 +15,7 @@ use Rattle.run_overlay.specs.declared.mention.Mention.{Mention}
 use Rattle.run_overlay.specs.declared.id_changes.IdBefore.{IdBefore}
 use Rattle.run_overlay.specs.declared.id_changes.IdChange.{IdChange}
 use Rattle.run_overlay.specs.declared.run_key.RunKey.{RunKey}
-use Rattle.run_overlay.specs.Keyed.{changed}
+use Rattle.keyed_lists.specs.Keyed.{changed}
 use Rattle.run_overlay.specs.Keys.{CandidateKey, id_cmp, link_key, stored_key, candidate_key, candidate_cmp, run_key}
 use Rattle.run_overlay.specs.Kept.{Mentions, FeedOverlay, IsTable, if_added, overlay_of}
 use Rattle.run_overlay.specs.Updates.{about_held, about_stored, mention_in}

@@ -8,7 +8,7 @@ use Rattle.feed_defs.specs.History.{Change}
 use Rattle.sched_types.specs.declared.rows.Run.{Run}
 use Rattle.sched_types.specs.Timetable.{Timetable}
 use Rattle.board_defs.specs.Choice.{Update, chosen}
-use Rattle.board_defs.specs.Rows.{all_runs}
+use Rattle.sched_types.specs.Runs.{all_runs}
 use Rattle.run_overlay.specs.declared.candidate.Candidate.{Candidate}
 use Rattle.run_overlay.specs.declared.link.Link.{Link}
 use Rattle.run_overlay.specs.declared.live_run.LiveRun.{LiveRun}
@@ -18,7 +18,7 @@ use Rattle.run_overlay.specs.declared.row.LiveRow.{LiveRow}
 use Rattle.run_overlay.specs.declared.row.RowKey.{RowKey}
 use Rattle.run_overlay.specs.declared.run_key.RunKey.{RunKey}
 use Rattle.run_overlay.specs.declared.slot.LiveSlot.{LiveSlot}
-use Rattle.run_overlay.specs.Keyed.{by_key}
+use Rattle.keyed_lists.specs.Keyed.{by_key}
 use Rattle.run_overlay.specs.Keys.{CandidateKey, id_cmp, link_key, stored_key, candidate_key, candidate_cmp, run_key, run_cmp, live_run_key, row_key, row_cmp}
 use Rattle.run_overlay.specs.Live.{is_at, is_between, live_rows, rows_by}
 use Rattle.run_overlay.specs.Updates.{about_stored, mention_in, updates_of}

@@ -1,4 +1,3 @@
-pub mod Keyed
 pub mod Keys
 pub mod Orders
 pub mod Updates

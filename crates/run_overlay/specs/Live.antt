@@ -11,7 +11,8 @@ use Rattle.order.specs.Order.{ordered}
 use Rattle.board_defs.specs.declared.row.RowState.{RowState}
 use Rattle.board_defs.specs.declared.row.RowState.TheVariants as state
 use Rattle.board_defs.specs.Choice.{Update, chosen}
-use Rattle.board_defs.specs.Rows.{Shown, all_runs, departures_of, may_board, scheduled_at, shown_at}
+use Rattle.sched_types.specs.Runs.{all_runs, departures_of}
+use Rattle.board_defs.specs.Rows.{Shown, may_board, scheduled_at, shown_at}
 use Rattle.run_overlay.specs.declared.row.LiveRow.{LiveRow}
 use Rattle.run_overlay.specs.declared.shown.Sign.{Sign}
 use Rattle.run_overlay.specs.declared.slot.LiveSlot.{LiveSlot}

@@ -14,14 +14,15 @@ use Rattle.delay_rule_defs.specs.declared.state.StopState.{StopState}
 use Rattle.delay_rule_defs.specs.Delays.{states}
 use Rattle.trip_match_defs.specs.Matching.{relation_of}
 use Rattle.board_defs.specs.Choice.{Update}
-use Rattle.board_defs.specs.Rows.{by_relation, departures_of, may_board}
+use Rattle.sched_types.specs.Runs.{departures_of}
+use Rattle.board_defs.specs.Rows.{by_relation, may_board}
 use Rattle.run_overlay.specs.declared.candidate.Candidate.{Candidate}
 use Rattle.run_overlay.specs.declared.live_run.LiveRun.{LiveRun}
 use Rattle.run_overlay.specs.declared.row.LiveRow.{LiveRow}
 use Rattle.run_overlay.specs.declared.row.RowKey.{RowKey}
 use Rattle.run_overlay.specs.declared.run_key.RunKey.{RunKey}
 use Rattle.run_overlay.specs.declared.turns.Turn.{Turn}
-use Rattle.run_overlay.specs.Keyed.{changed}
+use Rattle.keyed_lists.specs.Keyed.{changed}
 use Rattle.run_overlay.specs.Keys.{CandidateKey, row_cmp, row_key, run_cmp, live_run_key}
 use Rattle.run_overlay.specs.Kept.{LiveKept, live_run}
 use Rattle.run_overlay.specs.Live.{live_row, sign_of}

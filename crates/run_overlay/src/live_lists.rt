@@ -4,7 +4,7 @@ ghost use Rattle.std.specs.Prelude.{◌≡◌, ◌+◌, ◌≤◌, ◌++◌, [],
 ghost use Rattle.std.specs.List.{flat_map};
 ghost use Rattle.std.specs.Option.{option_copied};
 ghost use Rattle.shared_list.specs.declared.change.Change.TheVariants.{Put, Remove};
-ghost use Rattle.run_overlay.specs.Keyed.{naming_keys};
+ghost use Rattle.keyed_lists.specs.Keyed.{naming_keys};
 ghost use Rattle.run_overlay.specs.Keys.{row_key};
 ghost use Rattle.run_overlay.specs.Kept.{mentions_of, nothing_live};
 ghost use Rattle.run_overlay.specs.Sought.{row_at};

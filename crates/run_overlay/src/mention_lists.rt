@@ -4,7 +4,7 @@ ghost use Rattle.std.specs.Prelude.{◌≡◌, ◌++◌, ◌∷◌, [], IfOk, On
 ghost use Rattle.std.specs.List.{flat_map};
 ghost use Rattle.run_overlay.specs.Changing as rule;
 ghost use Rattle.run_overlay.specs.Changing.{mentions_after};
-ghost use Rattle.run_overlay.specs.Keyed.{naming_key, naming_keys};
+ghost use Rattle.keyed_lists.specs.Keyed.{naming_key, naming_keys};
 ghost use Rattle.run_overlay.specs.Kept.{no_mentions};
 ghost use Rattle.run_overlay.specs.Sought.{candidate_at, id_at};
 

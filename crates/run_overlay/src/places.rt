@@ -6,7 +6,7 @@ ghost use Rattle.std.specs.Option.{option_to_list};
 ghost use Rattle.sched_types.specs.Timetable.{IsSmall, is_run, places_of};
 ghost use Rattle.delay_rule.specs.Near.{IsNear, IsNearState};
 ghost use Rattle.board_defs.specs.Rows as boards;
-ghost use Rattle.board_defs.specs.Rows.{departures_of};
+ghost use Rattle.sched_types.specs.Runs.{departures_of};
 ghost use Rattle.run_overlay.specs.Live as rule;
 ghost use Rattle.run_overlay.specs.Turning.{place_by, rows_with};
 

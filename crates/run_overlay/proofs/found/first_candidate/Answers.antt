@@ -3,7 +3,7 @@ use Rattle.std.proofs.Common.{◌≡◌, [], None, Some, cond, sym, ap, ◌∙�
 use Rattle.run_overlay.specs.Keys.{candidate_key}
 use Rattle.run_overlay.specs.Turning.{is_of_run}
 use Rattle.run_overlay.proofs.Choosing.{first_from, head_of}
-use Rattle.run_overlay.proofs.Entries.{keyed_each}
+use Rattle.keyed_lists.proofs.Entries.{keyed_each}
 use Rattle.run_overlay.proofs.found.first_candidate.Goals as goal
 
 pub returns-in_err-first : goal.returns-in_err-first

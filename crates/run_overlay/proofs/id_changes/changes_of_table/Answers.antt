@@ -2,7 +2,7 @@
 use Rattle.std.proofs.Common.{◌∙◌}
 use Rattle.std.proofs.lemmas.List.{map-map}
 use Rattle.run_overlay.specs.Changing.{id_change_new}
-use Rattle.run_overlay.proofs.Said.{all_made}
+use Rattle.keyed_lists.proofs.Said.{all_made}
 use Rattle.run_overlay.proofs.id_changes.changes_of_table.Goals as goal
 
 pub returns : goal.returns

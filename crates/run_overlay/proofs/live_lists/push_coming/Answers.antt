@@ -1,7 +1,7 @@
 -- One departure more.
 use Rattle.std.proofs.Common.{append_assoc, arith}
 use Rattle.std.proofs.lemmas.Grind.{common_steps}
-use Rattle.run_overlay.proofs.Said.{naming-append}
+use Rattle.keyed_lists.proofs.Said.{naming-append}
 use Rattle.run_overlay.proofs.live_lists.push_coming.Goals as goal
 
 pub loop-row-preserved : goal.loop-row-preserved

@@ -1,7 +1,7 @@
 -- The departures that were gone over come.
 use Rattle.std.proofs.Common.{◌≡◌, ◌++◌, map, take}
 use Rattle.shared_list.specs.declared.change.Change.TheVariants.{Put}
-use Rattle.run_overlay.specs.Keyed.{naming_keys}
+use Rattle.keyed_lists.specs.Keyed.{naming_keys}
 use Rattle.run_overlay.specs.Sought.{row_at}
 use Rattle.run_overlay.proofs.live_lists.push_coming.Given as goal
 

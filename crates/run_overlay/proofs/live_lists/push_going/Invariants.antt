@@ -1,7 +1,7 @@
 -- The departures that were gone over go.
 use Rattle.std.proofs.Common.{◌≡◌, ◌++◌, map, take}
 use Rattle.shared_list.specs.declared.change.Change.TheVariants.{Remove}
-use Rattle.run_overlay.specs.Keyed.{naming_keys}
+use Rattle.keyed_lists.specs.Keyed.{naming_keys}
 use Rattle.run_overlay.specs.Keys.{row_key}
 use Rattle.run_overlay.specs.Sought.{row_at}
 use Rattle.run_overlay.proofs.live_lists.push_going.Given as goal

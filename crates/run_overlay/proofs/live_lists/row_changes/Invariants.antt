@@ -1,7 +1,7 @@
 -- What the turns that were gone over change.
 use Rattle.std.proofs.Common.{◌≡◌, take}
 use Rattle.std.specs.List.{flat_map}
-use Rattle.run_overlay.specs.Keyed.{naming_keys}
+use Rattle.keyed_lists.specs.Keyed.{naming_keys}
 use Rattle.run_overlay.specs.Sought.{row_at}
 use Rattle.run_overlay.specs.Turning.{row_changes}
 use Rattle.run_overlay.proofs.live_lists.row_changes.Given as goal

@@ -2,7 +2,7 @@
 use Rattle.std.proofs.Common.{◌≡◌, [], refl, arith}
 use Rattle.std.proofs.lemmas.Grind.{common_steps}
 use Rattle.run_overlay.specs.Turning.{run_change}
-use Rattle.run_overlay.proofs.Said.{all_made}
+use Rattle.keyed_lists.proofs.Said.{all_made}
 use Rattle.run_overlay.proofs.live_lists.run_changes.Goals as goal
 
 pub returns : goal.returns

@@ -1,7 +1,7 @@
 -- One change of an id more.
 use Rattle.std.proofs.Common.{arith}
 use Rattle.std.proofs.lemmas.Grind.{common_steps, flat_map-append}
-use Rattle.run_overlay.proofs.Said.{naming-append}
+use Rattle.keyed_lists.proofs.Said.{naming-append}
 use Rattle.run_overlay.proofs.mention_lists.added_changes.Goals as goal
 
 pub loop-one-preserved : goal.loop-one-preserved

@@ -2,7 +2,7 @@
 use Rattle.std.proofs.Common.{◌≡◌, take}
 use Rattle.std.specs.List.{flat_map}
 use Rattle.run_overlay.specs.Changing.{link_changes}
-use Rattle.run_overlay.specs.Keyed.{naming_keys}
+use Rattle.keyed_lists.specs.Keyed.{naming_keys}
 use Rattle.run_overlay.specs.Sought.{id_at}
 use Rattle.run_overlay.proofs.mention_lists.link_changes.Given as goal
 

@@ -3,7 +3,7 @@ use Rattle.std.proofs.Common.{◌-◌, ◌≤◌, length, take, ap, ◌∙◌, a
 use Rattle.std.specs.List.{enumerate_from, filter_map}
 use Rattle.sched_types.specs.declared.rows.Place.{Place}
 use Rattle.run_overlay.specs.Turning.{place_by}
-use Rattle.run_overlay.proofs.Said.{numbered_all, numbered_more}
+use Rattle.keyed_lists.proofs.Said.{numbered_all, numbered_more}
 use Rattle.run_overlay.proofs.places.place_rows.Goals as goal
 
 pub loop-i-preserved : goal.loop-i-preserved

@@ -2,9 +2,9 @@
 use Rattle.std.proofs.Common.{ap, ◌∙◌}
 use Rattle.std.specs.List.{filter_map}
 use Rattle.sched_types.proofs.TimetableLaws.{run_has, run_trip}
-use Rattle.board_defs.specs.Rows.{departures_of}
+use Rattle.sched_types.specs.Runs.{departures_of}
 use Rattle.run_overlay.specs.Turning.{place_by}
-use Rattle.run_overlay.proofs.Said.{if_ok_is}
+use Rattle.keyed_lists.proofs.Said.{if_ok_is}
 use Rattle.run_overlay.proofs.places.rows_of_run.Goals as goal
 
 pub place_rows-requires-clause-trip : goal.place_rows-requires-clause-trip

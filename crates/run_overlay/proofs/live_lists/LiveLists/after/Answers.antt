@@ -1,7 +1,7 @@
 -- Each list is changed once, by what the turns change.
 use Rattle.std.proofs.Common.{map, ap, ◌∙◌}
 use Rattle.std.specs.List.{flat_map}
-use Rattle.run_overlay.specs.Keyed.{changed}
+use Rattle.keyed_lists.specs.Keyed.{changed}
 use Rattle.run_overlay.specs.Keys.{live_run_key, row_cmp, row_key, run_cmp}
 use Rattle.run_overlay.specs.Turning.{row_changes, run_change}
 use Rattle.run_overlay.proofs.live_lists.LiveLists.after.Goals as goal

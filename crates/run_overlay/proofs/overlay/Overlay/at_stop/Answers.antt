@@ -2,7 +2,7 @@
 use Rattle.std.proofs.Common.{subst, sym, ap, ◌∙◌}
 use Rattle.run_overlay.specs.Keys.{row_key}
 use Rattle.run_overlay.specs.Sought.{AreAhead, slots_ahead}
-use Rattle.run_overlay.proofs.Entries.{keyed_each}
+use Rattle.keyed_lists.proofs.Entries.{keyed_each}
 use Rattle.run_overlay.proofs.Slots.{ahead_is, are_ahead, slots_are}
 use Rattle.run_overlay.proofs.overlay.Overlay.at_stop.Goals as goal
 

@@ -10,8 +10,8 @@ use Rattle.std.specs.declared.cmp.Ordering.{Ordering}
 use Rattle.std.proofs.lemmas.Cmp.{tied_itself}
 use Rattle.shared_list.specs.Order.{entries}
 use Rattle.shared_list.proofs.Middle.{second_so, sorted_behind}
-use Rattle.run_overlay.specs.Keyed.{by_key, with_item}
-use Rattle.run_overlay.proofs.Tables.{all_each, all_of, all_with, found_own, tie_self}
+use Rattle.keyed_lists.specs.Keyed.{by_key, with_item}
+use Rattle.keyed_lists.proofs.Tables.{all_each, all_of, all_with, found_own, tie_self}
 
 -- ---- lists
 

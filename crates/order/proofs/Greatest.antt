@@ -41,10 +41,10 @@ module _ {X : Type 0} {cmp : X → X → Ordering} (o : IsTotalOrder cmp) where
         → IsUpTo last best × AllByRecursion (IsUpTo last) (x ∷ xs)
     by_test true above same this other =
         let rest = this same in
-        (upto o best x last (not_above_back o x best above) rest.0, rest.0, rest.1)
+        (upto o best x last (not_above_back o x best above) rest.0, (rest.0, rest.1))
     by_test false up same this other =
         let rest = other same in
-        (rest.0, upto o x best last up rest.0, rest.1)
+        (rest.0, (upto o x best last up rest.0, rest.1))
 
   pub above_greatest : (xs : List X) (best : X) → greatest cmp xs ≡ Some best → AllByRecursion (λ x. is_gt (cmp x best) ≡ false) xs
   above_greatest [] best same = tt

@@ -12,7 +12,7 @@ use Rattle.shared_list.specs.declared.change.Change.{Change}
 use Rattle.shared_list.specs.declared.change.Change.TheVariants.{Put, Remove}
 use Rattle.shared_list.specs.Changes.{after_change, after_changes}
 use Rattle.shared_list.proofs.ChangeLaws.{find-change, sorted-changes}
-use Rattle.run_overlay.specs.Keyed.{with_item, by_key, changed, naming_keys}
+use Rattle.keyed_lists.specs.Keyed.{with_item, by_key, changed, naming_keys}
 
 -- ---- the effect of changes
 

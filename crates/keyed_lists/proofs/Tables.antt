@@ -10,8 +10,8 @@ use Rattle.std.specs.declared.cmp.Ordering.{Ordering}
 use Rattle.std.proofs.lemmas.Cmp.{tied_itself}
 use Rattle.shared_list.specs.declared.change.Change.TheVariants.{Put}
 use Rattle.shared_list.proofs.Middle.{second_so, sorted_behind}
-use Rattle.run_overlay.specs.Keyed.{by_key}
-use Rattle.run_overlay.proofs.Effects.{IsApart, IsGiver, effect, find_given}
+use Rattle.keyed_lists.specs.Keyed.{by_key}
+use Rattle.keyed_lists.proofs.Effects.{IsApart, IsGiver, effect, find_given}
 
 -- ---- lists
 

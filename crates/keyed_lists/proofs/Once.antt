@@ -16,10 +16,10 @@ use Rattle.order.proofs.Lists.{filter_same}
 use Rattle.order.proofs.Ordered.{rising_filter}
 use Rattle.shared_list.specs.declared.change.Change.TheVariants.{Put}
 use Rattle.shared_list.proofs.Middle.{second_so, sorted_behind}
-use Rattle.run_overlay.specs.Keyed.{by_key}
-use Rattle.run_overlay.proofs.Effects.{effect, find_by_key, puts_apart, sorted_by_key}
-use Rattle.run_overlay.proofs.Entries.{HasItsKey, by_key_keyed}
-use Rattle.run_overlay.proofs.Tables.{none_after}
+use Rattle.keyed_lists.specs.Keyed.{by_key}
+use Rattle.keyed_lists.proofs.Effects.{effect, find_by_key, puts_apart, sorted_by_key}
+use Rattle.keyed_lists.proofs.Entries.{HasItsKey, by_key_keyed}
+use Rattle.keyed_lists.proofs.Tables.{none_after}
 
 -- ---- lists
 

@@ -1,15 +1,15 @@
 //! Lists after changes.
 
 ghost use Rattle.std.specs.Prelude.{◌≡◌, IfOk};
-ghost use Rattle.run_overlay.specs.Keyed as rule;
-ghost use Rattle.run_overlay.specs.Keyed.{naming_keys};
+ghost use Rattle.keyed_lists.specs.Keyed as rule;
+ghost use Rattle.keyed_lists.specs.Keyed.{naming_keys};
 
 use crate::NoMemory;
 use shared_list::{Change, KeyFor, Keyed, SharedList};
 
 /// The list after the changes, one after another; or out of memory. The given list stays as it is, and the two share what
 /// is not changed.
-pub(crate) fn changed<T: Keyed, K: KeyFor<T>>(
+pub fn changed<T: Keyed, K: KeyFor<T>>(
     list: &SharedList<T>,
     changes: Vec<Change<T, K>>,
 ) -> Result<SharedList<T>, NoMemory>

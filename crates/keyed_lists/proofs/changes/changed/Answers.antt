@@ -1,9 +1,9 @@
 -- The changes name what goes by the key that is sought.
 use Rattle.std.proofs.Common.{ap, ◌∙◌}
 use Rattle.shared_list.specs.Changes.{after_changes}
-use Rattle.run_overlay.proofs.Effects.{by_naming}
-use Rattle.run_overlay.proofs.Said.{if_ok_is}
-use Rattle.run_overlay.proofs.changes.changed.Goals as goal
+use Rattle.keyed_lists.proofs.Effects.{by_naming}
+use Rattle.keyed_lists.proofs.Said.{if_ok_is}
+use Rattle.keyed_lists.proofs.changes.changed.Goals as goal
 
 pub returns : goal.returns
 returns g c =

@@ -1,0 +1,5 @@
+pub mod Effects
+pub mod Tables
+pub mod Entries
+pub mod Once
+pub mod Said
