@@ -57,6 +57,10 @@ module _ (t : Timetable) (overlay : FeedOverlay) (table : List EntityChange) (ch
       ∙ ap (mentions_after table by_ids) mentions_kept
       ∙ mentions_are t are.old table are.was is are.ids are.others
 
+  -- The candidates are those of the table.
+  pub candidates_then : (mentions : Mentions) → mentions ≡ mentions_after table changes overlay.mentions → mentions.candidates ≡ (mentions_of t table).candidates
+  candidates_then mentions is = ap (λ (m : Mentions). m.candidates) (is ∙ mentions_then)
+
   live_then : live_after t (updates_of table) keys overlay.live ≡ live_of t (updates_of table)
   live_then =
       ap (live_after t (updates_of table) keys) live_kept
