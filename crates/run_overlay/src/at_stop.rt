@@ -37,8 +37,8 @@ impl<'a> AtStop<'a> {
     /// Those of the departures that are at the stop and are expected before `end`. None of them is at a stop with a lower
     /// number.
     pub(crate) fn among(rows: Iter<'a, LiveRow>, stop: u32, end: i64) -> AtStop<'a>
-        requires { AreAhead stop rows.entry }
-        ensures { result ≡ slots_ahead stop end rows.entry }
+        requires { AreAhead stop rows }
+        ensures { result ≡ slots_ahead stop end rows }
     {
         AtStop { rows, stop, end }
     }

@@ -27,7 +27,6 @@
 
 mod at_stop;
 mod candidate;
-mod changes;
 mod found;
 mod id_changes;
 mod link;

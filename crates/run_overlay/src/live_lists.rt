@@ -14,13 +14,13 @@ ghost use Rattle.run_overlay.specs.Updates.{updates_of};
 
 use crate::NoMemory;
 use crate::candidate::Candidate;
-use crate::changes::changed;
 use crate::live_run::LiveRun;
 use crate::row::LiveRow;
 use crate::run_key::RunKey;
 use crate::turns::{Turn, turns_of};
 use delay_rule::Steps;
 use entity_table::Table;
+use keyed_lists::changed;
 use sched_types::Plan;
 use shared_list::{Change, SharedList};
 use std::alloc::Global;
@@ -138,7 +138,7 @@ fn push_turn<'a>(
     out: &mut Vec<Change<LiveRow, &'a LiveRow>>,
 ) -> Result<(), NoMemory>
     ensures { OnOk result (naming_keys row_at out.new.items
-        ≡ naming_keys row_at out.old.items ++ rule.row_changes runs.entry.now turn.now) }
+        ≡ naming_keys row_at out.old.items ++ rule.row_changes runs.entry.now turn.entry.now) }
 {
     push_going(rows_of(runs.get(turn.run)), out)?;
     push_coming(rows_of(turn.now.as_ref()), out)

@@ -7,7 +7,7 @@ use Rattle.run_overlay.specs.Turning.{row_changes, run_change}
 use Rattle.run_overlay.proofs.live_lists.LiveLists.after.Goals as goal
 
 pub returns-clause-lists : goal.returns-clause-lists
-returns-clause-lists c = rw (← c.self.view_is) (λ i. record {
+returns-clause-lists g c = rw (← c.self.view_is) (λ i. record {
   runs = (c.in_ok-runs.ensures
       ∙ ap (changed run_cmp live_run_key c.self.inside.runs) (c.in_ok-run_changes.ensures ∙ ap (map run_change) c.in_ok-turns.ensures.turns)) i;
   rows = (c.in_ok-rows.ensures
