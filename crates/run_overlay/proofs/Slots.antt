@@ -1,5 +1,5 @@
 -- The departures at a stop that are kept are those that are defined, each once and in order.
-use Rattle.std.proofs.Common.{◌≡◌, ℕ, ◌≤◌, List, [], ◌∷◌, Bool, true, false, ◌&&◌, cond, not, nat_eq, Option, Some, None, map, filter, count_by, ℤ, int_le, int_lt, refl, sym, ap, subst, ◌∙◌, Less, Equal, Greater, arith}
+use Rattle.std.proofs.Common.{◌≡◌, ℕ, ◌-◌, ◌≤◌, List, [], ◌∷◌, Bool, true, false, ◌&&◌, cond, not, nat_eq, Option, Some, None, map, filter, count_by, ℤ, int_le, int_lt, refl, sym, ap, subst, ◌∙◌, Less, Equal, Greater, arith}
 use Rattle.std.specs.Prelude.{T, length, take}
 use Rattle.std.specs.FinMap.{int_cmp-IsAntisymmetric, is_sorted, nat_cmp-IsAntisymmetric}
 use Rattle.std.specs.FinMap.Entries.{is_sorted-where_key}
