@@ -38,7 +38,7 @@ impl<'a> AtStop<'a> {
     /// number.
     pub(crate) fn among(rows: Iter<'a, LiveRow>, stop: u32, end: i64) -> AtStop<'a>
         requires { AreAhead stop rows }
-        ensures { result ≡ slots_ahead stop end rows }
+        ensures { result ≡ slots_ahead stop end rows.entry }
     {
         AtStop { rows, stop, end }
     }
