@@ -1,8 +1,9 @@
 -- The departures at a stop that are kept are those that are defined, each once and in order.
-use Rattle.std.proofs.Common.{◌≡◌, ℕ, ◌≤◌, List, [], ◌∷◌, Bool, true, false, ◌&&◌, cond, not, nat_eq, Option, Some, None, map, filter, count_by, ℤ, int_le, int_lt, refl, sym, ap, subst, ◌∙◌, Less, Equal, Greater, arith}
+use Rattle.std.proofs.Common.{◌≡◌, ℕ, ◌-◌, ◌≤◌, List, [], ◌∷◌, Bool, true, false, ◌&&◌, cond, not, nat_eq, Option, Some, None, map, filter, count_by, ℤ, int_le, int_lt, refl, sym, ap, subst, ◌∙◌, Less, Equal, Greater, arith}
 use Rattle.std.specs.Prelude.{T, length, take}
 use Rattle.std.specs.FinMap.{int_cmp-IsAntisymmetric, is_sorted, nat_cmp-IsAntisymmetric}
 use Rattle.std.specs.FinMap.Entries.{is_sorted-where_key}
+use Rattle.std.specs.Iterator.{YieldsFirst}
 use Rattle.std.specs.List.{AllByRecursion, flat_map}
 use Rattle.std.specs.Option.{option_map}
 use Rattle.std.specs.Ordering.{eq_by_cmp, int_cmp, is_lt, nat_cmp, ordering_then}
@@ -296,3 +297,16 @@ module _ (stop : ℕ) (end : ℤ) where
     rising = record { sorted = second_so _ _ are.rising.sorted };
     from = are.from.1;
   }
+
+  -- What the first of those that are left gives: its departure where it is ahead, and else nothing is left.
+  pub first_gives : (row : LiveRow) (all rows : List LiveRow) (left : List LiveSlot) (given : Option LiveSlot) → all ≡ row ∷ rows → AreAhead stop all → left ≡ slots_ahead stop end all → given ≡ cond (is_ahead stop end row) (Some row.slot) None
+      → YieldsFirst (λ slots. slots) left given (slots_ahead stop end rows)
+  first_gives row all rows left given are ahead view is =
+      subst (λ o. YieldsFirst (λ slots. slots) left o (slots_ahead stop end rows)) (sym is)
+      (by_test (is_ahead stop end row) refl (view ∙ ap (slots_ahead stop end) are))
+    where
+      by_test : (b : Bool) → is_ahead stop end row ≡ b → left ≡ map (λ (r : LiveRow). r.slot) (cond (is_ahead stop end row) (row ∷ filter (is_ahead stop end) rows) (filter (is_ahead stop end) rows)) → YieldsFirst (λ slots. slots) left (cond b (Some row.slot) None) (slots_ahead stop end rows)
+      by_test true at was = was ∙ ap (λ b. map (λ (r : LiveRow). r.slot) (cond b (row ∷ filter (is_ahead stop end) rows) (filter (is_ahead stop end) rows))) at
+      by_test false at was =
+          let none : slots_ahead stop end rows ≡ [] = none_ahead row rows (subst (AreAhead stop) are ahead) at in
+          (was ∙ ap (λ b. map (λ (r : LiveRow). r.slot) (cond b (row ∷ filter (is_ahead stop end) rows) (filter (is_ahead stop end) rows))) at ∙ none, none)
