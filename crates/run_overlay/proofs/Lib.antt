@@ -1,0 +1,13 @@
+pub mod AllRuns
+pub mod Matches
+pub mod Mentioned
+pub mod Choosing
+pub mod RunNow
+pub mod Untouched
+pub mod Lived
+pub mod Steps
+pub mod Alone
+pub mod After
+pub mod Slots
+pub mod Read
+pub mod CityOverlay

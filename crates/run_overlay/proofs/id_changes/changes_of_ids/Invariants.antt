@@ -1,0 +1,7 @@
+-- What becomes of the ids that were gone over, and of those that are left, are all.
+use Rattle.std.proofs.Common.{◌≡◌, ◌++◌, map}
+use Rattle.run_overlay.specs.Changing.{id_change}
+use Rattle.run_overlay.proofs.id_changes.changes_of_ids.Given as goal
+
+abbrev pub invariant-loop-one : goal.invariant-loop-one
+invariant-loop-one l = l.changes.items ++ map (id_change l.plan l.table) l.one-iterator.rest.items ≡ map (id_change l.plan l.table) l.fn.ids.items

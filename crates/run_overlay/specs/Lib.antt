@@ -1,0 +1,10 @@
+pub mod Keys
+pub mod Orders
+pub mod Updates
+pub mod Live
+pub mod Kept
+pub mod Changing
+pub mod Named
+pub mod Turning
+pub mod Sought
+pub mod Told

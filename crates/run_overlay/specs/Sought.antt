@@ -1,0 +1,38 @@
+-- Keys as they are sought, and the departures that an iterator has ahead.
+use Rattle.std.specs.Prelude.{ℕ, ◌≤◌, Bool, ◌&&◌, ◌==◌, Some, List, map, filter, ℤ, int_lt}
+use Rattle.std.specs.Borrow.{Bor}
+use Rattle.std.specs.List.{AllByRecursion}
+use Rattle.shared_list.specs.Order.{Rises}
+use Rattle.run_overlay.specs.declared.candidate.CandidateAt.{CandidateAt}
+use Rattle.run_overlay.specs.declared.row.LiveRow.{LiveRow}
+use Rattle.run_overlay.specs.declared.row.RowKey.{RowKey}
+use Rattle.run_overlay.specs.declared.run_key.RunKey.{RunKey}
+use Rattle.run_overlay.specs.declared.slot.LiveSlot.{LiveSlot}
+use Rattle.run_overlay.specs.Keys.{CandidateKey, row_cmp, row_key, run_key}
+
+abbrev pub id_at : Bor (List ℕ) → List ℕ
+id_at id = id.now
+
+abbrev pub candidate_at : CandidateAt → CandidateKey
+candidate_at c = (run_key c.mention.run, Some (c.mention.stamp, c.id.now))
+
+abbrev pub row_at : Bor LiveRow → RowKey
+row_at row = row_key row.now
+
+-- a key is that one
+abbrev pub is_key : RunKey → RunKey → Bool
+is_key key other = (other.trip == key.trip) && (other.day == key.day)
+
+-- ---- departures ahead
+
+abbrev pub is_ahead : ℕ → ℤ → LiveRow → Bool
+is_ahead stop end row = (row.stop == stop) && int_lt row.slot.at end
+
+-- those at a stop that are expected before an instant
+abbrev pub slots_ahead : ℕ → ℤ → List LiveRow → List LiveSlot
+slots_ahead stop end rows = map (λ row. row.slot) (filter (is_ahead stop end) rows)
+
+-- departures in order, none of a stop with a lower number
+pub record AreAhead (stop : ℕ) (rows : List LiveRow) : Type 0 where
+  pub rising : Rises row_cmp row_key rows
+  pub from : AllByRecursion (λ row. stop ≤ row.stop) rows

@@ -1,0 +1,91 @@
+-- What becomes of runs, and of their departures.
+use Rattle.std.specs.Prelude.{Bool, ◌&&◌, ◌==◌, if◌then◌else◌, ℕ, Option, Some, None, List, [], ◌++◌, map, filter, slice_get}
+use Rattle.std.specs.List.{filter_map, flat_map}
+use Rattle.std.specs.Option.{option_map}
+use Rattle.std.specs.FinMap.{find}
+use Rattle.rt_types.specs.declared.enums.TripRelation.{TripRelation}
+use Rattle.rt_types.specs.declared.trip_update.TripUpdate.{TripUpdate}
+use Rattle.shared_list.specs.declared.change.Change.{Change}
+use Rattle.shared_list.specs.declared.change.Change.TheVariants.{Put, Remove}
+use Rattle.sched_types.specs.declared.rows.Place.{Place}
+use Rattle.sched_types.specs.declared.rows.Run.{Run}
+use Rattle.sched_types.specs.Timetable.{Timetable}
+use Rattle.delay_rule_defs.specs.declared.state.StopState.{StopState}
+use Rattle.delay_rule_defs.specs.Delays.{states}
+use Rattle.trip_match_defs.specs.Matching.{relation_of}
+use Rattle.board_defs.specs.Choice.{Update}
+use Rattle.sched_types.specs.Runs.{departures_of}
+use Rattle.board_defs.specs.Rows.{by_relation, may_board}
+use Rattle.run_overlay.specs.declared.candidate.Candidate.{Candidate}
+use Rattle.run_overlay.specs.declared.live_run.LiveRun.{LiveRun}
+use Rattle.run_overlay.specs.declared.row.LiveRow.{LiveRow}
+use Rattle.run_overlay.specs.declared.row.RowKey.{RowKey}
+use Rattle.run_overlay.specs.declared.run_key.RunKey.{RunKey}
+use Rattle.run_overlay.specs.declared.turns.Turn.{Turn}
+use Rattle.keyed_lists.specs.Keyed.{changed}
+use Rattle.run_overlay.specs.Keys.{CandidateKey, row_cmp, row_key, run_cmp, live_run_key}
+use Rattle.run_overlay.specs.Kept.{LiveKept, live_run}
+use Rattle.run_overlay.specs.Live.{live_row, sign_of}
+
+-- ---- the departures of a run, by the states of its places
+
+abbrev pub place_by : Timetable → Run → TripRelation → List StopState → ℕ × Place → Option LiveRow
+place_by t run kind states (i, place) =
+    if may_board place
+    then
+    option_map (λ shown. live_row t run (i, place) (sign_of shown))
+    (by_relation kind (slice_get states i))
+    else None
+
+-- by an update of the run
+abbrev pub rows_with : Timetable → Run → TripUpdate → List LiveRow
+rows_with t run update =
+    filter_map (place_by t run (relation_of update.trip) (states t run update))
+    (departures_of t run.trip)
+
+-- ---- the update that counts for a run
+
+-- it is about that run
+abbrev pub is_of_run : Run → Candidate → Bool
+is_of_run run candidate =
+    (candidate.mention.run.trip == run.trip) && (candidate.mention.run.day == run.day)
+
+-- the first of those that are
+abbrev pub first_of : Run → List (CandidateKey × Candidate) → Option Candidate
+first_of run candidates =
+    slice_get (filter (is_of_run run) (map (λ entry. entry.1) candidates)) 0
+
+-- ---- what becomes of runs that are touched
+
+abbrev pub run_of_key : RunKey → Run
+run_of_key key = record { trip = key.trip; day = key.day }
+
+-- a run, and what it is now, if an update counts for it
+abbrev pub turn_of : Timetable → List Update → RunKey → Turn
+turn_of t updates key = record { run = key; now = live_run t updates (run_of_key key) }
+
+abbrev pub turned_run : RunKey → Option LiveRun → Change LiveRun RunKey
+turned_run key None = Remove key
+turned_run key (Some live) = Put live
+
+abbrev pub run_change : Turn → Change LiveRun RunKey
+run_change turn = turned_run turn.run turn.now
+
+-- the departures of a run that has an update
+abbrev pub rows_kept : Option LiveRun → List LiveRow
+rows_kept None = []
+rows_kept (Some live) = live.rows
+
+-- those that it had go, and those that it has come
+abbrev pub row_changes : List (RunKey × LiveRun) → Turn → List (Change LiveRow RowKey)
+row_changes runs turn =
+    map (λ row. Remove (row_key row)) (rows_kept (find run_cmp turn.run runs))
+    ++ map Put (rows_kept turn.now)
+
+abbrev pub live_after : Timetable → List Update → List RunKey → LiveKept → LiveKept
+live_after t updates keys kept =
+    let turns = map (turn_of t updates) keys in
+    record {
+      runs = changed run_cmp live_run_key kept.runs (map run_change turns);
+      rows = changed row_cmp row_key kept.rows (flat_map (row_changes kept.runs) turns);
+    }

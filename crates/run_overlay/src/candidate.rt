@@ -1,0 +1,109 @@
+//! Updates about runs, by their runs, those of one run as they count.
+
+ghost use Rattle.std.specs.Prelude.{◌≡◌};
+ghost use Rattle.std.specs.Ordering.{ordering_then};
+ghost use Rattle.run_overlay.specs.Keys as rule;
+
+use crate::NoMemory;
+use crate::mention::Mention;
+use crate::run_key::RunKey;
+use copying::Copied;
+use rt_types::Text;
+use sched_types::Run;
+use shared_list::{KeyFor, Keyed};
+use std::cmp::Ordering;
+
+/// An update about a run, by the id of its entity. Of those of one run the later one goes first, and of those of one stamp
+/// that with the greater id, so that the one that counts is the first.
+#[derive(Drop)]
+pub(crate) struct Candidate {
+    pub(crate) mention: Mention,
+    /// The id of the entity.
+    pub(crate) id: Text,
+}
+
+/// An update about a run, as it is looked up.
+#[derive(Clone, Copy)]
+pub(crate) struct CandidateAt<'a> {
+    pub(crate) mention: Mention,
+    pub(crate) id: &'a str,
+}
+
+/// Where the updates of a run begin.
+#[derive(Clone, Copy)]
+pub(crate) struct FirstOf {
+    pub(crate) run: RunKey,
+}
+
+/// By the one, then by the next, then by the last.
+fn in_turn(run: Ordering, stamp: Ordering, id: Ordering) -> Ordering
+    ensures { result ≡ ordering_then run (ordering_then stamp id) }
+{
+    run.then(stamp.then(id))
+}
+
+/// How one run is ordered to another.
+fn run_order(run: Run, other: RunKey) -> Ordering
+    ensures { result ≡ rule.run_cmp (rule.run_key run) other }
+{
+    RunKey::of(run).cmp(&other)
+}
+
+impl Copied for Candidate {
+    fn copy(&self) -> Result<Self, NoMemory> {
+        Ok(Candidate {
+            mention: self.mention,
+            id: self.id.copy()?,
+        })
+    }
+}
+
+impl Keyed for Candidate {
+    // The run, and the stamp and the id of an update.
+    type Key = (RunKey, Option<(u64, Text)>);
+
+    ghost use Rattle.run_overlay.specs.Keys.{candidate_key, candidate_cmp};
+    ghost use Rattle.run_overlay.specs.Orders.{candidates_total, candidates_exact};
+
+    ghost key_of = { candidate_key };
+
+    ghost key_cmp = { candidate_cmp };
+
+    fn order(&self, other: &Self) -> Ordering {
+        in_turn(
+            run_order(self.mention.run, RunKey::of(other.mention.run)),
+            other.mention.stamp.cmp(&self.mention.stamp),
+            other.id.order(self.id.as_str()),
+        )
+    }
+
+    ghost total = { candidates_total };
+
+    ghost exact = { candidates_exact };
+}
+
+impl<'a> KeyFor<Candidate> for CandidateAt<'a> {
+    ghost use Rattle.std.specs.Prelude.{Some};
+    ghost use Rattle.run_overlay.specs.Keys.{run_key};
+
+    ghost sought = { λ c. (run_key c.mention.run, Some (c.mention.stamp, c.id.now)) };
+
+    fn order_of(&self, candidate: &Candidate) -> Ordering {
+        in_turn(
+            run_order(candidate.mention.run, RunKey::of(self.mention.run)),
+            self.mention.stamp.cmp(&candidate.mention.stamp),
+            self.id.cmp(candidate.id.as_str()),
+        )
+    }
+}
+
+/// The run alone goes before its updates.
+impl KeyFor<Candidate> for FirstOf {
+    ghost use Rattle.std.specs.Prelude.{None};
+
+    ghost sought = { λ first. (first.run, None) };
+
+    fn order_of(&self, candidate: &Candidate) -> Ordering {
+        run_order(candidate.mention.run, self.run).then(Ordering::Greater)
+    }
+}

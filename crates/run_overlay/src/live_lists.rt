@@ -1,0 +1,182 @@
+//! The lists of runs for which an update counts, and of their departures.
+
+ghost use Rattle.std.specs.Prelude.{◌≡◌, ◌+◌, ◌≤◌, ◌++◌, [], length, map, IfOk, OnOk};
+ghost use Rattle.std.specs.List.{flat_map};
+ghost use Rattle.std.specs.Option.{option_copied};
+ghost use Rattle.shared_list.specs.declared.change.Change.TheVariants.{Put, Remove};
+ghost use Rattle.keyed_lists.specs.Keyed.{naming_keys};
+ghost use Rattle.run_overlay.specs.Keys.{row_key};
+ghost use Rattle.run_overlay.specs.Kept.{mentions_of, nothing_live};
+ghost use Rattle.run_overlay.specs.Sought.{row_at};
+ghost use Rattle.run_overlay.specs.Turning as rule;
+ghost use Rattle.run_overlay.specs.Turning.{live_after, rows_kept};
+ghost use Rattle.run_overlay.specs.Updates.{updates_of};
+
+use crate::NoMemory;
+use crate::candidate::Candidate;
+use crate::live_run::LiveRun;
+use crate::row::LiveRow;
+use crate::run_key::RunKey;
+use crate::turns::{Turn, turns_of};
+use delay_rule::Steps;
+use entity_table::Table;
+use keyed_lists::changed;
+use sched_types::Plan;
+use shared_list::{Change, SharedList};
+use std::alloc::Global;
+use std::marker::Model;
+use std::sync::ledger::Ledger;
+
+/// The runs for which an update counts, and their departures. A contract sees it as `LiveKept`.
+#[derive(Drop)]
+pub(crate) struct LiveLists {
+    runs: SharedList<LiveRun>,
+    rows: SharedList<LiveRow>,
+}
+
+impl Model for LiveLists {
+    ghost use Rattle.run_overlay.specs.Kept.{LiveKept};
+
+    ghost Value = { LiveKept };
+
+    ghost view = { λ lists. record { runs = lists.runs; rows = lists.rows } };
+}
+
+impl LiveLists {
+    /// The lists of a feed that holds nothing. They take no memory.
+    pub(crate) fn empty(alloc: Global) -> LiveLists
+        ensures { result ≡ nothing_live }
+    {
+        LiveLists {
+            runs: SharedList::empty(alloc),
+            rows: SharedList::empty(alloc),
+        }
+    }
+
+    /// The lists where those runs are as the table says, whose candidates are given; or out of memory. A run is walked at
+    /// most once, and each list is changed once; these stay as they are.
+    pub(crate) fn after<L: Ledger>(
+        &self,
+        alloc: Global,
+        plan: &Plan,
+        table: &Table,
+        candidates: &SharedList<Candidate>,
+        runs: &[RunKey],
+        steps: &mut Steps<L>,
+    ) -> Result<LiveLists, NoMemory>
+        requires { candidates.now ≡ (mentions_of plan.now table.now).candidates }
+        ensures lists { IfOk result (λ next. next
+            ≡ live_after plan.now (updates_of table.now) runs.now self.now) }
+        ensures few { steps.new ≤ steps.old + length runs.now }
+    {
+        let turns = turns_of(alloc, plan, table, candidates, runs, steps)?;
+        let rows = changed(
+            &self.rows,
+            row_changes(alloc, &self.runs, turns.as_slice())?,
+        )?;
+        let runs = changed(&self.runs, run_changes(alloc, turns)?)?;
+        Ok(LiveLists { runs, rows })
+    }
+
+    /// The runs for which an update counts.
+    pub(crate) fn runs(&self) -> &SharedList<LiveRun>
+        ensures { result.now ≡ self.now.runs }
+    {
+        &self.runs
+    }
+
+    /// Their departures, by stop and expected instant.
+    pub(crate) fn rows(&self) -> &SharedList<LiveRow>
+        ensures { result.now ≡ self.now.rows }
+    {
+        &self.rows
+    }
+}
+
+/// The departures of a run, if it has an update.
+fn rows_of<'a>(live: Option<&'a LiveRun>) -> &'a [LiveRow]
+    ensures { result.now ≡ rows_kept (option_copied live.entry) }
+{
+    match live {
+        Some(live) => live.rows.get().as_slice(),
+        None => &[],
+    }
+}
+
+/// Appends the removal of departures.
+fn push_going<'a>(
+    rows: &'a [LiveRow],
+    out: &mut Vec<Change<LiveRow, &'a LiveRow>>,
+) -> Result<(), NoMemory>
+    ensures { OnOk result (naming_keys row_at out.new.items
+        ≡ naming_keys row_at out.old.items ++ map (λ row. Remove (row_key row)) rows.entry.now) }
+{
+    for row in rows {
+        out.push(Change::Remove(row))?;
+    }
+    Ok(())
+}
+
+/// Appends departures that come.
+fn push_coming<'a>(
+    rows: &[LiveRow],
+    out: &mut Vec<Change<LiveRow, &'a LiveRow>>,
+) -> Result<(), NoMemory>
+    ensures { OnOk result (naming_keys row_at out.new.items
+        ≡ naming_keys row_at out.old.items ++ map Put rows.now) }
+{
+    for row in rows {
+        out.push(Change::Put(*row))?;
+    }
+    Ok(())
+}
+
+/// Appends what a turn changes of the departures: those that the run had go, and then those come that it has now.
+fn push_turn<'a>(
+    runs: &'a SharedList<LiveRun>,
+    turn: &Turn,
+    out: &mut Vec<Change<LiveRow, &'a LiveRow>>,
+) -> Result<(), NoMemory>
+    ensures { OnOk result (naming_keys row_at out.new.items
+        ≡ naming_keys row_at out.old.items ++ rule.row_changes runs.entry.now turn.entry.now) }
+{
+    push_going(rows_of(runs.get(turn.run)), out)?;
+    push_coming(rows_of(turn.now.as_ref()), out)
+}
+
+/// What turns change of the departures; or out of memory.
+fn row_changes<'a>(
+    alloc: Global,
+    runs: &'a SharedList<LiveRun>,
+    turns: &[Turn],
+) -> Result<Vec<Change<LiveRow, &'a LiveRow>>, NoMemory>
+    ensures { IfOk result (λ changes. naming_keys row_at changes.items
+        ≡ flat_map (rule.row_changes runs.entry.now) turns.now) }
+{
+    let mut changes = Vec::new(alloc);
+    for turn in turns {
+        push_turn(runs, turn, &mut changes)?;
+    }
+    Ok(changes)
+}
+
+/// What a turn changes of the runs.
+fn run_change(turn: Turn) -> Change<LiveRun, RunKey>
+    ensures { result ≡ rule.run_change turn }
+{
+    match turn.now {
+        Some(live) => Change::Put(live),
+        None => Change::Remove(turn.run),
+    }
+}
+
+/// What turns change of the runs; or out of memory.
+fn run_changes(alloc: Global, turns: Vec<Turn>) -> Result<Vec<Change<LiveRun, RunKey>>, NoMemory>
+    ensures { IfOk result (λ changes. changes.items ≡ map rule.run_change turns.items) }
+{
+    let mut changes = Vec::with_capacity(alloc, turns.len())?;
+    for turn in turns {
+        changes.push(run_change(turn))?;
+    }
+    Ok(changes)
+}

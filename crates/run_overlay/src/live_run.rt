@@ -1,0 +1,60 @@
+//! Runs for which an update counts, with their departures.
+
+use crate::NoMemory;
+use crate::row::LiveRow;
+use crate::run_key::RunKey;
+use copying::Copied;
+use rt_types::{Items, Shared, Text};
+use sched_types::Run;
+use shared_list::{KeyFor, Keyed};
+use std::cmp::Ordering;
+
+/// A run with the update that counts for it.
+#[derive(Drop)]
+pub(crate) struct LiveRun {
+    pub(crate) run: Run,
+    /// The id of the update's entity.
+    pub(crate) id: Text,
+    /// The stamp of the update, in seconds since 1970.
+    pub(crate) stamp: u64,
+    /// Its departures, in order of places; none where it is deleted.
+    pub(crate) rows: Shared<Items<LiveRow>>,
+}
+
+impl Copied for LiveRun {
+    fn copy(&self) -> Result<Self, NoMemory> {
+        Ok(LiveRun {
+            run: self.run,
+            id: self.id.copy()?,
+            stamp: self.stamp,
+            rows: self.rows.copy()?,
+        })
+    }
+}
+
+impl Keyed for LiveRun {
+    type Key = RunKey;
+
+    ghost use Rattle.run_overlay.specs.Keys.{live_run_key, run_cmp};
+    ghost use Rattle.run_overlay.specs.Orders.{runs_total, runs_exact};
+
+    ghost key_of = { live_run_key };
+
+    ghost key_cmp = { run_cmp };
+
+    fn order(&self, other: &Self) -> Ordering {
+        RunKey::of(self.run).cmp(&RunKey::of(other.run))
+    }
+
+    ghost total = { runs_total };
+
+    ghost exact = { runs_exact };
+}
+
+impl KeyFor<LiveRun> for RunKey {
+    ghost sought = { λ key. key };
+
+    fn order_of(&self, live: &LiveRun) -> Ordering {
+        RunKey::of(live.run).cmp(self)
+    }
+}

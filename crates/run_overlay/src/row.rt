@@ -1,0 +1,73 @@
+//! Departures in the order of their stops.
+
+ghost use Rattle.std.specs.Prelude.{◌≡◌};
+ghost use Rattle.run_overlay.specs.Keys as rule;
+
+use crate::NoMemory;
+use crate::slot::LiveSlot;
+use copying::Copied;
+use shared_list::{KeyFor, Keyed};
+use std::cmp::Ordering;
+
+/// A departure, and the number of the stop at which it is.
+#[derive(Clone, Copy, Debug, PartialEq, Eq)]
+pub(crate) struct LiveRow {
+    pub(crate) stop: u32,
+    pub(crate) slot: LiveSlot,
+}
+
+/// By what departures are ordered: the stop, the expected instant, the trip, the day and the place.
+#[derive(Clone, Copy, Debug, PartialEq, Eq, PartialOrd, Ord, Drop)]
+pub(crate) struct RowKey {
+    pub(crate) stop: u32,
+    pub(crate) at: i64,
+    pub(crate) trip: u32,
+    pub(crate) day: u32,
+    pub(crate) place: u32,
+}
+
+/// The key of a departure.
+fn key_of(row: &LiveRow) -> RowKey
+    ensures { result ≡ rule.row_key row.now }
+{
+    RowKey {
+        stop: row.stop,
+        at: row.slot.at,
+        trip: row.slot.run.trip,
+        day: row.slot.run.day,
+        place: row.slot.place,
+    }
+}
+
+impl Copied for LiveRow {
+    fn copy(&self) -> Result<Self, NoMemory> {
+        Ok(*self)
+    }
+}
+
+impl Keyed for LiveRow {
+    type Key = RowKey;
+
+    ghost use Rattle.run_overlay.specs.Keys.{row_key, row_cmp};
+    ghost use Rattle.run_overlay.specs.Orders.{rows_total, rows_exact};
+
+    ghost key_of = { row_key };
+
+    ghost key_cmp = { row_cmp };
+
+    fn order(&self, other: &Self) -> Ordering {
+        key_of(self).cmp(&key_of(other))
+    }
+
+    ghost total = { rows_total };
+
+    ghost exact = { rows_exact };
+}
+
+impl KeyFor<LiveRow> for RowKey {
+    ghost sought = { λ key. key };
+
+    fn order_of(&self, row: &LiveRow) -> Ordering {
+        key_of(row).cmp(self)
+    }
+}

@@ -1,0 +1,121 @@
+//! What becomes of the runs that a message touches.
+
+ghost use Rattle.std.specs.Prelude.{◌≡◌, ◌+◌, ◌≤◌, ◌++◌, length, map, IfOk, OnOk};
+ghost use Rattle.std.specs.List.{list_any};
+ghost use Rattle.run_overlay.specs.declared.run_key.RunKey.{RunKey};
+ghost use Rattle.run_overlay.specs.Changing as changing;
+ghost use Rattle.run_overlay.specs.Kept.{live_run, mentions_of};
+ghost use Rattle.run_overlay.specs.Sought.{is_key};
+ghost use Rattle.run_overlay.specs.Turning as rule;
+ghost use Rattle.run_overlay.specs.Updates.{updates_of};
+
+use crate::NoMemory;
+use crate::candidate::Candidate;
+use crate::found::{first_candidate, update_at};
+use crate::id_changes::IdChange;
+use crate::live_run::LiveRun;
+use crate::mention::{Mention, mention_in};
+use crate::places::rows_of_run;
+use crate::run_key::RunKey;
+use copying::Copied;
+use delay_rule::Steps;
+use entity_table::Table;
+use rt_types::{Items, Shared};
+use sched_types::{Plan, Run};
+use shared_list::SharedList;
+use std::alloc::Global;
+use std::sync::ledger::Ledger;
+
+/// A run, and what it is now, if an update counts for it.
+#[derive(Drop)]
+pub(crate) struct Turn {
+    pub(crate) run: RunKey,
+    pub(crate) now: Option<LiveRun>,
+}
+
+/// Appends the run of a mention, if there is one.
+fn push_run(mention: Option<Mention>, runs: &mut Vec<RunKey>) -> Result<(), NoMemory>
+    ensures { OnOk result (runs.new.items ≡ runs.old.items ++ changing.run_in mention) }
+{
+    if let Some(mention) = mention {
+        runs.push(RunKey::of(mention.run))?;
+    }
+    Ok(())
+}
+
+/// The runs that updates were about before the changes and those that they are about now, id by id; or out of memory.
+fn all_runs(alloc: Global, ids: &[IdChange]) -> Result<Vec<RunKey>, NoMemory>
+    ensures { IfOk result (λ runs. runs.items ≡ changing.touched_runs ids.now) }
+{
+    let mut runs = Vec::new(alloc);
+    for one in ids {
+        push_run(one.before, &mut runs)?;
+        push_run(mention_in(one.after), &mut runs)?;
+    }
+    Ok(runs)
+}
+
+/// The same, each once; or out of memory.
+pub(crate) fn touched_runs(alloc: Global, ids: &[IdChange]) -> Result<Vec<RunKey>, NoMemory>
+    ensures all { IfOk result (λ runs. (key : RunKey)
+        → list_any (is_key key) runs.items ≡ list_any (is_key key) (changing.touched_runs ids.now)) }
+    ensures few { IfOk result (λ runs. length runs.items ≤ length (changing.touched_runs ids.now)) }
+{
+    let mut runs = all_runs(alloc, ids)?;
+    runs.sort_unstable();
+    runs.dedup();
+    Ok(runs)
+}
+
+/// A run with its update that counts, where one does, which is walked then; or out of memory. The candidates are those of
+/// the table.
+fn run_now<L: Ledger>(
+    alloc: Global,
+    plan: &Plan,
+    table: &Table,
+    candidates: &SharedList<Candidate>,
+    run: Run,
+    steps: &mut Steps<L>,
+) -> Result<Option<LiveRun>, NoMemory>
+    requires { candidates.now ≡ (mentions_of plan.now table.now).candidates }
+    ensures run { IfOk result (λ live. live ≡ live_run plan.now (updates_of table.now) run) }
+    ensures few { steps.new ≤ steps.old + 1 }
+{
+    let _all = table.iter();
+    let Some(candidate) = first_candidate(candidates, run) else {
+        return Ok(None);
+    };
+    let Some(update) = update_at(table, candidate.id.as_str()) else {
+        return Ok(None);
+    };
+    let rows = rows_of_run(alloc, plan, run, update, steps)?;
+    Ok(Some(LiveRun {
+        run,
+        id: candidate.id.copy()?,
+        stamp: candidate.mention.stamp,
+        rows: Shared::new(alloc, Items::new(rows))?,
+    }))
+}
+
+/// What becomes of runs, each of which is walked at most once; or out of memory. The candidates are those of the table.
+pub(crate) fn turns_of<L: Ledger>(
+    alloc: Global,
+    plan: &Plan,
+    table: &Table,
+    candidates: &SharedList<Candidate>,
+    runs: &[RunKey],
+    steps: &mut Steps<L>,
+) -> Result<Vec<Turn>, NoMemory>
+    requires { candidates.now ≡ (mentions_of plan.now table.now).candidates }
+    ensures turns { IfOk result (λ turns. turns.items
+        ≡ map (rule.turn_of plan.now (updates_of table.now)) runs.now) }
+    ensures few { steps.new ≤ steps.old + length runs.now }
+{
+    let mut turns = Vec::with_capacity(alloc, runs.len())?;
+    for key in runs {
+        let run = *key;
+        let now = run_now(alloc, plan, table, candidates, run.run(), steps)?;
+        turns.push(Turn { run, now })?;
+    }
+    Ok(turns)
+}
