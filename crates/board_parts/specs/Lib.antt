@@ -1,4 +1,4 @@
 pub mod Walks
 pub mod Looks
 pub mod Appended
-pub mod Indexed
+pub mod Whole

@@ -1,7 +1,7 @@
 //! The departures of a hub's timetables by their stops.
 
 ghost use Rattle.std.specs.Prelude.{◌≡◌, ◌<◌, Some, length, slice_get, IfOk};
-ghost use Rattle.board_parts.specs.Indexed.{indexes_of};
+ghost use Rattle.board_parts.specs.Whole.{indexes_of};
 
 use crate::NoMemory;
 use sched_types::Plans;

@@ -1,20 +1,26 @@
 //! The view of a hub.
 
-ghost use Rattle.std.specs.Prelude.{◌≡◌, ◌+◌, ◌<◌, Some, true, false, length, map, replicate, IfOk};
+ghost use Rattle.std.specs.Prelude.{◌≡◌, ◌+◌, ◌<◌, Some, true, false, length, map, replicate, IfOk, IsTrue};
 ghost use Rattle.std.specs.Arc.{arc_value};
 ghost use Rattle.std.specs.Option.{option_map};
+ghost use Rattle.text_defs.specs.Moments.{is_stamp};
+ghost use Rattle.feed_defs.specs.History.{stamp_of};
 ghost use Rattle.sched_types.specs.Schedules.{AreSchedules};
+ghost use Rattle.sched_types.specs.Timetable.{Timetable};
+ghost use Rattle.stop_index.specs.Index.{index_of};
 ghost use Rattle.board_defs.specs.Feeds as rule;
 ghost use Rattle.board_defs.specs.Rows.{timetable_in};
-ghost use Rattle.board_defs.specs.Views.{IsHub, nothing_kept, feed_at, folds_of, hub_first, hub_with};
+ghost use Rattle.board_defs.specs.Views.{IsHub, feed_at, folds_of, hub_after, hub_first, hub_with};
+ghost use Rattle.feed_view.specs.Kept.{kept_of, nothing_seen, IsOver};
 ghost use Rattle.board_parts.specs.Walks.{walked_in};
-ghost use Rattle.stop_index.specs.Index.{index_of};
+ghost use Rattle.board_parts.specs.Whole.{timetable_of};
 
 use crate::NoMemory;
 use crate::entities::HeldEntities;
 use crate::feeds::{HubFeeds, ScheduleFeeds};
 use crate::indexes::Indexes;
 use feed_view::FeedView;
+use rt_types::FeedMessage;
 use sched_types::{Plan, Plans};
 use std::alloc::Global;
 use std::marker::Model;
@@ -36,21 +42,23 @@ pub struct HubView {
 impl Model for HubView {
     ghost use Rattle.std.specs.Prelude.{map};
     ghost use Rattle.board_defs.specs.Views.{HubKept, IsHub};
-    ghost use Rattle.board_parts.specs.Indexed.{IsIndexed};
+    ghost use Rattle.feed_view.specs.Kept.{kept_of};
+    ghost use Rattle.board_parts.specs.Whole.{IsWhole};
 
     ghost Value = { HubKept };
 
     ghost view = { λ v. record {
       plans = v.plans.value;
-      feeds = map (λ feed. feed.value) v.feeds.items;
+      feeds = map (λ feed. kept_of feed.value) v.feeds.items;
       entries = v.entries;
     } };
 
-    ghost invariant = { λ v. IsIndexed v.indexes.value (record {
-      plans = v.plans.value;
-      feeds = map (λ feed. feed.value) v.feeds.items;
-      entries = v.entries;
-    }) };
+    ghost invariant = { λ v. IsWhole v.indexes.value (map (λ feed. feed.value) v.feeds.items)
+      (record {
+        plans = v.plans.value;
+        feeds = map (λ feed. kept_of feed.value) v.feeds.items;
+        entries = v.entries;
+      }) };
 }
 
 impl HubView {
@@ -69,12 +77,32 @@ impl HubView {
         })
     }
 
-    /// The view after one message more of the feed of that number, whose view with it is given; or want of
-    /// memory. All else is shared with this one.
+    /// The view after one message more of the feed of that number, whose stamp is a moment after that feed's last one; or
+    /// out of memory. The message's entities are taken out of it, and all that it doesn't touch is shared with this view.
+    pub fn after(
+        &self,
+        alloc: Global,
+        feed: u32,
+        message: FeedMessage,
+    ) -> Result<HubView, NoMemory>
+        requires feed { feed < length self.now.plans.feeds }
+        requires moment { IsTrue (is_stamp (stamp_of message)) }
+        requires newer { (feed_at self.now feed).fold.stamp < stamp_of message }
+        ensures { IfOk result (λ next. next ≡ hub_after feed message self.now) }
+    {
+        self.sound();
+        let plan = self.timetable(self.plans().feeds()[feed as usize].plan);
+        let next = FeedView::after(alloc, plan, self.feed(feed), message)?;
+        self.with_feed(alloc, feed, next)
+    }
+
+    /// The view after one message more of the feed of that number, whose view with it is given; or out of memory. What the
+    /// feed's updates come to must be kept for its timetable. All else is shared with this view.
     pub fn with_feed(&self, alloc: Global, feed: u32, view: FeedView) -> Result<HubView, NoMemory>
         requires feed { feed < length self.now.feeds }
         requires more { view.fold.count ≡ (feed_at self.now feed).fold.count + 1 }
-        ensures { IfOk result (λ next. next ≡ hub_with feed view self.now) }
+        requires over { (t : Timetable) → timetable_of self.now.plans feed ≡ Some t → IsOver t view }
+        ensures { IfOk result (λ next. next ≡ hub_with feed (kept_of view) self.now) }
     {
         self.plans.sound();
         let _count = view.count();
@@ -97,9 +125,19 @@ impl HubView {
 
     /// The view of each feed, by its number.
     pub fn feeds(&self) -> &[Arc<FeedView>]
-        ensures { map arc_value result.now ≡ self.now.feeds }
+        ensures { map (λ feed. kept_of (arc_value feed)) result.now ≡ self.now.feeds }
     {
         self.feeds.as_slice()
+    }
+
+    /// The view of the feed of that number.
+    pub fn feed(&self, feed: u32) -> &FeedView
+        requires { feed < length self.now.feeds }
+        ensures kept { kept_of result.now ≡ feed_at self.entry.now feed }
+        ensures over { (t : Timetable) → timetable_of self.entry.now.plans feed ≡ Some t
+            → IsOver t result.now }
+    {
+        &self.feeds[feed as usize]
     }
 
     /// The timetable of the schedule of that number.
@@ -170,7 +208,7 @@ impl HubView {
 
 /// The views of so many feeds that sent nothing, all one.
 fn empty_feeds(alloc: Global, count: usize) -> Result<Vec<Arc<FeedView>>, NoMemory>
-    ensures { IfOk result (λ feeds. map arc_value feeds.items ≡ replicate count nothing_kept) }
+    ensures { IfOk result (λ feeds. map arc_value feeds.items ≡ replicate count nothing_seen) }
 {
     let empty = Arc::new(alloc, FeedView::empty(alloc))?;
     let mut feeds = Vec::with_capacity(alloc, count)?;

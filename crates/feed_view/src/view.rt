@@ -2,26 +2,31 @@
 
 ghost use Rattle.std.specs.Prelude.{◌≡◌, ◌+◌, ◌*◌, ◌<◌, ◌≤◌, length, IfOk, IsTrue};
 ghost use Rattle.alert_select.specs.FeedAlerts.{alerts_of};
-ghost use Rattle.feed_defs.specs.History.{stamp_of};
+ghost use Rattle.feed_defs.specs.History.{entities_after, stamp_of};
+ghost use Rattle.sched_types.specs.Timetable.{Timetable};
 ghost use Rattle.text_defs.specs.Moments.{last_moment, is_stamp};
-ghost use Rattle.board_defs.specs.Views.{nothing_kept, feed_after};
+ghost use Rattle.board_defs.specs.Views.{fold_after};
+ghost use Rattle.feed_view.specs.Kept.{nothing_seen, IsOver};
 
 use crate::NoMemory;
 use alert_select::AlertIndex;
 use delay_rule::Steps;
 use entity_table::{SharedStored, Stored, Table};
 use rt_types::{Copied, FeedMessage};
+use run_overlay::Overlay;
 use sched_types::Plan;
 use std::alloc::Global;
-use std::marker::Model;
-use std::sync::ledger::Ledger;
+use std::marker::{Brand, Model};
+use std::sync::ledger::{Blank, Ledger};
 
-/// What is kept of a feed. A contract sees it as `FeedKept`, and it never changes.
+/// What is kept of a feed. A contract sees it as `FeedSeen`, and it never changes.
 #[derive(Drop)]
 pub struct FeedView {
     table: Table,
     // What of the table has an alert.
     alerts: AlertIndex,
+    // What its updates come to on the feed's timetable.
+    overlay: Overlay,
     // The stamp of the last message, 0 if there is none.
     stamp: u64,
     // How many messages there were.
@@ -31,10 +36,9 @@ pub struct FeedView {
 impl Model for FeedView {
     ghost use Rattle.std.specs.Prelude.{◌≡◌, ◌≤◌};
     ghost use Rattle.text_defs.specs.Moments.{last_moment};
-    ghost use Rattle.board_defs.specs.Views.{FeedKept};
-    ghost use Rattle.feed_view.specs.Kept.{AreKept};
+    ghost use Rattle.feed_view.specs.Kept.{FeedSeen, AreKept};
 
-    ghost Value = { FeedKept };
+    ghost Value = { FeedSeen };
 
     ghost view = { λ v. record {
       fold = record {
@@ -42,63 +46,72 @@ impl Model for FeedView {
         stamp = v.stamp;
         entities = v.table;
       };
+      overlay = v.overlay;
     } };
 
     ghost invariant = { λ v. AreKept v.table v.alerts v.count v.stamp };
 }
 
 impl FeedView {
-    /// The view of a feed that sent nothing. It takes no memory.
+    /// The view of a feed that sent nothing, whatever its timetable. It takes no memory.
     pub fn empty(alloc: Global) -> FeedView
-        ensures { result ≡ nothing_kept }
+        ensures nothing { result ≡ nothing_seen }
+        ensures over { (t : Timetable) → IsOver t result }
     {
         FeedView {
             table: Table::empty(alloc),
             alerts: AlertIndex::empty(alloc),
+            overlay: Overlay::empty(alloc),
             stamp: 0,
             count: 0,
         }
     }
 
-    /// The view after one message more, whose stamp is a moment after the last one; or out of memory. The message's
-    /// entities are taken out of it, and the two views share what it doesn't touch.
-    pub fn after(alloc: Global, old: &FeedView, message: FeedMessage) -> Result<FeedView, NoMemory>
+    /// The view after one message more, whose stamp is a moment after the last one, of a feed of that timetable; or out of
+    /// memory. The message's entities are taken out of it, and the two views share what it doesn't touch. The runs that
+    /// its updates are about, or were about before, are walked: up to two for each entity.
+    pub fn next<L: Ledger>(
+        alloc: Global,
+        plan: &Plan,
+        old: &FeedView,
+        message: FeedMessage,
+        steps: &mut Steps<L>,
+    ) -> Result<FeedView, NoMemory>
         requires moment { IsTrue (is_stamp (stamp_of message)) }
         requires newer { old.now.fold.stamp < stamp_of message }
-        ensures { IfOk result (λ next. next ≡ feed_after message old.now) }
+        requires over { IsOver plan.now old.now }
+        ensures after { IfOk result (λ next. next.fold ≡ fold_after message old.now.fold) }
+        ensures over { IfOk result (λ next. IsOver plan.now next) }
+        ensures few { steps.new ≤ steps.old + 2 * length message.entity }
     {
-        old.table.sound();
+        let _all = old.table.iter();
         let stamp = message.header.timestamp.unwrap_or(0);
-        let mut table = old.table.start(alloc, &message)?;
-        let mut alerts = old.alerts.start(alloc, &message)?;
-        for entity in message.entity.into_vec() {
-            let stored = SharedStored::new(alloc, Stored { entity, stamp })?;
-            let changed = table.with(stored.copy()?)?;
-            alerts = alerts.with(&stored, changed.before)?;
-            table = changed.table;
-        }
+        let ids = old.overlay.ids_of(alloc, &message)?;
+        let Held { table, alerts } = held_after(alloc, &old.table, &old.alerts, message)?;
+        let overlay = old.overlay.change_by(alloc, plan, &table, ids, steps)?;
         Ok(FeedView {
             table,
             alerts,
+            overlay,
             stamp,
             count: old.count + 1,
         })
     }
 
-    /// The same for a feed of the given timetable, with a count of steps, which rises by up to two for each entity.
-    pub fn next<L: Ledger>(
+    /// The same, where nobody counts the walks.
+    pub fn after(
         alloc: Global,
-        _plan: &Plan,
+        plan: &Plan,
         old: &FeedView,
         message: FeedMessage,
-        _steps: &mut Steps<L>,
     ) -> Result<FeedView, NoMemory>
         requires moment { IsTrue (is_stamp (stamp_of message)) }
         requires newer { old.now.fold.stamp < stamp_of message }
-        ensures after { IfOk result (λ next. next ≡ feed_after message old.now) }
-        ensures few { _steps.new ≤ _steps.old + 2 * length message.entity }
+        requires over { IsOver plan.now old.now }
+        ensures after { IfOk result (λ next. next.fold ≡ fold_after message old.now.fold) }
+        ensures over { IfOk result (λ next. IsOver plan.now next) }
     {
-        FeedView::after(alloc, old, message)
+        uncounted::<Brand>(alloc, plan, old, message, Blank::new(1))
     }
 
     /// What the feed holds.
@@ -113,6 +126,13 @@ impl FeedView {
         ensures { result.now ≡ alerts_of self.now.fold.entities }
     {
         &self.alerts
+    }
+
+    /// What its updates come to on the feed's timetable.
+    pub fn overlay(&self) -> &Overlay
+        ensures { result.now ≡ self.now.overlay }
+    {
+        &self.overlay
     }
 
     /// The stamp of its last message, in seconds since 1970; 0 if it sent none.
@@ -131,4 +151,56 @@ impl FeedView {
     {
         self.count
     }
+}
+
+/// What a feed holds, and what of it has an alert.
+#[derive(Drop)]
+struct Held {
+    table: Table,
+    alerts: AlertIndex,
+}
+
+/// What a feed holds after a message, whose entities are taken out of it; or out of memory.
+fn held_after(
+    alloc: Global,
+    before: &Table,
+    alerts_before: &AlertIndex,
+    message: FeedMessage,
+) -> Result<Held, NoMemory>
+    requires { alerts_before.now ≡ alerts_of before.now }
+    ensures table { IfOk result (λ held. held.table ≡ entities_after message before.now) }
+    ensures alerts { IfOk result (λ held. held.alerts ≡ alerts_of held.table) }
+{
+    before.sound();
+    let stamp = message.header.timestamp.unwrap_or(0);
+    let mut table = before.start(alloc, &message)?;
+    let mut alerts = alerts_before.start(alloc, &message)?;
+    for entity in message.entity.into_vec() {
+        let stored = SharedStored::new(alloc, Stored { entity, stamp })?;
+        let changed = table.with(stored.copy()?)?;
+        alerts = alerts.with(&stored, changed.before)?;
+        table = changed.table;
+    }
+    Ok(Held { table, alerts })
+}
+
+/// The view after a message, by a count of walks that nobody reads.
+fn uncounted<L: Ledger>(
+    alloc: Global,
+    plan: &Plan,
+    old: &FeedView,
+    message: FeedMessage,
+    blank: Blank,
+) -> Result<FeedView, NoMemory>
+    requires moment { IsTrue (is_stamp (stamp_of message)) }
+    requires newer { old.now.fold.stamp < stamp_of message }
+    requires over { IsOver plan.now old.now }
+    requires name { blank.name ≡ L.name }
+    requires parts { blank.parts ≡ L.parts }
+    requires some { 0 < blank.parts }
+    ensures after { IfOk result (λ next. next.fold ≡ fold_after message old.now.fold) }
+    ensures over { IfOk result (λ next. IsOver plan.now next) }
+{
+    let mut steps = Steps::<L>::new(blank);
+    FeedView::next(alloc, plan, old, message, &mut steps)
 }

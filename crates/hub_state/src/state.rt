@@ -9,7 +9,6 @@ ghost use Rattle.board_defs.specs.Views.{StandsFor, feed_at, hub_first, hub_afte
 
 use crate::NoMemory;
 use board_parts::HubView;
-use feed_view::FeedView;
 use rt_types::FeedMessage;
 use sched_types::Plans;
 use std::alloc::Global;
@@ -57,7 +56,7 @@ impl HubCore {
         ensures stands { (h : List Entry) → StandsFor h self.now → IfOk result (λ next.
             StandsFor (h ++ record { feed = feed; message = message } ∷ []) (arc_value next)) }
     {
-        let next = next_view(alloc, &self.newest, feed, message)?;
+        let next = self.newest.after(alloc, feed, message)?;
         Ok(Arc::new(alloc, next)?)
     }
 
@@ -74,21 +73,4 @@ impl HubCore {
     {
         &self.newest
     }
-}
-
-/// The view after one message more of the feed.
-fn next_view(
-    alloc: Global,
-    view: &HubView,
-    feed: u32,
-    message: FeedMessage,
-) -> Result<HubView, NoMemory>
-    requires feed { feed < length view.now.plans.feeds }
-    requires moment { IsTrue (is_stamp (stamp_of message)) }
-    requires newer { (feed_at view.now feed).fold.stamp < stamp_of message }
-    ensures { IfOk result (λ next. next ≡ hub_after feed message view.now) }
-{
-    view.sound();
-    let next = FeedView::after(alloc, &view.feeds()[feed as usize], message)?;
-    view.with_feed(alloc, feed, next)
 }

@@ -7,7 +7,6 @@ ghost use Rattle.board_defs.specs.Views.{feed_at, hub_after};
 
 use crate::NoMemory;
 use board_parts::HubView;
-use feed_view::FeedView;
 use rt_types::FeedMessage;
 use std::alloc::Global;
 
@@ -23,9 +22,7 @@ pub fn view_after(
     requires newer { (feed_at view.now feed).fold.stamp < stamp_of message }
     ensures { IfOk result (λ next. next ≡ hub_after feed message view.now) }
 {
-    view.sound();
-    let next = FeedView::after(alloc, &view.feeds()[feed as usize], message)?;
-    view.with_feed(alloc, feed, next)
+    view.after(alloc, feed, message)
 }
 
 /// The stamp of the last message of that feed; 0 where it sent none.

@@ -8,16 +8,15 @@ use Rattle.feed_defs.specs.History.{is_full, stamp_of, changes_with}
 use Rattle.feed_defs.proofs.Kept.{id_cmp}
 use Rattle.feed_defs.proofs.Applied.{sorted_changed}
 use Rattle.entity_table.proofs.TableLemmas.{stepped, change_end}
-use Rattle.board_defs.specs.Views.{FeedKept}
 use Rattle.alert_select.specs.FeedAlerts.{alerts_of}
 use Rattle.feed_view.proofs.Begun.{begun_sorted, begun_alerts}
-use Rattle.feed_view.proofs.view.FeedView.after.Goals as goal
+use Rattle.feed_view.proofs.view.held_after.Goals as goal
 
 pub loop-entity-init : goal.loop-entity-init
 loop-entity-init c = record {
   table = search rules;
-  sorted = begun_sorted c.old.inside.table c.in_ok-table.table (is_full c.args.message) c.in_ok-table.ensures c.sound.ensures;
-  alerts = begun_alerts c.old.inside.table c.old.inside.alerts c.in_ok-table.table c.in_ok-alerts.alerts (is_full c.args.message) c.in_ok-table.ensures c.in_ok-alerts.ensures c.old.invariant.2;
+  sorted = begun_sorted c.args.before.now c.in_ok-table.table (is_full c.args.message) c.in_ok-table.ensures c.sound.ensures;
+  alerts = begun_alerts c.args.before.now c.args.alerts_before.now c.in_ok-table.table c.in_ok-alerts.alerts (is_full c.args.message) c.in_ok-table.ensures c.in_ok-alerts.ensures c.requires;
 }
 
 pub loop-entity-preserved : goal.loop-entity-preserved
@@ -40,15 +39,10 @@ loop-entity-preserved c =
       alerts = c.in_ok-alerts-2.ensures c.loop-entity.table c.loop-entity.invariant.sorted c.loop-entity.invariant.alerts before ∙ ap alerts_of (sym step);
     }
 
-pub invariant_of-result : goal.invariant_of-result
-invariant_of-result c =
-    let stamp : c.unwrap_or-stamp.result ≡ stamp_of c.args.message = c.unwrap_or-stamp.ensures in
-    let last : c.old.inside.stamp ≡ c.args.old.now.fold.stamp = ap (λ (kept : FeedKept). kept.fold.stamp) c.old.view_is in
-    (omega (arith, c.old.invariant.0), rw stamp (search rules), c.loop-entity.invariant.alerts)
-
-pub returns : goal.returns
-returns c =
+pub returns-clause-table : goal.returns-clause-table
+returns-clause-table c =
     let none : c.loop-entity.entity-iterator.rest.items ≡ [] = grind (arith, common_steps) in
-    let table = change_end c.loop-entity.table c.in_ok-table.table c.old.inside.table c.unwrap_or-stamp.result c.args.message c.args.message.entity _ none refl c.unwrap_or-stamp.ensures c.in_ok-table.ensures c.loop-entity.invariant.table in
-    let stamp : c.unwrap_or-stamp.result ≡ stamp_of c.args.message = c.unwrap_or-stamp.ensures in
-    rw (← c.old.view_is) (rw (table, stamp) refl)
+    change_end c.loop-entity.table c.in_ok-table.table c.args.before.now c.unwrap_or-stamp.result c.args.message c.args.message.entity _ none refl c.unwrap_or-stamp.ensures c.in_ok-table.ensures c.loop-entity.invariant.table
+
+pub returns-clause-alerts : goal.returns-clause-alerts
+returns-clause-alerts c = c.loop-entity.invariant.alerts

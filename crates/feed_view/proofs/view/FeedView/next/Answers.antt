@@ -1,0 +1,16 @@
+-- The overlay goes on with the message that the table took in.
+use Rattle.std.proofs.Common.{◌≡◌, sym, ap, ◌∙◌, rules, arith}
+use Rattle.feed_defs.specs.History.{stamp_of}
+use Rattle.run_overlay.specs.Kept.{IsTable}
+use Rattle.feed_view.specs.Kept.{FeedSeen}
+use Rattle.feed_view.proofs.view.FeedView.next.Goals as goal
+
+pub change_by-requires : goal.change_by-requires
+change_by-requires g c = record {
+  old = c.old.inside.table;
+  message = c.args.message;
+  was = record { rising = c.iter-all.ensures.rising; keyed = c.iter-all.ensures.keyed };
+  kept = search rules;
+  now = c.in_ok-held_after.ensures.table;
+  names = c.in_ok-ids.ensures;
+}
