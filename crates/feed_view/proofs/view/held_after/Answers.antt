@@ -4,7 +4,7 @@ use Rattle.std.specs.Prelude.{T}
 use Rattle.std.specs.FinMap.{find, is_sorted}
 use Rattle.std.proofs.lemmas.Grind.{common_steps}
 use Rattle.feed_defs.specs.declared.history.Stored.{Stored}
-use Rattle.feed_defs.specs.History.{is_full, stamp_of, changes_with}
+use Rattle.feed_defs.specs.History.{is_full, changes_with}
 use Rattle.feed_defs.proofs.Kept.{id_cmp}
 use Rattle.feed_defs.proofs.Applied.{sorted_changed}
 use Rattle.entity_table.proofs.TableLemmas.{stepped, change_end}

@@ -1,8 +1,5 @@
 -- The overlay goes on with the message that the table took in.
-use Rattle.std.proofs.Common.{◌≡◌, sym, ap, ◌∙◌, rules, arith}
-use Rattle.feed_defs.specs.History.{stamp_of}
-use Rattle.run_overlay.specs.Kept.{IsTable}
-use Rattle.feed_view.specs.Kept.{FeedSeen}
+use Rattle.std.proofs.Common.{rules}
 use Rattle.feed_view.proofs.view.FeedView.next.Goals as goal
 
 pub change_by-requires : goal.change_by-requires
@@ -11,6 +8,6 @@ change_by-requires g c = record {
   message = c.args.message;
   was = record { rising = c.iter-all.ensures.rising; keyed = c.iter-all.ensures.keyed };
   kept = search rules;
-  now = c.in_ok-held_after.ensures.table;
+  now = c.in_ok-table.ensures.table;
   names = c.in_ok-ids.ensures;
 }
