@@ -2,7 +2,6 @@
 
 ghost use Rattle.std.specs.Prelude.{◌≡◌};
 ghost use Rattle.std.specs.Ordering.{ordering_then};
-ghost use Rattle.run_overlay.specs.Keys as rule;
 
 use crate::NoMemory;
 use crate::mention::Mention;
@@ -41,13 +40,6 @@ fn in_turn(run: Ordering, stamp: Ordering, id: Ordering) -> Ordering
     run.then(stamp.then(id))
 }
 
-/// How one run is ordered to another.
-fn run_order(run: Run, other: Run) -> Ordering
-    ensures { result ≡ rule.run_cmp run other }
-{
-    run.cmp(&other)
-}
-
 impl Copied for Candidate {
     fn copy(&self) -> Result<Self, NoMemory> {
         Ok(Candidate {
@@ -70,7 +62,7 @@ impl Keyed for Candidate {
 
     fn order(&self, other: &Self) -> Ordering {
         in_turn(
-            run_order(self.mention.run, other.mention.run),
+            self.mention.run.cmp(&other.mention.run),
             other.mention.stamp.cmp(&self.mention.stamp),
             other.id.order(self.id.as_str()),
         )
@@ -88,7 +80,7 @@ impl<'a> KeyFor<Candidate> for CandidateAt<'a> {
 
     fn order_of(&self, candidate: &Candidate) -> Ordering {
         in_turn(
-            run_order(candidate.mention.run, self.mention.run),
+            candidate.mention.run.cmp(&self.mention.run),
             self.mention.stamp.cmp(&candidate.mention.stamp),
             self.id.cmp(candidate.id.as_str()),
         )
@@ -102,6 +94,6 @@ impl KeyFor<Candidate> for FirstOf {
     ghost sought = { λ first. (first.run, None) };
 
     fn order_of(&self, candidate: &Candidate) -> Ordering {
-        run_order(candidate.mention.run, self.run).then(Ordering::Greater)
+        candidate.mention.run.cmp(&self.run).then(Ordering::Greater)
     }
 }
