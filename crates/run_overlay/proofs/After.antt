@@ -6,8 +6,9 @@ use Rattle.std.specs.FinMap.Entries.{find-put}
 use Rattle.std.specs.List.{AllByRecursion, list_any}
 use Rattle.std.specs.Ordering.{eq_by_cmp}
 use Rattle.std.specs.Str.{bytes_eq}
-use Rattle.std.proofs.lemmas.List.{length-map, map-map}
-use Rattle.rt_types.specs.declared.entity.Entity.{Entity}
+use Rattle.std.proofs.lemmas.List.{length-map}
+use Rattle.std.proofs.lemmas.Simd.{map-map}
+use Rattle.rt_types.specs.declared.message.Entity.{Entity}
 use Rattle.rt_types.specs.declared.message.FeedMessage.{FeedMessage}
 use Rattle.feed_defs.specs.declared.history.Stored.{Stored}
 use Rattle.feed_defs.specs.History.{Change as EntityChange, changes_in, changes_with, changes_without, entities_after, is_full, is_kept, stamp_of}
@@ -55,6 +56,10 @@ module _ (t : Timetable) (overlay : FeedOverlay) (table : List EntityChange) (ch
       ap (λ cs. mentions_after table cs overlay.mentions) changes_are
       ∙ ap (mentions_after table by_ids) mentions_kept
       ∙ mentions_are t are.old table are.was is are.ids are.others
+
+  -- The candidates are those of the table.
+  pub candidates_then : (mentions : Mentions) → mentions ≡ mentions_after table changes overlay.mentions → mentions.candidates ≡ (mentions_of t table).candidates
+  candidates_then mentions is = ap (λ (m : Mentions). m.candidates) (is ∙ mentions_then)
 
   live_then : live_after t (updates_of table) keys overlay.live ≡ live_of t (updates_of table)
   live_then =

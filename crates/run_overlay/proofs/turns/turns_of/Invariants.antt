@@ -5,7 +5,7 @@ use Rattle.run_overlay.specs.Updates.{updates_of}
 use Rattle.run_overlay.proofs.turns.turns_of.Given as goal
 
 abbrev pub invariant-loop-key : goal.invariant-loop-key
-invariant-loop-key l = record {
+invariant-loop-key g l = record {
   turns : l.turns.items ≡ map (turn_of l.plan (updates_of l.table)) (take l.key-index l.runs);
   few : l.steps ≤ l.initial.steps + l.key-index;
 }
