@@ -224,7 +224,7 @@ fn added_trips_come_and_go(rt: HostRuntime) -> Result<(), Fail> {
     Ok(())
 }
 
-/// Whether an overlay answers as before after it was changed, and where memory ran out in the middle of that.
+/// Whether an overlay answers as before, whether it could be changed or memory ran out in the middle of that.
 fn stays(alloc: Global) -> Result<bool, NoMemory> {
     let plan = city(alloc)?;
     let held = began(alloc, &plan)?;
@@ -233,7 +233,7 @@ fn stays(alloc: Global) -> Result<bool, NoMemory> {
         ("v", Said::Gone),
         ("w", Said::Moved("T1", "S2")),
     ];
-    let next = changed(alloc, &plan, &held, 1, &named);
+    let _next = changed(alloc, &plan, &held, 1, &named);
     let market_a = [live(1743314700, 1, 0, 300)];
     let market_b = [live(1743315720, 2, 0, 60), live(1743315960, 1, 2, 300)];
     let harbour = [live(1743315300, 1, 1, 300)];
@@ -246,7 +246,7 @@ fn stays(alloc: Global) -> Result<bool, NoMemory> {
         &held.overlay,
         &[&market_a, &market_b, &harbour, &[], &[]],
     )?;
-    Ok(told && left && is_as_built(alloc, &plan, &held)? && next.is_ok())
+    Ok(told && left && is_as_built(alloc, &plan, &held)?)
 }
 
 #[test]
