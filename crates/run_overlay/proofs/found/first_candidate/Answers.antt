@@ -8,7 +8,7 @@ use Rattle.shared_list.specs.Order.{entries, entries_from}
 use Rattle.run_overlay.specs.declared.candidate.Candidate.{Candidate}
 use Rattle.run_overlay.specs.declared.run_key.RunKey.{RunKey}
 use Rattle.run_overlay.specs.Keys.{CandidateKey, candidate_cmp, candidate_key, run_key}
-use Rattle.run_overlay.specs.Turning.{first_of, is_of_run}
+use Rattle.run_overlay.specs.Turning.{first_of}
 use Rattle.run_overlay.proofs.Choosing.{first_from, head_of}
 use Rattle.keyed_lists.proofs.Entries.{keyed_each}
 use Rattle.run_overlay.proofs.found.first_candidate.Goals as goal
