@@ -13,10 +13,10 @@ use Rattle.rt_types.specs.declared.message.FeedMessage.{FeedMessage}
 use Rattle.feed_defs.specs.declared.history.Stored.{Stored}
 use Rattle.feed_defs.specs.History.{Change as EntityChange, changes_in, changes_with, changes_without, entities_after, is_full, is_kept, stamp_of}
 use Rattle.feed_defs.proofs.Applied.{find-without}
+use Rattle.sched_types.specs.declared.rows.Run.{Run}
 use Rattle.sched_types.specs.Timetable.{Timetable}
 use Rattle.run_overlay.specs.declared.id_changes.IdBefore.{IdBefore}
 use Rattle.run_overlay.specs.declared.id_changes.IdChange.{IdChange}
-use Rattle.sched_types.specs.declared.rows.Run.{Run}
 use Rattle.run_overlay.specs.Changing.{AreIdChanges, id_before, id_change, id_change_by, id_change_new, mentions_after, touched_runs}
 use Rattle.run_overlay.specs.Kept.{FeedOverlay, IsTable, Mentions, LiveKept, live_of, mentions_of, no_overlay, overlay_of}
 use Rattle.run_overlay.specs.Keys.{id_cmp}

@@ -8,13 +8,13 @@ use Rattle.shared_list.specs.declared.change.Change.{Change}
 use Rattle.shared_list.specs.declared.change.Change.TheVariants.{Put, Remove}
 use Rattle.feed_defs.specs.declared.history.Stored.{Stored}
 use Rattle.feed_defs.specs.History.{Change as EntityChange}
+use Rattle.sched_types.specs.declared.rows.Run.{Run}
 use Rattle.sched_types.specs.Timetable.{Timetable}
 use Rattle.run_overlay.specs.declared.candidate.Candidate.{Candidate}
 use Rattle.run_overlay.specs.declared.link.Link.{Link}
 use Rattle.run_overlay.specs.declared.mention.Mention.{Mention}
 use Rattle.run_overlay.specs.declared.id_changes.IdBefore.{IdBefore}
 use Rattle.run_overlay.specs.declared.id_changes.IdChange.{IdChange}
-use Rattle.sched_types.specs.declared.rows.Run.{Run}
 use Rattle.keyed_lists.specs.Keyed.{changed}
 use Rattle.run_overlay.specs.Keys.{CandidateKey, id_cmp, link_key, stored_key, candidate_key, candidate_cmp}
 use Rattle.run_overlay.specs.Kept.{Mentions, FeedOverlay, IsTable, if_added, overlay_of}

@@ -3,10 +3,10 @@ use Rattle.std.specs.Prelude.{ℕ, ◌≤◌, Bool, ◌&&◌, ◌==◌, Some, Li
 use Rattle.std.specs.Borrow.{Bor}
 use Rattle.std.specs.List.{AllByRecursion}
 use Rattle.shared_list.specs.Order.{Rises}
+use Rattle.sched_types.specs.declared.rows.Run.{Run}
 use Rattle.run_overlay.specs.declared.candidate.CandidateAt.{CandidateAt}
 use Rattle.run_overlay.specs.declared.row.LiveRow.{LiveRow}
 use Rattle.run_overlay.specs.declared.row.RowKey.{RowKey}
-use Rattle.sched_types.specs.declared.rows.Run.{Run}
 use Rattle.run_overlay.specs.declared.slot.LiveSlot.{LiveSlot}
 use Rattle.run_overlay.specs.Keys.{CandidateKey, row_cmp, row_key}
 
