@@ -27,16 +27,15 @@ use Rattle.feed_defs.specs.History.{Change as EntityChange}
 use Rattle.run_overlay.specs.declared.row.LiveRow.{LiveRow}
 use Rattle.run_overlay.specs.declared.row.RowKey.{RowKey}
 use Rattle.run_overlay.specs.declared.slot.LiveSlot.{LiveSlot}
-use Rattle.run_overlay.specs.Keys.{row_cmp, row_key, run_key}
+use Rattle.run_overlay.specs.Keys.{row_cmp, row_key}
 use Rattle.run_overlay.specs.Kept.{FeedOverlay, live_of, overlay_of, slots_in}
 use Rattle.run_overlay.specs.Live.{is_at, is_between, live_between, live_place, live_row, live_rows, rows_by, sign_of, slot_cmp}
 use Rattle.run_overlay.specs.Orders.{rows_exact, rows_total}
 use Rattle.run_overlay.specs.Sought.{AreAhead, is_ahead, slots_ahead}
-use Rattle.run_overlay.specs.Turning.{run_of_key}
 use Rattle.run_overlay.specs.Updates.{updates_of}
 use Rattle.run_overlay.proofs.AllRuns.{is_this, run_once}
 use Rattle.keyed_lists.proofs.Entries.{HasItsKey, all_passing}
-use Rattle.run_overlay.proofs.Lived.{IsOfRun, key_tied, live_of_run, other_rows, run_in_row}
+use Rattle.run_overlay.proofs.Lived.{IsOfRun, live_of_run, other_rows, run_in_row, tie_is_same}
 use Rattle.keyed_lists.proofs.Once.{count_given, filter_of_map, filter_ordered, filter_twice, keys_total, none_counted, once_ordered}
 use Rattle.keyed_lists.proofs.Tables.{all_each, all_of, tie_same}
 
@@ -75,17 +74,17 @@ module _ (t : Timetable) (updates : List Update) where
   unfolding live_rows
   once_in_run k run = once_by k run (chosen t updates run)
 
-  none_in_others : (k : RowKey) (run : Run) → is_this t (run_of_key (run_in_row k)) run ≡ false → count_by (has_row k) (live_rows t updates run) ≡ 0
+  none_in_others : (k : RowKey) (run : Run) → is_this t (run_in_row k) run ≡ false → count_by (has_row k) (live_rows t updates run) ≡ 0
   none_in_others k run other =
       none_counted (has_row k) (live_rows t updates run)
-      (all_each (IsOfRun run) (λ row. has_row k row ≡ false) (other_rows k run (key_tied (run_in_row k) (run_key run) ∙ other)) (live_rows t updates run) (live_of_run t updates run))
+      (all_each (IsOfRun run) (λ row. has_row k row ≡ false) (other_rows k run (tie_is_same (run_in_row k) run ∙ other)) (live_rows t updates run) (live_of_run t updates run))
 
   abbrev all_rows : List LiveRow
   all_rows = flat_map (live_rows t updates) (all_runs t)
 
   pub row_once : (k : RowKey) → count_by (has_row k) all_rows ≤ 1
   row_once k =
-      once_flat (has_row k) (is_this t (run_of_key (run_in_row k))) (live_rows t updates) (none_in_others k) (once_in_run k) (all_runs t) (run_once t (run_of_key (run_in_row k)))
+      once_flat (has_row k) (is_this t (run_in_row k)) (live_rows t updates) (none_in_others k) (once_in_run k) (all_runs t) (run_once t (run_in_row k))
 
   -- ---- in order
 

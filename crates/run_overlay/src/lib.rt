@@ -38,7 +38,6 @@ mod message_ids;
 mod overlay;
 mod places;
 mod row;
-mod run_key;
 mod shown;
 mod slot;
 mod turns;
