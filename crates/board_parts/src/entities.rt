@@ -31,6 +31,18 @@ impl<'a> Model for HeldEntity<'a> {
 }
 
 impl<'a> HeldEntity<'a> {
+    /// An entity that the feed of that number holds.
+    pub fn new(number: u32, feed: &'a NamedFeed, stored: &'a Stored) -> HeldEntity<'a>
+        ensures { result
+            ≡ record { number = number; feed = feed.entry.now; stored = stored.entry.now } }
+    {
+        HeldEntity {
+            number,
+            feed,
+            stored,
+        }
+    }
+
     /// The number of its feed.
     pub fn number(&self) -> u32
         ensures { result ≡ self.entry.now.number }
