@@ -11,7 +11,7 @@ use Rattle.sched_types.specs.Timetable.{Timetable, IsTimetable, number_of}
 use Rattle.order.specs.Order.{ordered}
 use Rattle.board_defs.specs.declared.query.BoardQuery.{BoardQuery}
 use Rattle.board_defs.specs.declared.row.Row.{Row}
-use Rattle.board_defs.specs.Choice.{Update, updates_at, added_updates, not_outdone}
+use Rattle.board_defs.specs.Choice.{Update, updates_at, added_updates, not_outdone, is_added_update}
 use Rattle.board_defs.specs.Fold.{FeedFold, fold_of}
 use Rattle.sched_types.specs.Runs.{all_runs}
 use Rattle.board_defs.specs.Rows.{BoardRow, row_cmp, run_rows, added_rows, added_trip_rows, is_within, board_at, board_in, board_of, board, timetable_in, rows}
@@ -21,21 +21,17 @@ use Rattle.alert_select.specs.declared.subject.Subject.{Subject}
 use Rattle.alert_select.specs.Subjects.{touched_by, IsWithin}
 use Rattle.board_parts.specs.Appended.{Become}
 use Rattle.board_parts.proofs.Lists.{map_twice}
+use Rattle.run_departures.specs.declared.departure.Departure.{Departure}
+use Rattle.run_departures.specs.Departures.{as_row, IsThere}
 use Rattle.board_added.specs.declared.row.AddedRow.{AddedRow}
 use Rattle.board_added.specs.Added as others
-use Rattle.board_core.specs.declared.departure.Departure.{Departure}
-use Rattle.board_core.specs.declared.departure.Asked.{Asked}
 use Rattle.board_core.specs.declared.line.Line.{Line}
 use Rattle.board_core.specs.declared.line.Line.TheVariants as line
-use Rattle.board_core.specs.declared.run_updates.Updates.{Updates}
 use Rattle.board_core.specs.Answers.{AreAbout, AreOfBoard}
-use Rattle.board_core.specs.Departures.{as_row, IsThere, departure_cmp, rows_there}
-use Rattle.board_core.specs.Found.{AreUpdates}
 use Rattle.board_core.specs.Lines.{line_row, line_cmp, date_texts, subject_of, IsInPlan}
-use Rattle.board_core.specs.RunUpdates.{UpdateOfRun}
-use Rattle.board_core.proofs.AllRows.{rows_are}
 use Rattle.order.proofs.OrderedMap.{each_ordered, map_ordered}
-use Rattle.board_core.proofs.RowOrder.{rows_order, lines_order}
+use Rattle.board_core.proofs.FirstPart.{first_part}
+use Rattle.board_core.proofs.RowOrder.{row_total, lines_order}
 
 -- an answer that is one list is another that is equal
 pub if_ok_same : {X Y E : Type 0} (r : Result X E) (f : X → Y) (a b : Y) → a ≡ b → IfOk r (λ x. f x ≡ a) → IfOk r (λ x. f x ≡ b)
@@ -48,41 +44,34 @@ map_first f (suc n) [] = refl
 map_first f (suc n) (x ∷ xs) = ap (λ ys. f x ∷ ys) (map_first f n xs)
 
 module _ (t : Timetable) (sound : IsTimetable t) (runs : List Departure) (limit : ℕ) (there : All (IsThere t) runs) where
-  abbrev all_recursive : AllByRecursion (IsThere t) runs
-  all_recursive = recursion_from_All (IsThere t) runs there
+  first_there : AllByRecursion (IsThere t) (take limit runs)
+  first_there = recursion_from_All (IsThere t) (take limit runs) (All-take (IsThere t) limit runs there)
 
-  -- without added trips they are put in order by numbers
-  module _ (first slice : List Departure) (lines : List Line) (added : List AddedRow) (none : added ≡ []) (is : first ≡ take limit (ordered departure_cmp runs)) (same : slice ≡ first) (as_lines : lines ≡ map line.Run slice) where
-    first_there : AllByRecursion (IsThere t) (take limit (ordered departure_cmp runs))
-    first_there =
-        recursion_from_All (IsThere t) (take limit (ordered departure_cmp runs))
-        (All-take (IsThere t) limit (ordered departure_cmp runs)
-        (All-from_recursion (IsThere t) (ordered departure_cmp runs) (each_ordered (as_row t) departure_cmp row_cmp (IsThere t) runs all_recursive)))
+  module _ (rows : List BoardRow) (in_order : map (as_row t) runs ≡ ordered row_cmp rows) where
+    first_rows : map (as_row t) (take limit runs) ≡ take limit (ordered row_cmp rows)
+    first_rows = map_first (as_row t) limit runs ∙ ap (take limit) in_order
 
-    pub runs_first : Become (line_row t) (IsInPlan t) lines (take limit (ordered row_cmp (map (as_row t) runs ++ map (others.as_row t) added)))
-    runs_first = record {
+    -- without added trips these are the rows
+    pub runs_first : (lines : List Line) (added : List AddedRow) → added ≡ [] → lines ≡ map line.Run (take limit runs) → Become (line_row t) (IsInPlan t) lines (take limit (ordered row_cmp (rows ++ map (others.as_row t) added)))
+    runs_first lines added none as_lines = record {
       become =
           ap (map (line_row t)) as_lines
-          ∙ sym (map_twice line.Run (line_row t) slice)
-          ∙ ap (map (as_row t)) (same ∙ is)
-          ∙ map_first (as_row t) limit (ordered departure_cmp runs)
-          ∙ ap (take limit)
-          (map_ordered (as_row t) departure_cmp row_cmp (IsThere t) (rows_order t sound) runs all_recursive
-          ∙ ap (ordered row_cmp) (sym (append-nil (map (as_row t) runs)) ∙ ap (λ xs. map (as_row t) runs ++ map (others.as_row t) xs) (sym none)));
+          ∙ sym (map_twice line.Run (line_row t) (take limit runs))
+          ∙ first_rows
+          ∙ ap (λ xs. take limit (ordered row_cmp xs)) (sym (append-nil rows) ∙ ap (λ xs. rows ++ map (others.as_row t) xs) (sym none));
       there =
           let P : List Line → Type 0 = λ xs. All (IsInPlan t) xs in
-          subst P (sym (as_lines ∙ ap (map line.Run) (same ∙ is)))
-          (All-from_recursion (IsInPlan t) (map line.Run (take limit (ordered departure_cmp runs))) (run_lines (take limit (ordered departure_cmp runs)) first_there));
+          subst P (sym as_lines) (All-from_recursion (IsInPlan t) (map line.Run (take limit runs)) (run_lines (take limit runs) first_there));
     } where
       run_lines : (ds : List Departure) → AllByRecursion (IsThere t) ds → AllByRecursion (IsInPlan t) (map line.Run ds)
       run_lines [] all = tt
       run_lines (d ∷ ds) all = (all.0, run_lines ds all.1)
 
-  -- and with them by texts
-  module _ (added : List AddedRow) (of_plan : All (others.IsThere t) added) (lines : List Line) (both : lines ≡ map line.Run runs ++ map line.Added added) where
+  -- and with them they are put in order by texts
+  module _ (added : List AddedRow) (of_plan : All (others.IsThere t) added) (lines : List Line) (both : lines ≡ map line.Run (take limit runs) ++ map line.Added added) where
     lines_there : AllByRecursion (IsInPlan t) lines
     lines_there = let P : List Line → Type 0 = λ xs. AllByRecursion (IsInPlan t) xs in
-        subst P (sym both) (by_runs runs all_recursive)
+        subst P (sym both) (by_runs (take limit runs) first_there)
       where
         by_added : (rs : List AddedRow) → AllByRecursion (others.IsThere t) rs → AllByRecursion (IsInPlan t) (map line.Added rs)
         by_added [] all = tt
@@ -92,43 +81,42 @@ module _ (t : Timetable) (sound : IsTimetable t) (runs : List Departure) (limit 
         by_runs [] all = by_added added (recursion_from_All (others.IsThere t) added of_plan)
         by_runs (d ∷ ds) all = (all.0, by_runs ds all.1)
 
-    lines_become : map (line_row t) lines ≡ map (as_row t) runs ++ map (others.as_row t) added
+    lines_become : map (line_row t) lines ≡ map (as_row t) (take limit runs) ++ map (others.as_row t) added
     lines_become =
         ap (map (line_row t)) both
-        ∙ map-append (line_row t) (map line.Run runs) (map line.Added added)
-        ∙ ap (λ xs. xs ++ map (line_row t) (map line.Added added)) (sym (map_twice line.Run (line_row t) runs))
-        ∙ ap (λ xs. map (as_row t) runs ++ xs) (sym (map_twice line.Added (line_row t) added))
+        ∙ map-append (line_row t) (map line.Run (take limit runs)) (map line.Added added)
+        ∙ ap (λ xs. xs ++ map (line_row t) (map line.Added added)) (sym (map_twice line.Run (line_row t) (take limit runs)))
+        ∙ ap (λ xs. map (as_row t) (take limit runs) ++ xs) (sym (map_twice line.Added (line_row t) added))
 
-    both_first : (first : List Line) → first ≡ take limit (ordered (line_cmp t (date_texts t)) lines) → Become (line_row t) (IsInPlan t) first (take limit (ordered row_cmp (map (as_row t) runs ++ map (others.as_row t) added)))
-    both_first first is = record {
-      become =
-          ap (map (line_row t)) is
-          ∙ map_first (line_row t) limit (ordered (line_cmp t (date_texts t)) lines)
-          ∙ ap (take limit)
-          (map_ordered (line_row t) (line_cmp t (date_texts t)) row_cmp (IsInPlan t) (lines_order t sound) lines lines_there
-          ∙ ap (ordered row_cmp) lines_become);
-      there =
-          let P : List Line → Type 0 = λ xs. All (IsInPlan t) xs in
-          subst P (sym is)
-          (All-take (IsInPlan t) limit (ordered (line_cmp t (date_texts t)) lines)
-          (All-from_recursion (IsInPlan t) (ordered (line_cmp t (date_texts t)) lines)
-          (each_ordered (line_row t) (line_cmp t (date_texts t)) row_cmp (IsInPlan t) lines lines_there)));
-    }
+    module _ (rows : List BoardRow) (in_order : map (as_row t) runs ≡ ordered row_cmp rows) where
+      both_first : (first : List Line) → first ≡ take limit (ordered (line_cmp t (date_texts t)) lines) → Become (line_row t) (IsInPlan t) first (take limit (ordered row_cmp (rows ++ map (others.as_row t) added)))
+      both_first first is = record {
+        become =
+            ap (map (line_row t)) is
+            ∙ map_first (line_row t) limit (ordered (line_cmp t (date_texts t)) lines)
+            ∙ ap (take limit)
+            (map_ordered (line_row t) (line_cmp t (date_texts t)) row_cmp (IsInPlan t) (lines_order t sound) lines lines_there
+            ∙ ap (ordered row_cmp) lines_become)
+            ∙ ap (λ xs. take limit (ordered row_cmp (xs ++ map (others.as_row t) added))) (first_rows rows in_order)
+            ∙ first_part row_total limit rows (map (others.as_row t) added);
+        there =
+            let P : List Line → Type 0 = λ xs. All (IsInPlan t) xs in
+            subst P (sym is)
+            (All-take (IsInPlan t) limit (ordered (line_cmp t (date_texts t)) lines)
+            (All-from_recursion (IsInPlan t) (ordered (line_cmp t (date_texts t)) lines)
+            (each_ordered (line_row t) (line_cmp t (date_texts t)) row_cmp (IsInPlan t) lines lines_there)));
+      }
 
     pub both_answered : {X E : Type 0} (r : Result X E) (f : X → List Line) → IfOk r (λ x. f x ≡ take limit (ordered (line_cmp t (date_texts t)) lines))
-        → IfOk r (λ x. Become (line_row t) (IsInPlan t) (f x) (take limit (ordered row_cmp (map (as_row t) runs ++ map (others.as_row t) added))))
-    both_answered (Ok x) f is = both_first (f x) is
+        → IfOk r (λ x. (rows : List BoardRow) → map (as_row t) runs ≡ ordered row_cmp rows → Become (line_row t) (IsInPlan t) (f x) (take limit (ordered row_cmp (rows ++ map (others.as_row t) added))))
+    both_answered (Ok x) f is = λ rows in_order. both_first rows in_order (f x) is
     both_answered (Err e) f is = tt
 
-  pub runs_answered : {X E : Type 0} (r : Result X E) (f : X → List Line) (first slice : List Departure) (added : List AddedRow) → added ≡ [] → first ≡ take limit (ordered departure_cmp runs) → slice ≡ first
-      → IfOk r (λ x. f x ≡ map line.Run slice) → IfOk r (λ x. Become (line_row t) (IsInPlan t) (f x) (take limit (ordered row_cmp (map (as_row t) runs ++ map (others.as_row t) added))))
-  runs_answered (Ok x) f first slice added none is same as_lines = runs_first first slice (f x) added none is same as_lines
-  runs_answered (Err e) f first slice added none is same as_lines = tt
-
 -- the same of rows that are equal
-pub rows_same : {X E : Type 0} (r : Result X E) (f : X → List Line) (t : Timetable) (a b : List BoardRow) → a ≡ b → IfOk r (λ x. Become (line_row t) (IsInPlan t) (f x) a) → IfOk r (λ x. Become (line_row t) (IsInPlan t) (f x) b)
-rows_same (Ok x) f t a b e is = record { become = is.become ∙ e; there = is.there }
-rows_same (Err e) f t a b same is = tt
+pub rows_same : {X E : Type 0} (r : Result X E) (f : X → List Line) (t : Timetable) (runs : List Departure) (rows b : List BoardRow) (added : List BoardRow) (limit : ℕ) → map (as_row t) runs ≡ ordered row_cmp rows → take limit (ordered row_cmp (rows ++ added)) ≡ b
+    → IfOk r (λ x. (rs : List BoardRow) → map (as_row t) runs ≡ ordered row_cmp rs → Become (line_row t) (IsInPlan t) (f x) (take limit (ordered row_cmp (rs ++ added)))) → IfOk r (λ x. Become (line_row t) (IsInPlan t) (f x) b)
+rows_same (Ok x) f t runs rows b added limit in_order e is = let one = is rows in_order in record { become = one.become ∙ e; there = one.there }
+rows_same (Err e) f t runs rows b added limit in_order same is = tt
 
 module _ (t : Timetable) (slice first : List Line) (rows : List BoardRow) (same : slice ≡ first) (are : Become (line_row t) (IsInPlan t) first rows) where
   -- lines of the timetable are given on
@@ -166,21 +154,15 @@ subjects_answered (Ok x) f t slice first rows same are is = subjects_are t slice
 subjects_answered (Err e) f t slice first rows same are is = tt
 
 -- the first rows in order are those of the board
-pub board_is : (t : Timetable) (stop : ℕ) (query : BoardQuery) (updates : List Update) (found : Updates) (slice : List UpdateOfRun) (others_slice : List Update) (runs : List Departure) (added : List AddedRow)
-    → AreUpdates t updates found → slice ≡ found.of_runs.items → others_slice ≡ found.added.items
-    → map (as_row t) runs ≡ rows_there t (record { stop = stop; at = query.at; span = query.span }) slice
+pub board_is : (t : Timetable) (stop : ℕ) (query : BoardQuery) (updates others_slice : List Update) (added : List AddedRow) → others_slice ≡ filter (is_added_update t) updates
     → map (others.as_row t) added ≡ filter (is_within query.at query.span) (flat_map (added_trip_rows t stop) (not_outdone others_slice))
-    → take query.limit (ordered row_cmp (map (as_row t) runs ++ map (others.as_row t) added)) ≡ board_at t stop updates query
+    → take query.limit (ordered row_cmp (filter (is_within query.at query.span) (flat_map (run_rows t stop updates) (all_runs t)) ++ map (others.as_row t) added)) ≡ board_at t stop updates query
 unfolding board_at added_updates
-board_is t stop query updates found slice others_slice runs added are its its_added of_runs of_added =
-    let asked : Asked = record { stop = stop; at = query.at; span = query.span } in
+board_is t stop query updates others_slice added its_added of_added =
     let within : BoardRow → Bool = λ row. is_within query.at query.span row in
-    let by_runs : map (as_row t) runs ≡ filter within (flat_map (run_rows t stop updates) (all_runs t)) =
-    of_runs ∙ ap (rows_there t asked) its ∙ rows_are t asked updates found.of_runs.items are.runs in
     let by_added : map (others.as_row t) added ≡ filter within (added_rows t stop updates) =
-    of_added ∙ ap (λ us. filter within (flat_map (added_trip_rows t stop) (not_outdone us))) (its_added ∙ are.added) in
-    ap (λ xs. take query.limit (ordered row_cmp (xs ++ map (others.as_row t) added))) by_runs
-    ∙ ap (λ xs. take query.limit (ordered row_cmp (filter within (flat_map (run_rows t stop updates) (all_runs t)) ++ xs))) by_added
+    of_added ∙ ap (λ us. filter within (flat_map (added_trip_rows t stop) (not_outdone us))) its_added in
+    ap (λ xs. take query.limit (ordered row_cmp (filter within (flat_map (run_rows t stop updates) (all_runs t)) ++ xs))) by_added
     ∙ ap (λ xs. take query.limit (ordered row_cmp xs)) (sym (filter-append within (flat_map (run_rows t stop updates) (all_runs t)) (added_rows t stop updates)))
 
 module _ (schedules : Schedules) (folds : List FeedFold) (query : BoardQuery) (t : Timetable) (plan_is : timetable_in schedules query.plan ≡ Some t) where

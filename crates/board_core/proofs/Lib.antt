@@ -1,8 +1,3 @@
-pub mod Choices
-pub mod Moved
-pub mod ShownStops
-pub mod Elsewhere
-pub mod AllRows
 pub mod RowOrder
-pub mod Days
+pub mod FirstPart
 pub mod FirstRows

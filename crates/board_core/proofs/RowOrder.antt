@@ -17,20 +17,21 @@ use Rattle.text_defs.proofs.DateLaws.{day_number-lt, date_plus-number}
 use Rattle.sched_types.specs.declared.rows.Trip.{Trip}
 use Rattle.sched_types.specs.Timetable.{Timetable, IsTimetable, dates_of}
 use Rattle.sched_types.proofs.Days.{first_day, within_calendar, date_early, date_late, date_at, length_dates}
-use Rattle.board_defs.specs.Rows.{row_cmp, date_text}
+use Rattle.board_defs.specs.Rows.{BoardRow, is_added, row_cmp, date_text}
 use Rattle.board_defs.proofs.DateOrder.{decimal_order}
 use Rattle.board_defs.proofs.KeyOrder.{id_order}
-use Rattle.board_core.specs.declared.departure.Departure.{Departure}
+use Rattle.run_departures.specs.declared.departure.Departure.{Departure}
+use Rattle.run_departures.specs.Departures.{as_row, IsThere}
 use Rattle.board_core.specs.declared.line.Line.{Line}
 use Rattle.board_core.specs.declared.line.Line.TheVariants as line
-use Rattle.board_core.specs.Departures.{as_row, IsThere, departure_cmp}
 use Rattle.board_core.specs.Lines.{line_row, line_cmp, expected_of, trip_of, date_of, is_added_line, place_of, date_texts, IsInPlan}
 
-pub departure_total : IsTotalOrder departure_cmp
-departure_total =
-    then_total (on_total (λ d. d.expected) int_cmp_total)
-    (then_total (on_total (λ d. d.run.trip) nat_cmp_total)
-    (then_total (on_total (λ d. d.run.day) nat_cmp_total) (on_total (λ d. d.place) nat_cmp_total)))
+pub row_total : IsTotalOrder row_cmp
+row_total =
+    then_total (on_total (λ (b : BoardRow). b.row.expected) int_cmp_total)
+    (then_total (on_total (λ (b : BoardRow). b.row.trip) nat_list_cmp_total)
+    (then_total (on_total (λ (b : BoardRow). b.row.date) nat_list_cmp_total)
+    (then_total (on_total (λ (b : BoardRow). is_added b.subject) bool_cmp_total) (on_total (λ (b : BoardRow). b.place) nat_cmp_total))))
 
 pub line_total : (t : Timetable) (dates : List (List ℕ)) → IsTotalOrder (line_cmp t dates)
 line_total t dates =

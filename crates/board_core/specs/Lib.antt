@@ -1,6 +1,2 @@
-pub mod RunUpdates
-pub mod Found
-pub mod Calling
-pub mod Departures
 pub mod Answers
 pub mod Lines

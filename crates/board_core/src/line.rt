@@ -1,18 +1,18 @@
 //! Departures of either kind, of runs of the timetable and of added trips.
 
-ghost use Rattle.std.specs.Prelude.{◌≡◌, ◌<◌, ◌++◌, map, IfOk, OnOk};
+ghost use Rattle.std.specs.Prelude.{◌≡◌, ◌<◌, ◌++◌, map, take, IfOk, OnOk};
 ghost use Rattle.std.specs.List.{All};
 ghost use Rattle.board_core.specs.declared.line.Line.TheVariants.{Run, Added};
 ghost use Rattle.board_core.specs.Lines as rule;
 ghost use Rattle.board_core.specs.Lines.{line_row, subject_of, IsInPlan};
 
 use crate::NoMemory;
-use crate::departure::Departure;
 use crate::row_texts::row_of_run;
 use alert_select::Subject;
 use board_added::{AddedRow, row_text};
 use board_defs::Row;
 use rt_types::Text;
+use run_departures::{Departure, RunDepartures};
 use sched_types::Plan;
 use std::alloc::Global;
 
@@ -81,16 +81,21 @@ pub(crate) fn place_of(line: &Line<'_>) -> usize
     }
 }
 
-/// Departures of runs, as lines; or want of memory.
-pub(crate) fn lines_of<'a>(
+/// The first so many departures of runs, as lines; or out of memory.
+pub(crate) fn first_runs<'a>(
     alloc: Global,
-    departures: &[Departure],
+    runs: RunDepartures<'_>,
+    limit: u32,
 ) -> Result<Vec<Line<'a>>, NoMemory>
-    ensures { IfOk result (λ lines. lines.items ≡ map Run departures.now) }
+    ensures { IfOk result (λ lines. lines.items ≡ map Run (take limit runs.entry)) }
 {
-    let mut lines = Vec::with_capacity(alloc, departures.len())?;
-    for departure in departures {
-        lines.push(Line::Run(*departure))?;
+    let mut runs = runs;
+    let mut lines = Vec::new(alloc);
+    for _ in 0..limit {
+        match runs.next() {
+            Some(departure) => lines.push(Line::Run(departure))?,
+            None => return Ok(lines),
+        }
     }
     Ok(lines)
 }

@@ -4,13 +4,13 @@ ghost use Rattle.std.specs.Prelude.{◌≡◌, ◌<◌, [], length, slice_get, u
 ghost use Rattle.std.specs.Fmt.{decimal};
 ghost use Rattle.std.specs.Option.{option_map};
 ghost use Rattle.board_defs.specs.Rows.{route_text, date_text};
-ghost use Rattle.board_core.specs.Departures.{as_row, IsThere};
+ghost use Rattle.run_departures.specs.Departures.{as_row, IsThere};
 
 use crate::NoMemory;
-use crate::departure::Departure;
 use board_defs::Row;
 use board_parts::{route_name, stop_id};
 use rt_types::Text;
+use run_departures::Departure;
 use sched_types::Plan;
 use std::alloc::Global;
 
