@@ -85,5 +85,5 @@ fn counts_few(view: &HubView, feed: u32)
     ensures { (feed_at view.now feed).fold.count ≤ (feed_at view.now feed).fold.stamp }
 {
     view.sound();
-    let _count = view.feeds()[feed as usize].count();
+    let _count = view.feed(feed).count();
 }

@@ -121,5 +121,5 @@ fn last_stamp(view: &HubView, feed: u32) -> u64
     ensures { result ≡ (feed_at view.now feed).fold.stamp }
 {
     view.sound();
-    view.feeds()[feed as usize].stamp()
+    view.feed(feed).stamp()
 }

@@ -6,7 +6,6 @@ ghost use Rattle.board_defs.specs.Views.{hub_first};
 
 use board_parts::HubView;
 use feed_out::{NoMemory, combined};
-use feed_view::FeedView;
 use rt_types::{Entity, Shared, Text, Vehicle};
 use sample_city::{dataset_of, no_bytes};
 use sched_types::{NamedFeed, NamedPlan, Plan, PlanName, Plans};
@@ -73,14 +72,6 @@ fn vehicle_at(alloc: Global, stop: &str) -> Result<Shared<Vehicle>, NoMemory> {
     Shared::new(alloc, vehicle)
 }
 
-/// The view of a feed that sent these entities at the stamp 5.
-fn sent(alloc: Global, entities: Vec<Entity>) -> Result<FeedView, NoMemory>
-    ensures { IfOk result (λ view. view.fold.count ≡ 1) }
-{
-    let message = dataset_of(alloc, 5, entities)?;
-    FeedView::after(alloc, &FeedView::empty(alloc), message)
-}
-
 /// The combined feed of the schedule of that number, after the feed of that number sent the entity `x`.
 fn combined_after(
     alloc: Global,
@@ -93,7 +84,7 @@ fn combined_after(
 {
     let first = HubView::first(alloc, two_schedules(alloc)?)?;
     let entities = vec![in alloc; entity(alloc, vehicle)?]?;
-    let view = first.with_feed(alloc, feed, sent(alloc, entities)?)?;
+    let view = first.after(alloc, feed, dataset_of(alloc, 5, entities)?)?;
     Ok(combined(alloc, &view, plan)?)
 }
 

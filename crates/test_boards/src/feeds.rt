@@ -7,6 +7,7 @@ use rt_types::{
     Alert, Entities, Entity, FeedMessage, Header, Incrementality, Periods, Selectors, Shared, Text,
 };
 use sample_city::{NoMemory, no_bytes};
+use sched_types::Plan;
 use std::alloc::Global;
 use std::test::Fail;
 
@@ -55,9 +56,11 @@ fn message(
 
 /// The view of a feed that sent two messages.
 fn spoken(alloc: Global) -> Result<FeedView, NoMemory> {
+    let plan = Plan::plain(alloc);
     let none = FeedView::empty(alloc);
-    let first = FeedView::after(alloc, &none, message(alloc, 5, "a", Some(alert(alloc)?))?)?;
-    FeedView::after(alloc, &first, message(alloc, 7, "b", None)?)
+    let alerted = message(alloc, 5, "a", Some(alert(alloc)?))?;
+    let first = FeedView::after(alloc, &plan, &none, alerted)?;
+    FeedView::after(alloc, &plan, &first, message(alloc, 7, "b", None)?)
 }
 
 #[test]

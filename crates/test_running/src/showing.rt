@@ -66,7 +66,7 @@ fn stamp_of_first(view: &HubView) -> u64
     ensures { result ≡ (feed_at view.now 0).fold.stamp }
 {
     view.sound();
-    view.feeds()[0].stamp()
+    view.feed(0).stamp()
 }
 
 /// Shows the view with that message of the only feed, which the contract names.
