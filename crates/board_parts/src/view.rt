@@ -54,11 +54,11 @@ impl Model for HubView {
     } };
 
     ghost invariant = { λ v. IsWhole v.indexes.value (map (λ feed. feed.value) v.feeds.items)
-      (record {
-        plans = v.plans.value;
-        feeds = map (λ feed. kept_of feed.value) v.feeds.items;
-        entries = v.entries;
-      }) };
+        (record {
+          plans = v.plans.value;
+          feeds = map (λ feed. kept_of feed.value) v.feeds.items;
+          entries = v.entries;
+        }) };
 }
 
 impl HubView {
@@ -79,12 +79,7 @@ impl HubView {
 
     /// The view after one message more of the feed of that number, whose stamp is a moment after that feed's last one; or
     /// out of memory. The message's entities are taken out of it, and all that it doesn't touch is shared with this view.
-    pub fn after(
-        &self,
-        alloc: Global,
-        feed: u32,
-        message: FeedMessage,
-    ) -> Result<HubView, NoMemory>
+    pub fn after(&self, alloc: Global, feed: u32, message: FeedMessage) -> Result<HubView, NoMemory>
         requires feed { feed < length self.now.plans.feeds }
         requires moment { IsTrue (is_stamp (stamp_of message)) }
         requires newer { (feed_at self.now feed).fold.stamp < stamp_of message }
