@@ -1,0 +1,5 @@
+pub mod Merging
+pub mod Greatests
+pub mod Spread
+pub mod Fusion
+pub mod Apart
