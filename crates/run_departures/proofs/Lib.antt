@@ -3,3 +3,4 @@ pub mod Greatests
 pub mod Spread
 pub mod Fusion
 pub mod Apart
+mod Bidding
