@@ -4,3 +4,5 @@ pub mod Spread
 pub mod Fusion
 pub mod Apart
 mod Bidding
+mod Taking
+pub mod Winners

@@ -70,7 +70,7 @@ by_update t stop slot (Some place) = Some (record {
 -- where the update that counts is that of the feed of that number
 abbrev pub if_told_by : {X : Type 0} → ℕ → Option ℕ → Option X → Option X
 if_told_by number None given = None
-if_told_by number (Some other) given = if other == number then given else None
+if_told_by number (Some other) given = if number == other then given else None
 
 abbrev pub live_departure : Timetable → List LiveFeed → ℕ → ℕ → ℕ → LiveSlot → Option Departure
 live_departure t feeds at number stop slot =
