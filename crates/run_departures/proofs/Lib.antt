@@ -6,3 +6,6 @@ pub mod Apart
 mod Bidding
 mod Taking
 pub mod Winners
+pub mod Alike
+pub mod Placed
+pub mod Split
