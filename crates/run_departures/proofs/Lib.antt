@@ -9,3 +9,8 @@ pub mod Winners
 pub mod Alike
 pub mod Placed
 pub mod Split
+pub mod RowOrder
+pub mod Stops
+pub mod Whole
+pub mod Rising
+pub mod Told

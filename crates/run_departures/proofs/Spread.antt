@@ -21,7 +21,7 @@ abbrev pub passes : {Y : Type 0} → (Y → Bool) → Option Y → Bool
 passes p None = false
 passes p (Some y) = p y
 
-count-given : {X Y : Type 0} (p : Y → Bool) (f : X → Option Y) (xs : List X) → count_by p (filter_map f xs) ≡ count_by (λ x. passes p (f x)) xs
+pub count-given : {X Y : Type 0} (p : Y → Bool) (f : X → Option Y) (xs : List X) → count_by p (filter_map f xs) ≡ count_by (λ x. passes p (f x)) xs
 count-given p f [] = refl
 count-given {Y = Y} p f (x ∷ xs) = by_option (f x) (count-given p f xs) ∙ sym (count-cons (λ a. passes p (f a)) x xs) where
   by_option : (given : Option Y) → count_by p (filter_map f xs) ≡ count_by (λ a. passes p (f a)) xs → count_by p (cons_option given (filter_map f xs)) ≡ one (passes p given) + count_by (λ a. passes p (f a)) xs

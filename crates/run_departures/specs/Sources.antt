@@ -55,9 +55,9 @@ row_state told.Live = state.Live
 row_state told.Skipped = state.Skipped
 row_state told.Canceled = state.Canceled
 
-abbrev pub by_update : Timetable → ℕ → LiveSlot → Option Place → Option Departure
-by_update t stop slot None = None
-by_update t stop slot (Some place) = Some (record {
+-- a departure at its expected instant
+abbrev pub updated : Timetable → ℕ → LiveSlot → Place → Departure
+updated t stop slot place = record {
   expected = slot.at;
   run = slot.run;
   place = slot.place;
@@ -65,7 +65,11 @@ by_update t stop slot (Some place) = Some (record {
   scheduled = scheduled_at t slot.run place;
   delay = slot.delay;
   state = row_state slot.state;
-})
+}
+
+abbrev pub by_update : Timetable → ℕ → LiveSlot → Option Place → Option Departure
+by_update t stop slot None = None
+by_update t stop slot (Some place) = Some (updated t stop slot place)
 
 -- where the update that counts is that of the feed of that number
 abbrev pub if_told_by : {X : Type 0} → ℕ → Option ℕ → Option X → Option X
