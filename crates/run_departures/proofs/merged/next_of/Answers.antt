@@ -10,7 +10,7 @@ use Rattle.run_departures.proofs.merged.next_of.Goals as goal
 pub index_mut-requires : goal.index_mut-requires
 index_mut-requires c =
     let is = c.in-Some.ensures ∙ ap (λ (queues : List (List Departure)). option_map (λ b. b.0) (first_head departure_cmp queues)) c.as_slice.ensures.value in
-    omega (arith, first_within c.args.queues.now.items c.requires.rise c.in-Some.first is)
+    omega (arith, first_within c.args.queues.now.items c.requires c.in-Some.first is)
 
 pub returns-in-Some-clause-next : goal.returns-in-Some-clause-next
 returns-in-Some-clause-next c =
