@@ -1,5 +1,5 @@
 -- Of things with different numbers, what one of them says.
-use Rattle.std.proofs.Common.{◌≡◌, ℕ, Bool, true, false, cond, nat_eq, Option, Some, None, List, [], ◌∷◌, ◌++◌, refl, sym, ap, ◌∙◌, append-nil, inl, inr}
+use Rattle.std.proofs.Common.{◌≡◌, ℕ, true, false, cond, nat_eq, Option, Some, None, List, [], ◌∷◌, ◌++◌, refl, sym, ap, ◌∙◌, append-nil, inl, inr}
 use Rattle.std.specs.List.{AllByRecursion, cons_option, filter_map, flat_map}
 use Rattle.std.proofs.lemmas.Bool.{cases_eq, eq-eqb, ne_eqb}
 use Rattle.run_departures.proofs.Fusion.{all_given}
@@ -55,9 +55,11 @@ module _ {F : Type 0} (number : F → ℕ) where
           → AllByRecursion (λ x. flat_map (of_number rows (key x)) (f ∷ fs) ≡ told x) (cons_option said (filter_map says fs))
       by_option None at rest = rest
       by_option (Some x) at rest =
-          let same : number f ≡ key x = sym (own f x at) in
-          (ap (λ n. flat_map (of_number rows n) (f ∷ fs)) (own f x at)
-          ∙ ap (λ b. cond b (rows f) [] ++ flat_map (of_number rows (number f)) fs) (eq_itself (number f))
-          ∙ ap (λ xs. rows f ++ xs) (others_silent (number f) fs apart.0)
-          ∙ append-nil (rows f)
-          ∙ tells f x at, rest)
+          let same : number f ≡ key x = sym (own f x at) in (
+            ap (λ n. flat_map (of_number rows n) (f ∷ fs)) (own f x at)
+                ∙ ap (λ b. cond b (rows f) [] ++ flat_map (of_number rows (number f)) fs) (eq_itself (number f))
+                ∙ ap (λ xs. rows f ++ xs) (others_silent (number f) fs apart.0)
+                ∙ append-nil (rows f)
+                ∙ tells f x at,
+            rest,
+          )

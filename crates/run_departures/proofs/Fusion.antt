@@ -1,5 +1,5 @@
 -- What comes of lists, one step after another.
-use Rattle.std.proofs.Common.{◌≡◌, ℕ, zero, suc, ◌+◌, ◌<◌, Bool, true, false, cond, Option, Some, None, List, [], ◌∷◌, ◌++◌, length, map, filter, take, get_or, refl, sym, ap, subst, ◌∙◌, append_assoc, append-nil, length-append, arith}
+use Rattle.std.proofs.Common.{◌≡◌, ℕ, zero, suc, ◌+◌, ◌<◌, Bool, true, false, cond, Option, Some, None, List, [], ◌∷◌, ◌++◌, length, map, filter, take, refl, sym, ap, subst, ◌∙◌, append_assoc, length-append, arith}
 use Rattle.std.specs.Prelude.{if◌then◌else◌, slice_get}
 use Rattle.std.specs.List.{AllByRecursion, cons_option, enumerate_from, filter_map, flat_map}
 use Rattle.std.specs.Option.{option_and_then, option_map}
@@ -156,9 +156,10 @@ module _ {X : Type 0} where
       let more : length (before ++ x ∷ []) ≡ length before + 1 = length-append before (x ∷ []) in
       let within : length before < length (before ++ x ∷ xs) = omega (arith, length-append before (x ∷ xs)) in
       let rest = numbered_after (before ++ x ∷ []) n xs in
-      let P : List X → ℕ → Type 0 = λ ys m. AllByRecursion (λ (item : ℕ × X). slice_get ys item.0 ≡ Some item.1) (enumerate_from m (take n xs)) in
-      (slice_get-get_or (before ++ x ∷ xs) (length before) x within ∙ ap Some (get_or_at before x xs x (length before) refl),
-      subst (λ ys. P ys (length before + 1)) (append_assoc before (x ∷ []) xs) (subst (P ((before ++ x ∷ []) ++ xs)) more rest))
+      let P : List X → ℕ → Type 0 = λ ys m. AllByRecursion (λ (item : ℕ × X). slice_get ys item.0 ≡ Some item.1) (enumerate_from m (take n xs)) in (
+        slice_get-get_or (before ++ x ∷ xs) (length before) x within ∙ ap Some (get_or_at before x xs x (length before) refl),
+        subst (λ ys. P ys (length before + 1)) (append_assoc before (x ∷ []) xs) (subst (P ((before ++ x ∷ []) ++ xs)) more rest),
+      )
 
   pub numbered_there : (n : ℕ) (xs : List X) → AllByRecursion (λ (item : ℕ × X). slice_get xs item.0 ≡ Some item.1) (enumerate_from 0 (take n xs))
   numbered_there n xs = numbered_after [] n xs

@@ -1,17 +1,14 @@
 -- Rows go as their departures do: numbers of trips and days stand as the texts of the rows.
-use Rattle.std.proofs.Common.{◌≡◌, ℕ, ◌<◌, None, List, length, [], slice_get, get_or, refl, sym, ap, ◌∙◌, inl, inr, Less, Greater, arith}
+use Rattle.std.proofs.Common.{◌≡◌, ℕ, ◌<◌, None, List, length, [], slice_get, get_or, sym, ap, ◌∙◌, inl, inr, Less, Greater, arith}
 use Rattle.std.specs.Prelude.{unwrap_or}
-use Rattle.std.specs.Cmp.{IsTotalOrder, bool_cmp_total}
 use Rattle.std.specs.Cmp.Lexicographic.{slice_cmp}
 use Rattle.std.specs.Fmt.{decimal}
 use Rattle.std.specs.Option.{option_map}
-use Rattle.std.specs.Ordering.{bool_cmp, int_cmp, nat_cmp, ordering_then}
-use Rattle.std.specs.declared.cmp.Ordering.{Ordering}
+use Rattle.std.specs.Ordering.{int_cmp, nat_cmp, ordering_then}
 use Rattle.std.proofs.lemmas.Bool.{cases_order}
 use Rattle.std.proofs.lemmas.Bool.Decides.{nat_tests}
-use Rattle.std.proofs.lemmas.Cmp.{int_cmp_total, nat_cmp_total, nat_list_cmp_total, on_total, then_total, tied_itself}
-use Rattle.std.proofs.lemmas.List.FromFn.{get_or-map-range_with_len}
-use Rattle.std.proofs.lemmas.Option.{slice_get-get_or, unwrap_or-slice_get}
+use Rattle.std.proofs.lemmas.Cmp.{nat_cmp_total, tied_itself}
+use Rattle.std.proofs.lemmas.Option.{slice_get-get_or}
 use Rattle.text_defs.specs.Dates.{day_number, date_plus}
 use Rattle.text_defs.proofs.DateLaws.{day_number-lt, date_plus-number}
 use Rattle.sched_types.specs.declared.rows.Trip.{Trip}

@@ -1,16 +1,13 @@
 -- All that the sources of the asked stops have, run by run.
-use Rattle.std.proofs.Common.{◌≡◌, ℕ, Bool, true, false, not, ◌||◌, ◌&&◌, cond, nat_eq, Option, Some, None, List, [], ◌∷◌, ◌++◌, map, filter, count_by, ℤ, pos, refl, sym, ap, subst, ◌∙◌, append-nil, arith}
-use Rattle.std.specs.Prelude.{IfSome, ◌+◌, length, slice_get}
-use Rattle.std.specs.List.{AllByRecursion, filter_map, flat_map, range_with_len}
+use Rattle.std.proofs.Common.{◌≡◌, ℕ, Bool, true, false, cond, nat_eq, Option, Some, None, List, [], ◌++◌, map, filter, ℤ, refl, sym, ap, subst, ◌∙◌, append-nil}
+use Rattle.std.specs.Prelude.{IfSome}
+use Rattle.std.specs.List.{AllByRecursion, filter_map, flat_map}
 use Rattle.std.specs.Option.{option_map}
-use Rattle.std.proofs.lemmas.List.Concat.{flat_map-append}
-use Rattle.std.proofs.lemmas.List.Folds.{flat_map-map}
-use Rattle.sched_types.specs.declared.plans.NamedFeed.{NamedFeed}
 use Rattle.sched_types.specs.declared.rows.Run.{Run}
-use Rattle.sched_types.specs.Runs.{all_runs, departures_of}
-use Rattle.sched_types.specs.Timetable.{Timetable, children_of, names_parent}
+use Rattle.sched_types.specs.Runs.{all_runs}
+use Rattle.sched_types.specs.Timetable.{Timetable}
 use Rattle.order.specs.Order.{greatest, ordered}
-use Rattle.order.proofs.Counts.{one, one_is, one_not, count-cons, count-filter, count_fewer, SameItems, same_are, same_back, same_on, same_flat}
+use Rattle.order.proofs.Counts.{one, SameItems, same_are, same_on, same_flat}
 use Rattle.order.proofs.Ordered.{ordered_items}
 use Rattle.order.proofs.OrderedMap.{each_greatest}
 use Rattle.stop_index.specs.Slots as times
@@ -21,22 +18,17 @@ use Rattle.std.proofs.lemmas.Cmp.{on_total, then_total, int_cmp_total, nat_cmp_t
 use Rattle.run_overlay.specs.declared.slot.LiveSlot.{LiveSlot}
 use Rattle.board_defs.specs.Choice.{Update, choice_cmp, chosen, update_at}
 use Rattle.board_defs.specs.Feeds.{HubFeed, held_in}
-use Rattle.run_overlay.specs.Kept.{overlay_of}
 use Rattle.run_overlay.specs.Live as live
 use Rattle.run_overlay.specs.Live.{live_between, live_rows, rows_by}
 use Rattle.run_overlay.specs.Updates.{updates_of}
-use Rattle.run_overlay.proofs.Slots.{slots_are}
-use Rattle.run_departures.specs.declared.asked.Asked.{Asked}
 use Rattle.run_departures.specs.declared.departure.Departure.{Departure}
-use Rattle.run_departures.specs.Bids.{Bid, LiveFeed, live_feed, winner, winning}
-use Rattle.run_departures.specs.Board.{sources, stops_of}
-use Rattle.run_departures.specs.Merge.{joined}
-use Rattle.run_departures.specs.Sources.{live_departure, live_there, scheduled_departure, scheduled_there, sources_at}
+use Rattle.run_departures.specs.Bids.{Bid, LiveFeed, live_feed, winning}
+use Rattle.run_departures.specs.Sources.{live_departure, scheduled_departure}
 use Rattle.run_departures.proofs.Apart.{AreApart, of_number, one_speaks}
 use Rattle.run_departures.proofs.Fusion.{given_flat, filter_flat, map_flat, flat_same, nothing_flat}
 use Rattle.run_departures.proofs.Greatests.{passing}
 use Rattle.run_departures.proofs.Placed.{at_stop, departures_by, in_window, live_by, live_other, live_untold, live_won, scheduled_of_run, scheduled_told, scheduled_untold, there_by}
-use Rattle.run_departures.proofs.Spread.{gathered, same_append, same_given, spread}
+use Rattle.run_departures.proofs.Spread.{gathered, same_append, same_given}
 use Rattle.run_departures.proofs.Winners.{bid_from, best_of, best_of_all, counting, number_of_feed, own_number, renumbered, winner_is}
 
 pub live_total : IsTotalOrder live.slot_cmp

@@ -1,13 +1,13 @@
 -- Lists with the same items: gathered item by item, spread over places, and put in order.
-use Rattle.std.proofs.Common.{◌≡◌, ℕ, ◌+◌, ◌≤◌, Bool, true, false, not, ◌&&◌, cond, nat_eq, Option, Some, None, List, [], ◌∷◌, ◌++◌, filter, count_by, refl, sym, ap, subst, ◌∙◌, Less, Equal, Greater, arith}
+use Rattle.std.proofs.Common.{◌≡◌, ℕ, ◌+◌, ◌≤◌, Bool, true, false, not, ◌&&◌, cond, nat_eq, Option, Some, None, List, [], ◌∷◌, ◌++◌, filter, count_by, refl, sym, ap, ◌∙◌, Less, Equal, Greater, arith}
 use Rattle.std.specs.Cmp.{IsTotalOrder}
-use Rattle.std.specs.List.{AllByRecursion, cons_option, filter_map, flat_map}
+use Rattle.std.specs.List.{cons_option, filter_map, flat_map}
 use Rattle.std.specs.List.Sorted.{ties}
 use Rattle.std.specs.Ordering.{is_eq, is_gt, is_lt, ordering_reverse}
 use Rattle.std.specs.declared.cmp.Ordering.{Ordering}
 use Rattle.std.proofs.lemmas.Bool.{and_parts}
 use Rattle.order.specs.Order.{ordered}
-use Rattle.order.proofs.Counts.{one, one_is, one_not, not_one, count-cons, count-append, count_fewer, count_never, count-filter, count_flat_none, SameItems, same_filter}
+use Rattle.order.proofs.Counts.{one, one_is, one_not, count-cons, count-append, count_fewer, count_never, count-filter, count_flat_none, SameItems, same_filter}
 use Rattle.order.proofs.Laws.{IsLeast, IsRising, rising_only, rising_ordered, kept_ordered}
 
 -- ---- what comes of items
@@ -145,10 +145,10 @@ module _ {X : Type 0} (same : X → X → Bool) (self : (x : X) → same x x ≡
   few_same (x ∷ []) [] items few = absurd (omega (arith, items.counts any, count-cons any x []))
   few_same (x ∷ []) (y ∷ []) items few =
       by_test (same x y) refl (items.counts (same x)) where
-    by_test : (b : Bool) → same x y ≡ b → count_by (same x) (x ∷ []) ≡ count_by (same x) (y ∷ []) → x ∷ [] ≡ y ∷ []
-    by_test true e counts = ap (λ z. z ∷ []) (exact x y e)
-    by_test false e counts =
-        absurd (omega (arith, counts, count-cons (same x) x [], count-cons (same x) y [], one_is (same x x) (self x), one_not (same x y) e))
+        by_test : (b : Bool) → same x y ≡ b → count_by (same x) (x ∷ []) ≡ count_by (same x) (y ∷ []) → x ∷ [] ≡ y ∷ []
+        by_test true e counts = ap (λ z. z ∷ []) (exact x y e)
+        by_test false e counts =
+            absurd (omega (arith, counts, count-cons (same x) x [], count-cons (same x) y [], one_is (same x x) (self x), one_not (same x y) e))
   few_same (x ∷ []) (y ∷ z ∷ ys) items few =
       absurd (omega (arith, items.counts any, count-cons any x [], count-cons any y (z ∷ ys), count-cons any z ys))
   few_same (x ∷ z ∷ xs) ys items few = absurd (omega (arith, few, count-cons any x (z ∷ xs), count-cons any z xs))

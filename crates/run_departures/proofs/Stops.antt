@@ -5,8 +5,8 @@ use Rattle.std.specs.List.{range_with_len}
 use Rattle.std.proofs.lemmas.Bool.{and_right, cases_eq, eq-eqb, eqb-true, ne_eqb}
 use Rattle.std.proofs.lemmas.Option.{slice_get_within}
 use Rattle.sched_types.specs.declared.rows.Stop.{Stop}
-use Rattle.sched_types.specs.Timetable.{Timetable, children_of, is_given, names_parent}
-use Rattle.order.proofs.Counts.{one, one_is, one_not, count-cons, count-filter, count_never, range_once}
+use Rattle.sched_types.specs.Timetable.{Timetable, children_of, names_parent}
+use Rattle.order.proofs.Counts.{one, one_is, count-cons, count-filter, count_never, range_once}
 use Rattle.board_defs.specs.Rows.{is_asked}
 use Rattle.run_departures.specs.Board.{stops_of}
 

@@ -9,11 +9,9 @@ use Rattle.std.proofs.lemmas.Bool.{and_from, and_parts, eq-eqb, eqb-true}
 use Rattle.std.proofs.lemmas.List.Concat.{flat_map-append}
 use Rattle.std.proofs.lemmas.List.Elements.{All-from_recursion}
 use Rattle.std.proofs.lemmas.List.Folds.{flat_map-map}
-use Rattle.std.proofs.lemmas.Option.{slice_get_within}
 use Rattle.sched_types.specs.declared.plans.NamedFeed.{NamedFeed}
 use Rattle.sched_types.specs.declared.rows.Place.{Place}
 use Rattle.sched_types.specs.declared.rows.Run.{Run}
-use Rattle.sched_types.specs.declared.rows.Stop.{Stop}
 use Rattle.sched_types.specs.Runs.{all_runs, departures_of}
 use Rattle.sched_types.specs.Timetable.{IsTimetable, Timetable, is_run, names_parent, places_of}
 use Rattle.sched_types.proofs.TimetableLaws.{run_has, run_trip}
@@ -22,7 +20,7 @@ use Rattle.order.proofs.Counts.{count-filter, count_fewer, count_never, numbered
 use Rattle.order.proofs.Lists.{equal_then, filter_map_same}
 use Rattle.order.proofs.Ordered.{is_equal}
 use Rattle.order.proofs.OrderedMap.{each_ordered, map_ordered}
-use Rattle.board_defs.specs.Choice.{Update, update_at, updates_at}
+use Rattle.board_defs.specs.Choice.{Update, updates_at}
 use Rattle.board_defs.specs.Feeds.{HubFeed, schedule_feeds}
 use Rattle.board_defs.specs.Fold.{FeedFold}
 use Rattle.board_defs.specs.Rows.{BoardRow, Shown, is_asked, is_within, may_board, place_row, row_cmp, run_rows, shown_at, shown_row, stands_at}
@@ -136,8 +134,8 @@ module _ (t : Timetable) (most : Option Update) (run : Run) where
         arith,
         count-given (tied z) (place_departure t run most) (departures_of t run.trip),
         count_fewer (numbered z.place) (λ item. passes (tied z) (place_departure t run most item))
-        (λ item. of_place (λ o. passes (tied z) o ≡ true → numbered z.place item ≡ true) item (λ e. cc) (λ shown e. (tied_are_one z (placed t run item shown) e).place))
-        (departures_of t run.trip),
+            (λ item. of_place (λ o. passes (tied z) o ≡ true → numbered z.place item ≡ true) item (λ e. cc) (λ shown e. (tied_are_one z (placed t run item shown) e).place))
+            (departures_of t run.trip),
         numbers_once z.place 0 (take (length (places_of t run.trip) - 1) (places_of t run.trip)),
       )
 

@@ -1,10 +1,10 @@
 -- The update that counts for a run, of all feeds of a schedule: the greatest of those that count in each feed; and the
 -- feed that has it.
-use Rattle.std.proofs.Common.{◌≡◌, ℕ, ◌+◌, ◌≤◌, Bool, true, false, ◌&&◌, ◌||◌, cond, nat_eq, Option, Some, None, List, [], ◌∷◌, map, filter, refl, sym, ap, ◌∙◌, Less, Equal, Greater, arith}
+use Rattle.std.proofs.Common.{◌≡◌, ℕ, ◌+◌, ◌≤◌, Bool, true, false, cond, nat_eq, Option, Some, None, List, [], ◌∷◌, map, filter, refl, sym, ap, ◌∙◌, Less, Equal, Greater, arith}
 use Rattle.std.specs.Prelude.{if◌then◌else◌}
 use Rattle.std.specs.Cmp.{IsTotalOrder}
 use Rattle.std.specs.Cmp.Lexicographic.{slice_cmp}
-use Rattle.std.specs.List.{AllByRecursion, filter_map, flat_map}
+use Rattle.std.specs.List.{AllByRecursion, filter_map}
 use Rattle.std.specs.Option.{option_and_then, option_map}
 use Rattle.std.specs.Ordering.{is_gt, nat_cmp, ordering_then}
 use Rattle.std.specs.declared.cmp.Ordering.{Ordering}
@@ -20,13 +20,13 @@ use Rattle.sched_types.specs.Timetable.{Timetable}
 use Rattle.order.specs.Order.{greatest}
 use Rattle.order.proofs.Lists.{filter_map_same}
 use Rattle.order.proofs.OrderedMap.{map_greatest}
-use Rattle.board_defs.specs.Choice.{Update, choice_cmp, chosen, if_counting, is_about, update_at, update_in, update_of}
+use Rattle.board_defs.specs.Choice.{Update, choice_cmp, chosen, if_counting, is_about, update_at, update_of}
 use Rattle.board_defs.specs.Feeds.{HubFeed, counts_at, feeds_from, held_as, held_by, held_in, is_of_schedule, schedule_feeds}
 use Rattle.board_defs.specs.Fold.{FeedFold}
-use Rattle.run_overlay.specs.Kept.{chosen_in, overlay_of, told_update}
+use Rattle.run_overlay.specs.Kept.{overlay_of, told_update}
 use Rattle.run_overlay.specs.Updates.{held_alone, update_alone, updates_of}
 use Rattle.run_overlay.proofs.Read.{chosen_is}
-use Rattle.run_departures.specs.Bids.{Bid, LiveFeed, bid_by, bid_cmp, bid_of, live_feed, winner}
+use Rattle.run_departures.specs.Bids.{Bid, bid_by, bid_cmp, bid_of, live_feed, winner}
 use Rattle.run_departures.proofs.Apart.{AreApart}
 use Rattle.run_departures.proofs.Fusion.{given_of_map, filter_of_given, map_of_given, given_flat, filter_flat, filter_of_map, filter_turned, all_filter}
 use Rattle.run_departures.proofs.Greatests.{passing, greatest_flat, greatest_upward}
@@ -202,10 +202,12 @@ apart_from p first (feed ∷ named) (fold ∷ folds) =
   where
     by_test : (b : Bool) → AreApart number_of_feed (filter (is_of_schedule p) (feeds_from (first + 1) named folds))
         → AreApart number_of_feed (cond b (record { number = first; feed = feed; fold = fold } ∷ filter (is_of_schedule p) (feeds_from (first + 1) named folds)) (filter (is_of_schedule p) (feeds_from (first + 1) named folds)))
-    by_test true rest =
-        (all_weaker (λ (g : HubFeed). first + 1 ≤ g.number) (λ g. nat_eq g.number first ≡ false) (λ g h. ne_eqb g.number first (λ e. omega (arith, h, e)))
-        (filter (is_of_schedule p) (feeds_from (first + 1) named folds))
-        (all_filter (λ (g : HubFeed). first + 1 ≤ g.number) (is_of_schedule p) (feeds_from (first + 1) named folds) (from_first (first + 1) named folds)), rest)
+    by_test true rest = (
+      all_weaker (λ (g : HubFeed). first + 1 ≤ g.number) (λ g. nat_eq g.number first ≡ false) (λ g h. ne_eqb g.number first (λ e. omega (arith, h, e)))
+          (filter (is_of_schedule p) (feeds_from (first + 1) named folds))
+          (all_filter (λ (g : HubFeed). first + 1 ≤ g.number) (is_of_schedule p) (feeds_from (first + 1) named folds) (from_first (first + 1) named folds)),
+      rest,
+    )
     by_test false rest = rest
 
 pub feeds_apart : (p : ℕ) (named : List NamedFeed) (folds : List FeedFold) → AreApart number_of_feed (schedule_feeds p named folds)

@@ -1,5 +1,5 @@
 -- Departures of runs by their numbers, and the rows that they become.
-use Rattle.std.specs.Prelude.{ℕ, ◌<◌, [], length, slice_get, Some, unwrap_or}
+use Rattle.std.specs.Prelude.{◌<◌, [], length, slice_get, Some, unwrap_or}
 use Rattle.std.specs.Option.{option_map}
 use Rattle.std.specs.Ordering.{int_cmp, nat_cmp, ordering_then}
 use Rattle.std.specs.declared.cmp.Ordering.{Ordering}

@@ -1,5 +1,5 @@
 -- What a queue holds: the departures that its source has left, and one that was taken out of it.
-use Rattle.std.specs.Prelude.{ℕ, Bool, true, false, Option, Some, None, List, [], ◌∷◌}
+use Rattle.std.specs.Prelude.{Bool, true, false, Option, Some, None, List, [], ◌∷◌}
 use Rattle.std.specs.List.{AllByRecursion}
 use Rattle.order.proofs.Laws.{IsRising}
 use Rattle.run_departures.specs.declared.departure.Departure.{Departure}

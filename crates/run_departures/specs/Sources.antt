@@ -1,5 +1,5 @@
 -- The departures at one stop: by the timetable, and by the updates of each feed.
-use Rattle.std.specs.Prelude.{◌≡◌, ℕ, ◌+◌, ◌==◌, if◌then◌else◌, Option, Some, None, List, ◌∷◌, map, slice_get, pos}
+use Rattle.std.specs.Prelude.{ℕ, ◌+◌, ◌==◌, if◌then◌else◌, Option, Some, None, List, ◌∷◌, map, slice_get, pos}
 use Rattle.std.specs.List.{filter_map}
 use Rattle.sched_types.specs.declared.rows.Place.{Place}
 use Rattle.sched_types.specs.Timetable.{Timetable, places_of}

@@ -1,5 +1,5 @@
 -- The first head of all goes, and the rest of its queue stays in its place.
-use Rattle.std.proofs.Common.{◌≡◌, ◌<◌, List, Some, None, length, subst, sym, arith, ap, ◌∙◌, rules}
+use Rattle.std.proofs.Common.{List, arith, ap, ◌∙◌}
 use Rattle.std.specs.Option.{option_map}
 use Rattle.run_departures.specs.declared.departure.Departure.{Departure}
 use Rattle.run_departures.specs.Departures.{departure_cmp}

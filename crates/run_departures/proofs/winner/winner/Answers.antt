@@ -1,5 +1,5 @@
 -- One feed more, and at the end all.
-use Rattle.std.proofs.Common.{◌≡◌, ℕ, Option, ap, sym, ◌∙◌, rules}
+use Rattle.std.proofs.Common.{ℕ, Option, ap, sym, ◌∙◌}
 use Rattle.std.specs.Option.{option_map}
 use Rattle.run_departures.specs.declared.winner.Offer.{Offer}
 use Rattle.run_departures.specs.Offered.{as_bid}
