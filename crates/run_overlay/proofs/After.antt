@@ -6,21 +6,22 @@ use Rattle.std.specs.FinMap.Entries.{find-put}
 use Rattle.std.specs.List.{AllByRecursion, list_any}
 use Rattle.std.specs.Ordering.{eq_by_cmp}
 use Rattle.std.specs.Str.{bytes_eq}
-use Rattle.std.proofs.lemmas.List.{length-map, map-map}
-use Rattle.rt_types.specs.declared.entity.Entity.{Entity}
+use Rattle.std.proofs.lemmas.List.{length-map}
+use Rattle.std.proofs.lemmas.Simd.{map-map}
+use Rattle.rt_types.specs.declared.message.Entity.{Entity}
 use Rattle.rt_types.specs.declared.message.FeedMessage.{FeedMessage}
 use Rattle.feed_defs.specs.declared.history.Stored.{Stored}
 use Rattle.feed_defs.specs.History.{Change as EntityChange, changes_in, changes_with, changes_without, entities_after, is_full, is_kept, stamp_of}
 use Rattle.feed_defs.proofs.Applied.{find-without}
+use Rattle.sched_types.specs.declared.rows.Run.{Run}
 use Rattle.sched_types.specs.Timetable.{Timetable}
 use Rattle.run_overlay.specs.declared.id_changes.IdBefore.{IdBefore}
 use Rattle.run_overlay.specs.declared.id_changes.IdChange.{IdChange}
-use Rattle.run_overlay.specs.declared.run_key.RunKey.{RunKey}
 use Rattle.run_overlay.specs.Changing.{AreIdChanges, id_before, id_change, id_change_by, id_change_new, mentions_after, touched_runs}
 use Rattle.run_overlay.specs.Kept.{FeedOverlay, IsTable, Mentions, LiveKept, live_of, mentions_of, no_overlay, overlay_of}
 use Rattle.run_overlay.specs.Keys.{id_cmp}
 use Rattle.run_overlay.specs.Named.{IsAfter, NamedIds}
-use Rattle.run_overlay.specs.Sought.{is_key}
+use Rattle.run_overlay.specs.Sought.{is_same_run}
 use Rattle.run_overlay.specs.Turning.{live_after}
 use Rattle.run_overlay.specs.Updates.{about_held, updates_of}
 use Rattle.run_overlay.proofs.AllRuns.{any_map}
@@ -34,8 +35,8 @@ use Rattle.run_overlay.proofs.Untouched.{untouched}
 
 -- ---- after changes of ids
 
-module _ (t : Timetable) (overlay : FeedOverlay) (table : List EntityChange) (changes : List IdChange) (keys : List RunKey) (are : AreIdChanges t overlay table changes) (is : IsTable table)
-    (all : (key : RunKey) → list_any (is_key key) keys ≡ list_any (is_key key) (touched_runs changes)) where
+module _ (t : Timetable) (overlay : FeedOverlay) (table : List EntityChange) (changes : List IdChange) (runs : List Run) (are : AreIdChanges t overlay table changes) (is : IsTable table)
+    (all : (run : Run) → list_any (is_same_run run) runs ≡ list_any (is_same_run run) (touched_runs changes)) where
   mentions_kept : overlay.mentions ≡ mentions_of t are.old
   unfolding overlay_of
   mentions_kept = ap (λ (o : FeedOverlay). o.mentions) are.kept
@@ -56,14 +57,18 @@ module _ (t : Timetable) (overlay : FeedOverlay) (table : List EntityChange) (ch
       ∙ ap (mentions_after table by_ids) mentions_kept
       ∙ mentions_are t are.old table are.was is are.ids are.others
 
-  live_then : live_after t (updates_of table) keys overlay.live ≡ live_of t (updates_of table)
+  -- The candidates are those of the table.
+  pub candidates_then : (mentions : Mentions) → mentions ≡ mentions_after table changes overlay.mentions → mentions.candidates ≡ (mentions_of t table).candidates
+  candidates_then mentions is = ap (λ (m : Mentions). m.candidates) (is ∙ mentions_then)
+
+  live_then : live_after t (updates_of table) runs overlay.live ≡ live_of t (updates_of table)
   live_then =
-      ap (live_after t (updates_of table) keys) live_kept
-      ∙ lived t (updates_of are.old) (updates_of table) keys
-      (λ key none. untouched t are.old table are.was is are.ids are.others key (ap (λ cs. list_any (is_key key) (touched_runs cs)) (sym changes_are) ∙ sym (all key) ∙ none))
+      ap (live_after t (updates_of table) runs) live_kept
+      ∙ lived t (updates_of are.old) (updates_of table) runs
+      (λ run none. untouched t are.old table are.was is are.ids are.others run (ap (λ cs. list_any (is_same_run run) (touched_runs cs)) (sym changes_are) ∙ sym (all run) ∙ none))
 
   -- The overlay is that of the table, where the turned runs are those that the changes touch.
-  pub after_is : (mentions : Mentions) (live : LiveKept) → mentions ≡ mentions_after table changes overlay.mentions → live ≡ live_after t (updates_of table) keys overlay.live
+  pub after_is : (mentions : Mentions) (live : LiveKept) → mentions ≡ mentions_after table changes overlay.mentions → live ≡ live_after t (updates_of table) runs overlay.live
       → record { mentions = mentions; live = live } ≡ overlay_of t table
   unfolding overlay_of
   after_is mentions live first second = λ i. record { mentions = (first ∙ mentions_then) i; live = (second ∙ live_then) i }

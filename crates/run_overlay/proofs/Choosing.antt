@@ -26,7 +26,7 @@ use Rattle.shared_list.proofs.Middle.{second_so, sorted_behind}
 use Rattle.run_overlay.specs.declared.candidate.Candidate.{Candidate}
 use Rattle.run_overlay.specs.declared.mention.Mention.{Mention}
 use Rattle.keyed_lists.specs.Keyed.{by_key}
-use Rattle.run_overlay.specs.Keys.{CandidateKey, candidate_cmp, candidate_key, id_cmp, run_cmp, run_key, weight_cmp}
+use Rattle.run_overlay.specs.Keys.{CandidateKey, candidate_cmp, candidate_key, id_cmp, run_cmp, weight_cmp}
 use Rattle.run_overlay.specs.Kept.{IsTable, candidate_of}
 use Rattle.run_overlay.specs.Orders.{candidates_exact, candidates_total, runs_total, weights_exact, weights_total}
 use Rattle.run_overlay.specs.Turning.{first_of, is_of_run}
@@ -46,7 +46,7 @@ choices_total =
 -- ---- runs
 
 -- two runs tie just where their numbers are equal
-pub run_tied : (a b : Run) → is_eq (run_cmp (run_key a) (run_key b)) ≡ (nat_eq a.trip b.trip && nat_eq a.day b.day)
+pub run_tied : (a b : Run) → is_eq (run_cmp a b) ≡ (nat_eq a.trip b.trip && nat_eq a.day b.day)
 run_tied a b =
     equal_then (nat_cmp a.trip b.trip) (nat_cmp a.day b.day)
     ∙ ap (λ c. c && is_eq (nat_cmp a.day b.day)) (unsigned_tied a.trip b.trip)
@@ -262,7 +262,7 @@ module _ (t : Timetable) (es : List EntityChange) (table : IsTable es) where
         (first_least candidates_total candidates_exact candidate_key (is_of_run run) candidates (sorted_by_key candidates_total candidate_key (filter_map (candidate_of t) es))
         (by_key_keyed candidates_total candidates_exact candidate_key (filter_map (candidate_of t) es)) x rest first))
         (run_itself run) in
-        let tie : run_cmp (run_key x.mention.run) (run_key run) ≡ Equal = ap (λ r. run_cmp (run_key r) (run_key run)) on_run ∙ tied_itself runs_total (run_key run) in
+        let tie : run_cmp x.mention.run run ≡ Equal = ap (λ r. run_cmp r run) on_run ∙ tied_itself runs_total run in
         let down : is_gt (weight_cmp (x.mention.stamp, x.id) (u.stamp, u.id)) ≡ false =
         sym (ap (λ r. is_gt (ordering_then r (weight_cmp (x.mention.stamp, x.id) (u.stamp, u.id)))) tie) ∙ least in
         let weights : (x.mention.stamp, x.id) ≡ (u.stamp, u.id) = weights_exact (x.mention.stamp, x.id) (u.stamp, u.id) (neither_above weights_total (x.mention.stamp, x.id) (u.stamp, u.id) down up) in
@@ -290,7 +290,7 @@ module _ (t : Timetable) (es : List EntityChange) (table : IsTable es) where
 
 module _ (run : Run) where
   abbrev pub from_run : List (CandidateKey × Candidate) → List (CandidateKey × Candidate)
-  from_run entries = entries_from candidate_cmp (run_key run, None) entries
+  from_run entries = entries_from candidate_cmp (run, None) entries
 
   -- if it is of the run
   abbrev pub head_of : List Candidate → Option Candidate
@@ -298,7 +298,7 @@ module _ (run : Run) where
   head_of (x ∷ xs) = cond (is_of_run run x) (Some x) None
 
   abbrev run_order : Candidate → Ordering
-  run_order x = run_cmp (run_key x.mention.run) (run_key run)
+  run_order x = run_cmp x.mention.run run
 
   of_run : (x : Candidate) → is_of_run run x ≡ is_eq (run_order x)
   of_run x = sym (run_tied x.mention.run run)
@@ -315,24 +315,24 @@ module _ (run : Run) where
 
   -- what goes after one of a later run is of a later run
   later_on : (x y : Candidate) → run_order x ≡ Greater → candidate_cmp (candidate_key x) (candidate_key y) ≡ Less → run_order y ≡ Greater
-  later_on x y later less = by_order (run_cmp (run_key x.mention.run) (run_key y.mention.run)) refl less where
-    back : (r : Ordering) → run_cmp (run_key x.mention.run) (run_key y.mention.run) ≡ r → r ≡ Less → run_order y ≡ Greater
+  later_on x y later less = by_order (run_cmp x.mention.run y.mention.run) refl less where
+    back : (r : Ordering) → run_cmp x.mention.run y.mention.run ≡ r → r ≡ Less → run_order y ≡ Greater
     back r at is =
-        runs_total.antisymm (run_key y.mention.run) (run_key run)
+        runs_total.antisymm y.mention.run run
         ∙ ap ordering_reverse
-        (runs_total.trans (run_key run) (run_key x.mention.run) (run_key y.mention.run)
-        (runs_total.antisymm (run_key run) (run_key x.mention.run) ∙ ap ordering_reverse later) (at ∙ is))
+        (runs_total.trans run x.mention.run y.mention.run
+        (runs_total.antisymm run x.mention.run ∙ ap ordering_reverse later) (at ∙ is))
 
-    by_order : (r : Ordering) → run_cmp (run_key x.mention.run) (run_key y.mention.run) ≡ r → ordering_then r (weight_cmp (x.mention.stamp, x.id) (y.mention.stamp, y.id)) ≡ Less → run_order y ≡ Greater
+    by_order : (r : Ordering) → run_cmp x.mention.run y.mention.run ≡ r → ordering_then r (weight_cmp (x.mention.stamp, x.id) (y.mention.stamp, y.id)) ≡ Less → run_order y ≡ Greater
     by_order Less at less = back Less at refl
-    by_order Equal at less = sym (runs_total.congr (run_key x.mention.run) (run_key y.mention.run) (run_key run) at) ∙ later
+    by_order Equal at less = sym (runs_total.congr x.mention.run y.mention.run run at) ∙ later
     by_order Greater at less = cc
 
   -- the first from the run on, if it is of the run, is the first of the run
   pub first_from : (es : List (CandidateKey × Candidate)) → T (is_sorted candidate_cmp es) → AllByRecursion (HasItsKey candidate_key) es → head_of (map (λ e. e.1) (from_run es)) ≡ first_of run es
   first_from [] up keyed = refl
   first_from (e ∷ es) up keyed =
-      ap (λ k. head_of (map (λ y. y.1) (cond (not (is_lt (candidate_cmp k (run_key run, None)))) (e ∷ from_run es) (from_run es)))) keyed.0
+      ap (λ k. head_of (map (λ y. y.1) (cond (not (is_lt (candidate_cmp k (run, None)))) (e ∷ from_run es) (from_run es)))) keyed.0
       ∙ by_order (run_order e.1) refl (first_from es (second_so _ _ up) keyed.1)
       ∙ ap (λ b. slice_get (cond b (e.1 ∷ those_of es) (those_of es)) 0) (sym (of_run e.1))
     where

@@ -19,27 +19,26 @@ use Rattle.board_defs.specs.Rows.{Shown, may_board, shown_at}
 use Rattle.run_overlay.specs.declared.live_run.LiveRun.{LiveRun}
 use Rattle.run_overlay.specs.declared.row.LiveRow.{LiveRow}
 use Rattle.run_overlay.specs.declared.row.RowKey.{RowKey}
-use Rattle.run_overlay.specs.declared.run_key.RunKey.{RunKey}
 use Rattle.keyed_lists.specs.Keyed.{by_key, changed}
-use Rattle.run_overlay.specs.Keys.{live_run_key, row_cmp, row_key, run_cmp, run_key}
+use Rattle.run_overlay.specs.Keys.{live_run_key, row_cmp, row_key, run_cmp}
 use Rattle.run_overlay.specs.Kept.{live_of, live_run, run_by}
 use Rattle.run_overlay.specs.Live.{live_place, live_row, live_rows, rows_by, sign_of}
 use Rattle.run_overlay.specs.Orders.{rows_exact, rows_total, runs_exact, runs_total}
-use Rattle.run_overlay.specs.Sought.{is_key}
-use Rattle.run_overlay.specs.Turning.{live_after, row_changes, rows_kept, run_change, run_of_key, turn_of}
+use Rattle.run_overlay.specs.Sought.{is_same_run}
+use Rattle.run_overlay.specs.Turning.{live_after, row_changes, rows_kept, run_change, turn_of}
 use Rattle.run_overlay.proofs.AllRuns.{any_run}
 use Rattle.run_overlay.proofs.Choosing.{chosen_runs, run_same, run_tied}
 use Rattle.keyed_lists.proofs.Effects.{IsApart, IsGiver, IsSegment, all_changed, effect, effect-append, find_given, flat_same, puts_apart, removes_apart, sorted_by_key, turned}
 use Rattle.keyed_lists.proofs.Entries.{all_from}
 use Rattle.keyed_lists.proofs.Tables.{all_each, all_of, filter_map_flat, tie_same, tie_self}
 
--- ---- keys of runs
+-- ---- the same run
 
-pub key_tied : (k other : RunKey) → eq_by_cmp run_cmp k other ≡ is_key k other
-key_tied k other = (eq_by_cmp_equiv runs_total).symm k other ∙ run_tied (run_of_key other) (run_of_key k)
+pub tie_is_same : (k other : Run) → eq_by_cmp run_cmp k other ≡ is_same_run k other
+tie_is_same k other = (eq_by_cmp_equiv runs_total).symm k other ∙ run_tied other k
 
-pub key_same : (k other : RunKey) → is_key k other ≡ true → k ≡ other
-key_same k other same = sym (ap run_key (run_same (run_of_key other) (run_of_key k) same))
+pub same_as : (k other : Run) → is_same_run k other ≡ true → k ≡ other
+same_as k other same = sym (run_same other k same)
 
 -- ---- the departures of a run are of that run
 
@@ -67,16 +66,16 @@ unfolding live_rows
 live_of_run t updates run = rows_of_run t run (chosen t updates run)
 
 -- a departure of another run has another key
-abbrev pub run_in_row : RowKey → RunKey
+abbrev pub run_in_row : RowKey → Run
 run_in_row k = record { trip = k.trip; day = k.day }
 
-pub other_rows : (k : RowKey) (run : Run) → eq_by_cmp run_cmp (run_in_row k) (run_key run) ≡ false → (row : LiveRow) → IsOfRun run row → IsApart row_cmp row_key k row
+pub other_rows : (k : RowKey) (run : Run) → eq_by_cmp run_cmp (run_in_row k) run ≡ false → (row : LiveRow) → IsOfRun run row → IsApart row_cmp row_key k row
 other_rows k run other row of_it = by_tie (eq_by_cmp row_cmp k (row_key row)) refl where
   by_tie : (b : Bool) → eq_by_cmp row_cmp k (row_key row) ≡ b → b ≡ false
   by_tie false tie = refl
   by_tie true tie =
-      let same : run_in_row k ≡ run_key run = ap run_in_row (tie_same rows_total rows_exact k (row_key row) tie) ∙ ap run_key of_it in
-      sym (ap (λ x. eq_by_cmp run_cmp x (run_key run)) same ∙ tie_self runs_total runs_exact (run_key run)) ∙ other
+      let same : run_in_row k ≡ run = ap run_in_row (tie_same rows_total rows_exact k (row_key row) tie) ∙ of_it in
+      sym (ap (λ x. eq_by_cmp run_cmp x run) same ∙ tie_self runs_total runs_exact run) ∙ other
 
 -- ---- what the lists have at a key
 
@@ -86,44 +85,44 @@ module _ (t : Timetable) (updates : List Update) where
   both_same false x = refl
 
   -- the run of a key is among all runs, where an update counts for it
-  abbrev is_owner : RunKey → Run → Bool
-  is_owner k run = eq_by_cmp run_cmp k (run_key run)
+  abbrev is_owner : Run → Run → Bool
+  is_owner k run = eq_by_cmp run_cmp k run
 
-  among_all : (k : RunKey) → is_run t (run_of_key k) ≡ true → list_any (is_owner k) (all_runs t) ≡ true
+  among_all : (k : Run) → is_run t k ≡ true → list_any (is_owner k) (all_runs t) ≡ true
   among_all k runs =
-      any_run t (run_of_key k) (is_owner k) (tie_self runs_total runs_exact k)
-      (λ x tie. ap run_of_key (sym (tie_same runs_total runs_exact k (run_key x) tie))) runs
+      any_run t k (is_owner k) (tie_self runs_total runs_exact k)
+      (λ x tie. sym (tie_same runs_total runs_exact k x tie)) runs
 
   -- runs
-  run_apart : (k : RunKey) (run : Run) (best : Option Update) → is_owner k run ≡ false → AllByRecursion (IsApart run_cmp live_run_key k) (option_to_list (option_map (run_by t run) best))
+  run_apart : (k : Run) (run : Run) (best : Option Update) → is_owner k run ≡ false → AllByRecursion (IsApart run_cmp live_run_key k) (option_to_list (option_map (run_by t run) best))
   run_apart k run None other = tt
   run_apart k run (Some u) other = (other, tt)
 
-  runs_given : (k : RunKey) (run : Run) → IsGiver run_cmp live_run_key k (λ r. option_to_list (live_run t updates r)) (is_owner k) (option_to_list (live_run t updates (run_of_key k))) run
+  runs_given : (k : Run) (run : Run) → IsGiver run_cmp live_run_key k (λ r. option_to_list (live_run t updates r)) (is_owner k) (option_to_list (live_run t updates k)) run
   runs_given k run = record {
     apart = run_apart k run (chosen t updates run);
-    own = λ tie. ap (λ x. option_to_list (live_run t updates (run_of_key x))) (sym (tie_same runs_total runs_exact k (run_key run) tie));
+    own = λ tie. ap (λ x. option_to_list (live_run t updates x)) (sym (tie_same runs_total runs_exact k run tie));
   }
 
-  run_left : (k : RunKey) (best : Option Update) → IfSome best (λ u. is_run t (run_of_key k) ≡ true)
-      → cond (list_any (is_owner k) (all_runs t)) (effect run_cmp live_run_key k (map Put (option_to_list (option_map (run_by t (run_of_key k)) best))) None) None ≡ option_map (run_by t (run_of_key k)) best
+  run_left : (k : Run) (best : Option Update) → IfSome best (λ u. is_run t k ≡ true)
+      → cond (list_any (is_owner k) (all_runs t)) (effect run_cmp live_run_key k (map Put (option_to_list (option_map (run_by t k) best))) None) None ≡ option_map (run_by t k) best
   run_left k None runs = both_same (list_any (is_owner k) (all_runs t)) None
   run_left k (Some u) runs =
-      ap (λ b. cond b (cond (eq_by_cmp run_cmp k k) (Some (run_by t (run_of_key k) u)) None) None) (among_all k runs)
-      ∙ ap (λ b. cond b (Some (run_by t (run_of_key k) u)) None) (tie_self runs_total runs_exact k)
+      ap (λ b. cond b (cond (eq_by_cmp run_cmp k k) (Some (run_by t k u)) None) None) (among_all k runs)
+      ∙ ap (λ b. cond b (Some (run_by t k u)) None) (tie_self runs_total runs_exact k)
 
   -- a run is found with the update that counts for it
-  pub find_run : (k : RunKey) → find run_cmp k (live_of t updates).runs ≡ live_run t updates (run_of_key k)
+  pub find_run : (k : Run) → find run_cmp k (live_of t updates).runs ≡ live_run t updates k
   unfolding live_of
   find_run k =
       ap (λ xs. find run_cmp k (by_key run_cmp live_run_key xs)) (filter_map_flat (live_run t updates) (all_runs t))
-      ∙ find_given runs_total live_run_key k (λ r. option_to_list (live_run t updates r)) (is_owner k) (option_to_list (live_run t updates (run_of_key k))) (all_runs t)
-      (all_of (IsGiver run_cmp live_run_key k (λ r. option_to_list (live_run t updates r)) (is_owner k) (option_to_list (live_run t updates (run_of_key k)))) (runs_given k) (all_runs t))
-      ∙ run_left k (chosen t updates (run_of_key k)) (chosen_runs t updates (run_of_key k))
+      ∙ find_given runs_total live_run_key k (λ r. option_to_list (live_run t updates r)) (is_owner k) (option_to_list (live_run t updates k)) (all_runs t)
+      (all_of (IsGiver run_cmp live_run_key k (λ r. option_to_list (live_run t updates r)) (is_owner k) (option_to_list (live_run t updates k))) (runs_given k) (all_runs t))
+      ∙ run_left k (chosen t updates k) (chosen_runs t updates k)
 
   -- departures
-  abbrev pub rows_at_run : RunKey → List LiveRow
-  rows_at_run k = live_rows t updates (run_of_key k)
+  abbrev pub rows_at_run : Run → List LiveRow
+  rows_at_run k = live_rows t updates k
 
   abbrev pub row_at_key : RowKey → Option LiveRow
   row_at_key k = effect row_cmp row_key k (map Put (rows_at_run (run_in_row k))) None
@@ -131,14 +130,14 @@ module _ (t : Timetable) (updates : List Update) where
   rows_given : (k : RowKey) (run : Run) → IsGiver row_cmp row_key k (live_rows t updates) (is_owner (run_in_row k)) (rows_at_run (run_in_row k)) run
   rows_given k run = record {
     apart = λ other. all_each (IsOfRun run) (IsApart row_cmp row_key k) (other_rows k run other) (live_rows t updates run) (live_of_run t updates run);
-    own = λ tie. ap (λ x. live_rows t updates (run_of_key x)) (sym (tie_same runs_total runs_exact (run_in_row k) (run_key run) tie));
+    own = λ tie. ap (λ x. live_rows t updates x) (sym (tie_same runs_total runs_exact (run_in_row k) run tie));
   }
 
-  rows_left : (k : RowKey) (best : Option Update) → IfSome best (λ u. is_run t (run_of_key (run_in_row k)) ≡ true)
-      → cond (list_any (is_owner (run_in_row k)) (all_runs t)) (effect row_cmp row_key k (map Put (rows_by t (run_of_key (run_in_row k)) best)) None) None
-      ≡ effect row_cmp row_key k (map Put (rows_by t (run_of_key (run_in_row k)) best)) None
+  rows_left : (k : RowKey) (best : Option Update) → IfSome best (λ u. is_run t (run_in_row k) ≡ true)
+      → cond (list_any (is_owner (run_in_row k)) (all_runs t)) (effect row_cmp row_key k (map Put (rows_by t (run_in_row k) best)) None) None
+      ≡ effect row_cmp row_key k (map Put (rows_by t (run_in_row k) best)) None
   rows_left k None runs = both_same (list_any (is_owner (run_in_row k)) (all_runs t)) None
-  rows_left k (Some u) runs = ap (λ b. cond b (effect row_cmp row_key k (map Put (rows_by t (run_of_key (run_in_row k)) (Some u))) None) None) (among_all (run_in_row k) runs)
+  rows_left k (Some u) runs = ap (λ b. cond b (effect row_cmp row_key k (map Put (rows_by t (run_in_row k) (Some u))) None) None) (among_all (run_in_row k) runs)
 
   -- a departure is found where the run of its key has it
   pub find_row : (k : RowKey) → find row_cmp k (live_of t updates).rows ≡ row_at_key k
@@ -146,7 +145,7 @@ module _ (t : Timetable) (updates : List Update) where
   find_row k =
       find_given rows_total row_key k (live_rows t updates) (is_owner (run_in_row k)) (rows_at_run (run_in_row k)) (all_runs t)
       (all_of (IsGiver row_cmp row_key k (live_rows t updates) (is_owner (run_in_row k)) (rows_at_run (run_in_row k))) (rows_given k) (all_runs t))
-      ∙ rows_left k (chosen t updates (run_of_key (run_in_row k))) (chosen_runs t updates (run_of_key (run_in_row k)))
+      ∙ rows_left k (chosen t updates (run_in_row k)) (chosen_runs t updates (run_in_row k))
 
   pub runs_sorted : T (is_sorted run_cmp (live_of t updates).runs)
   unfolding live_of
@@ -171,73 +170,73 @@ map_single : {A X : Type 0} (f : A → X) (items : List A) → map f items ≡ f
 map_single f [] = refl
 map_single f (a ∷ items) = ap (λ xs. f a ∷ xs) (map_single f items)
 
-module _ (t : Timetable) (old new : List Update) (keys : List RunKey) (same : (key : RunKey) → list_any (is_key key) keys ≡ false → chosen t new (run_of_key key) ≡ chosen t old (run_of_key key)) where
+module _ (t : Timetable) (old new : List Update) (runs : List Run) (same : (run : Run) → list_any (is_same_run run) runs ≡ false → chosen t new run ≡ chosen t old run) where
   -- runs
-  abbrev run_segment : RunKey → List (Change LiveRun RunKey)
-  run_segment key = run_change (turn_of t new key) ∷ []
+  abbrev run_segment : Run → List (Change LiveRun Run)
+  run_segment run = run_change (turn_of t new run) ∷ []
 
-  other_run : (k key : RunKey) → is_key k key ≡ false → (best : Option Update) (found : Option LiveRun) → effect run_cmp live_run_key k (run_change (record { run = key; now = option_map (run_by t (run_of_key key)) best }) ∷ []) found ≡ found
-  other_run k key other None found = ap (λ b. cond b None found) (key_tied k key ∙ other)
-  other_run k key other (Some u) found = ap (λ b. cond b (Some (run_by t (run_of_key key) u)) found) (key_tied k key ∙ other)
+  other_run : (k run : Run) → is_same_run k run ≡ false → (best : Option Update) (found : Option LiveRun) → effect run_cmp live_run_key k (run_change (record { run = run; now = option_map (run_by t run) best }) ∷ []) found ≡ found
+  other_run k run other None found = ap (λ b. cond b None found) (tie_is_same k run ∙ other)
+  other_run k run other (Some u) found = ap (λ b. cond b (Some (run_by t run u)) found) (tie_is_same k run ∙ other)
 
-  its_run : (k : RunKey) (best : Option Update) (found : Option LiveRun) → effect run_cmp live_run_key k (run_change (record { run = k; now = option_map (run_by t (run_of_key k)) best }) ∷ []) found ≡ option_map (run_by t (run_of_key k)) best
+  its_run : (k : Run) (best : Option Update) (found : Option LiveRun) → effect run_cmp live_run_key k (run_change (record { run = k; now = option_map (run_by t k) best }) ∷ []) found ≡ option_map (run_by t k) best
   its_run k None found = ap (λ b. cond b None found) (tie_self runs_total runs_exact k)
-  its_run k (Some u) found = ap (λ b. cond b (Some (run_by t (run_of_key k) u)) found) (tie_self runs_total runs_exact k)
+  its_run k (Some u) found = ap (λ b. cond b (Some (run_by t k u)) found) (tie_self runs_total runs_exact k)
 
-  run_segments : (k key : RunKey) → IsSegment run_cmp live_run_key k run_segment (is_key k) (live_run t new (run_of_key k)) (λ found. (found ≡ live_run t old (run_of_key k)) ⊎ (found ≡ live_run t new (run_of_key k))) key
-  run_segments k key = record {
-    apart = λ other found. other_run k key other (chosen t new (run_of_key key)) found;
+  run_segments : (k run : Run) → IsSegment run_cmp live_run_key k run_segment (is_same_run k) (live_run t new k) (λ found. (found ≡ live_run t old k) ⊎ (found ≡ live_run t new k)) run
+  run_segments k run = record {
+    apart = λ other found. other_run k run other (chosen t new run) found;
     own = λ own found fine.
-        subst (λ x. effect run_cmp live_run_key k (run_segment x) found ≡ live_run t new (run_of_key k)) (key_same k key own)
-        (its_run k (chosen t new (run_of_key k)) found);
+        subst (λ x. effect run_cmp live_run_key k (run_segment x) found ≡ live_run t new k) (same_as k run own)
+        (its_run k (chosen t new k) found);
   }
 
-  runs_turned : changed run_cmp live_run_key (live_of t old).runs (map run_change (map (turn_of t new) keys)) ≡ (live_of t new).runs
+  runs_turned : changed run_cmp live_run_key (live_of t old).runs (map run_change (map (turn_of t new) runs)) ≡ (live_of t new).runs
   runs_turned =
       ap (changed run_cmp live_run_key (live_of t old).runs)
-      (map_single run_change (map (turn_of t new) keys)
-      ∙ flat_map-map (λ turn. run_change turn ∷ []) (turn_of t new) keys)
-      ∙ all_changed runs_total runs_exact live_run_key is_key run_segment (λ k. live_run t old (run_of_key k)) (λ k. live_run t new (run_of_key k)) keys (λ k none. ap (option_map (run_by t (run_of_key k))) (same k none))
+      (map_single run_change (map (turn_of t new) runs)
+      ∙ flat_map-map (λ turn. run_change turn ∷ []) (turn_of t new) runs)
+      ∙ all_changed runs_total runs_exact live_run_key is_same_run run_segment (λ k. live_run t old k) (λ k. live_run t new k) runs (λ k none. ap (option_map (run_by t k)) (same k none))
       (live_of t old).runs (live_of t new).runs (runs_sorted t old) (runs_sorted t new) (find_run t old) (find_run t new) run_segments
 
   -- departures
-  abbrev row_segment : RunKey → List (Change LiveRow RowKey)
-  row_segment key = map (λ row. Remove (row_key row)) (rows_at_run t old key) ++ map Put (rows_at_run t new key)
+  abbrev row_segment : Run → List (Change LiveRow RowKey)
+  row_segment run = map (λ row. Remove (row_key row)) (rows_at_run t old run) ++ map Put (rows_at_run t new run)
 
-  by_turn : (key : RunKey) → row_changes (live_of t old).runs (turn_of t new key) ≡ row_segment key
-  by_turn key =
-      ap (λ xs. map (λ row. Remove (row_key row)) xs ++ map Put (rows_kept (live_run t new (run_of_key key))))
-      (ap rows_kept (find_run t old key) ∙ kept_rows t old (run_of_key key))
-      ∙ ap (λ xs. map (λ row. Remove (row_key row)) (rows_at_run t old key) ++ map Put xs) (kept_rows t new (run_of_key key))
+  by_turn : (run : Run) → row_changes (live_of t old).runs (turn_of t new run) ≡ row_segment run
+  by_turn run =
+      ap (λ xs. map (λ row. Remove (row_key row)) xs ++ map Put (rows_kept (live_run t new run)))
+      (ap rows_kept (find_run t old run) ∙ kept_rows t old run)
+      ∙ ap (λ xs. map (λ row. Remove (row_key row)) (rows_at_run t old run) ++ map Put xs) (kept_rows t new run)
 
-  apart_rows : (k : RowKey) (key : RunKey) (updates : List Update) → is_key (run_in_row k) key ≡ false → AllByRecursion (IsApart row_cmp row_key k) (live_rows t updates (run_of_key key))
-  apart_rows k key updates other =
-      all_each (IsOfRun (run_of_key key)) (IsApart row_cmp row_key k) (other_rows k (run_of_key key) (key_tied (run_in_row k) key ∙ other))
-      (live_rows t updates (run_of_key key)) (live_of_run t updates (run_of_key key))
+  apart_rows : (k : RowKey) (run : Run) (updates : List Update) → is_same_run (run_in_row k) run ≡ false → AllByRecursion (IsApart row_cmp row_key k) (live_rows t updates run)
+  apart_rows k run updates other =
+      all_each (IsOfRun run) (IsApart row_cmp row_key k) (other_rows k run (tie_is_same (run_in_row k) run ∙ other))
+      (live_rows t updates run) (live_of_run t updates run)
 
-  row_segments : (k : RowKey) (key : RunKey) → IsSegment row_cmp row_key k row_segment (is_key (run_in_row k)) (row_at_key t new k) (λ found. (found ≡ row_at_key t old k) ⊎ (found ≡ row_at_key t new k)) key
-  row_segments k key = record {
+  row_segments : (k : RowKey) (run : Run) → IsSegment row_cmp row_key k row_segment (is_same_run (run_in_row k)) (row_at_key t new k) (λ found. (found ≡ row_at_key t old k) ⊎ (found ≡ row_at_key t new k)) run
+  row_segments k run = record {
     apart = λ other found.
-        effect-append row_cmp row_key k (map (λ row. Remove (row_key row)) (rows_at_run t old key)) (map Put (rows_at_run t new key)) found
-        ∙ ap (effect row_cmp row_key k (map Put (rows_at_run t new key))) (removes_apart row_cmp row_key k (rows_at_run t old key) (apart_rows k key old other) found)
-        ∙ puts_apart row_cmp row_key k (rows_at_run t new key) (apart_rows k key new other) found;
+        effect-append row_cmp row_key k (map (λ row. Remove (row_key row)) (rows_at_run t old run)) (map Put (rows_at_run t new run)) found
+        ∙ ap (effect row_cmp row_key k (map Put (rows_at_run t new run))) (removes_apart row_cmp row_key k (rows_at_run t old run) (apart_rows k run old other) found)
+        ∙ puts_apart row_cmp row_key k (rows_at_run t new run) (apart_rows k run new other) found;
     own = λ own found fine.
-        subst (λ x. effect row_cmp row_key k (row_segment x) found ≡ row_at_key t new k) (key_same (run_in_row k) key own)
+        subst (λ x. effect row_cmp row_key k (row_segment x) found ≡ row_at_key t new k) (same_as (run_in_row k) run own)
         (turned row_cmp row_key k (rows_at_run t old (run_in_row k)) (rows_at_run t new (run_in_row k)) found fine);
   }
 
-  same_rows : (k : RowKey) → list_any (is_key (run_in_row k)) keys ≡ false → row_at_key t new k ≡ row_at_key t old k
+  same_rows : (k : RowKey) → list_any (is_same_run (run_in_row k)) runs ≡ false → row_at_key t new k ≡ row_at_key t old k
   unfolding live_rows
-  same_rows k none = ap (λ best. effect row_cmp row_key k (map Put (rows_by t (run_of_key (run_in_row k)) best)) None) (same (run_in_row k) none)
+  same_rows k none = ap (λ best. effect row_cmp row_key k (map Put (rows_by t (run_in_row k) best)) None) (same (run_in_row k) none)
 
-  rows_turned : changed row_cmp row_key (live_of t old).rows (flat_map (row_changes (live_of t old).runs) (map (turn_of t new) keys)) ≡ (live_of t new).rows
+  rows_turned : changed row_cmp row_key (live_of t old).rows (flat_map (row_changes (live_of t old).runs) (map (turn_of t new) runs)) ≡ (live_of t new).rows
   rows_turned =
       ap (changed row_cmp row_key (live_of t old).rows)
-      (flat_map-map (row_changes (live_of t old).runs) (turn_of t new) keys
-      ∙ flat_same (λ key. row_changes (live_of t old).runs (turn_of t new key)) row_segment by_turn keys)
-      ∙ all_changed rows_total rows_exact row_key (λ k. is_key (run_in_row k)) row_segment (row_at_key t old) (row_at_key t new) keys same_rows
+      (flat_map-map (row_changes (live_of t old).runs) (turn_of t new) runs
+      ∙ flat_same (λ run. row_changes (live_of t old).runs (turn_of t new run)) row_segment by_turn runs)
+      ∙ all_changed rows_total rows_exact row_key (λ k. is_same_run (run_in_row k)) row_segment (row_at_key t old) (row_at_key t new) runs same_rows
       (live_of t old).rows (live_of t new).rows (rows_sorted t old) (rows_sorted t new) (find_row t old) (find_row t new) row_segments
 
   -- Turning runs, of which there are all for which another update counts now, makes the lists of the new table.
-  pub lived : live_after t new keys (live_of t old) ≡ live_of t new
+  pub lived : live_after t new runs (live_of t old) ≡ live_of t new
   lived = λ i. record { runs = runs_turned i; rows = rows_turned i }

@@ -6,7 +6,6 @@ use Rattle.std.proofs.lemmas.Bool.{and_parts}
 use Rattle.rt_types.specs.declared.descriptor.TripRef.{TripRef}
 use Rattle.rt_types.specs.declared.enums.TripRelation.{TripRelation}
 use Rattle.rt_types.specs.declared.enums.TripRelation.TheVariants as relation
-use Rattle.sched_types.specs.declared.rows.Run.{Run}
 use Rattle.sched_types.specs.Timetable.{Timetable, number_of, is_run, day_with_date}
 use Rattle.sched_types.specs.Departures.{departs_so}
 use Rattle.text_defs.specs.Dates.{date_in}

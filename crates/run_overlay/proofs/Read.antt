@@ -5,7 +5,6 @@ use Rattle.feed_defs.specs.History.{Change as EntityChange}
 use Rattle.sched_types.specs.declared.rows.Run.{Run}
 use Rattle.sched_types.specs.Timetable.{Timetable}
 use Rattle.board_defs.specs.Choice.{Update, chosen}
-use Rattle.run_overlay.specs.Keys.{run_key}
 use Rattle.run_overlay.specs.Kept.{FeedOverlay, chosen_in, overlay_of, run_by, told_run, told_update}
 use Rattle.run_overlay.specs.Updates.{updates_of}
 use Rattle.run_overlay.proofs.Lived.{find_run}
@@ -19,5 +18,5 @@ pub chosen_is : (t : Timetable) (entities : List EntityChange) (overlay : FeedOv
 unfolding overlay_of
 chosen_is t entities overlay is run =
     ap (λ (o : FeedOverlay). chosen_in o run) is
-    ∙ ap (option_map told_run) (find_run t (updates_of entities) (run_key run))
+    ∙ ap (option_map told_run) (find_run t (updates_of entities) run)
     ∙ told_by t run (chosen t (updates_of entities) run)

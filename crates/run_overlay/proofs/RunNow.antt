@@ -1,8 +1,9 @@
 -- What a run is now, by its first candidate and by what the table has under the id of that.
-use Rattle.std.proofs.Common.{◌≡◌, List, true, Option, Some, None, refl, sym, ap, ◌∙◌}
+use Rattle.std.proofs.Common.{◌≡◌, ℕ, List, true, Option, Some, None, refl, sym, ap, ◌∙◌}
 use Rattle.std.specs.Prelude.{IfSome}
 use Rattle.std.specs.FinMap.{find}
-use Rattle.std.specs.Option.{option_and_then, option_map}
+use Rattle.std.specs.Borrow.{Bor}
+use Rattle.std.specs.Option.{option_and_then, option_copied, option_map}
 use Rattle.rt_types.specs.declared.trip_update.TripUpdate.{TripUpdate}
 use Rattle.feed_defs.specs.declared.history.Stored.{Stored}
 use Rattle.feed_defs.specs.History.{Change as EntityChange}
@@ -14,7 +15,8 @@ use Rattle.board_defs.specs.Choice.{Update, chosen}
 use Rattle.sched_types.specs.Runs.{departures_of}
 use Rattle.run_overlay.specs.declared.candidate.Candidate.{Candidate}
 use Rattle.run_overlay.specs.declared.live_run.LiveRun.{LiveRun}
-use Rattle.run_overlay.specs.Keys.{id_cmp}
+use Rattle.run_overlay.specs.declared.row.LiveRow.{LiveRow}
+use Rattle.run_overlay.specs.Keys.{CandidateKey, id_cmp}
 use Rattle.run_overlay.specs.Kept.{IsTable, live_run, mentions_of, run_by}
 use Rattle.run_overlay.specs.Live.{live_place, rows_by}
 use Rattle.run_overlay.specs.Turning.{first_of, place_by, rows_with}
@@ -34,6 +36,11 @@ trip_held held = option_and_then (λ stored. stored.entity.trip_update) held
 -- a run with an update, as it is made
 abbrev pub run_with : Timetable → Run → Candidate → TripUpdate → LiveRun
 run_with t run c update = record { run = run; id = c.id; stamp = c.mention.stamp; rows = rows_with t run update }
+
+-- made of a copy of the id and of the departures
+pub made_of : (t : Timetable) (run : Run) (c : Candidate) (update : TripUpdate) (id : List ℕ) (rows : List LiveRow) → id ≡ c.id → rows ≡ rows_with t run update
+    → Some (record { run = run; id = id; stamp = c.mention.stamp; rows = rows }) ≡ Some (run_with t run c update)
+made_of t run c update id rows same are = λ i. Some (record { run = run; id = same i; stamp = c.mention.stamp; rows = are i })
 
 module _ (t : Timetable) (es : List EntityChange) (table : IsTable es) (run : Run) where
   abbrev Best : Option Update → Type 0
@@ -79,3 +86,15 @@ module _ (t : Timetable) (es : List EntityChange) (table : IsTable es) (run : Ru
 
   pub some_now : (c : Candidate) → first_of run (mentions_of t es).candidates ≡ Some c → IsNow c (trip_held (find id_cmp c.id es))
   some_now c first = by_some c (chosen t (updates_of es) run) refl (sym first_is ∙ first) (chosen_so t es table run)
+
+-- ---- by the candidate that is found first
+
+module _ (t : Timetable) (es : List EntityChange) (run : Run) (candidates : List (CandidateKey × Candidate)) (table : IsTable es) (are : candidates ≡ (mentions_of t es).candidates) where
+  first_by : (first : Option Candidate) → first ≡ first_of run candidates → first_of run (mentions_of t es).candidates ≡ first
+  first_by first is = sym (is ∙ ap (first_of run) are)
+
+  pub none_at : (first : Option (Bor Candidate)) → option_copied first ≡ first_of run candidates → first ≡ None → live_run t (updates_of es) run ≡ None
+  none_at first is none = none_now t es table run (first_by (option_copied first) is ∙ ap option_copied none)
+
+  pub some_at : (first : Option (Bor Candidate)) (c : Bor Candidate) → option_copied first ≡ first_of run candidates → first ≡ Some c → IsNow t es table run c.now (trip_held (find id_cmp c.now.id es))
+  some_at first c is some = some_now t es table run c.now (first_by (option_copied first) is ∙ ap option_copied some)

@@ -1,8 +1,9 @@
 -- The departures at a stop that are kept are those that are defined, each once and in order.
-use Rattle.std.proofs.Common.{◌≡◌, ℕ, ◌≤◌, List, [], ◌∷◌, Bool, true, false, ◌&&◌, cond, not, nat_eq, Option, Some, None, map, filter, count_by, ℤ, int_le, int_lt, refl, sym, ap, subst, ◌∙◌, Less, Equal, Greater, arith}
+use Rattle.std.proofs.Common.{◌≡◌, ℕ, ◌-◌, ◌≤◌, List, [], ◌∷◌, Bool, true, false, ◌&&◌, cond, not, nat_eq, Option, Some, None, map, filter, count_by, ℤ, int_le, int_lt, refl, sym, ap, subst, ◌∙◌, Less, Equal, Greater, arith}
 use Rattle.std.specs.Prelude.{T, length, take}
 use Rattle.std.specs.FinMap.{int_cmp-IsAntisymmetric, is_sorted, nat_cmp-IsAntisymmetric}
 use Rattle.std.specs.FinMap.Entries.{is_sorted-where_key}
+use Rattle.std.specs.Iterator.{YieldsFirst}
 use Rattle.std.specs.List.{AllByRecursion, flat_map}
 use Rattle.std.specs.Option.{option_map}
 use Rattle.std.specs.Ordering.{eq_by_cmp, int_cmp, is_lt, nat_cmp, ordering_then}
@@ -26,16 +27,15 @@ use Rattle.feed_defs.specs.History.{Change as EntityChange}
 use Rattle.run_overlay.specs.declared.row.LiveRow.{LiveRow}
 use Rattle.run_overlay.specs.declared.row.RowKey.{RowKey}
 use Rattle.run_overlay.specs.declared.slot.LiveSlot.{LiveSlot}
-use Rattle.run_overlay.specs.Keys.{row_cmp, row_key, run_key}
+use Rattle.run_overlay.specs.Keys.{row_cmp, row_key}
 use Rattle.run_overlay.specs.Kept.{FeedOverlay, live_of, overlay_of, slots_in}
 use Rattle.run_overlay.specs.Live.{is_at, is_between, live_between, live_place, live_row, live_rows, rows_by, sign_of, slot_cmp}
 use Rattle.run_overlay.specs.Orders.{rows_exact, rows_total}
 use Rattle.run_overlay.specs.Sought.{AreAhead, is_ahead, slots_ahead}
-use Rattle.run_overlay.specs.Turning.{run_of_key}
 use Rattle.run_overlay.specs.Updates.{updates_of}
 use Rattle.run_overlay.proofs.AllRuns.{is_this, run_once}
 use Rattle.keyed_lists.proofs.Entries.{HasItsKey, all_passing}
-use Rattle.run_overlay.proofs.Lived.{IsOfRun, key_tied, live_of_run, other_rows, run_in_row}
+use Rattle.run_overlay.proofs.Lived.{IsOfRun, live_of_run, other_rows, run_in_row, tie_is_same}
 use Rattle.keyed_lists.proofs.Once.{count_given, filter_of_map, filter_ordered, filter_twice, keys_total, none_counted, once_ordered}
 use Rattle.keyed_lists.proofs.Tables.{all_each, all_of, tie_same}
 
@@ -74,17 +74,17 @@ module _ (t : Timetable) (updates : List Update) where
   unfolding live_rows
   once_in_run k run = once_by k run (chosen t updates run)
 
-  none_in_others : (k : RowKey) (run : Run) → is_this t (run_of_key (run_in_row k)) run ≡ false → count_by (has_row k) (live_rows t updates run) ≡ 0
+  none_in_others : (k : RowKey) (run : Run) → is_this t (run_in_row k) run ≡ false → count_by (has_row k) (live_rows t updates run) ≡ 0
   none_in_others k run other =
       none_counted (has_row k) (live_rows t updates run)
-      (all_each (IsOfRun run) (λ row. has_row k row ≡ false) (other_rows k run (key_tied (run_in_row k) (run_key run) ∙ other)) (live_rows t updates run) (live_of_run t updates run))
+      (all_each (IsOfRun run) (λ row. has_row k row ≡ false) (other_rows k run (tie_is_same (run_in_row k) run ∙ other)) (live_rows t updates run) (live_of_run t updates run))
 
   abbrev all_rows : List LiveRow
   all_rows = flat_map (live_rows t updates) (all_runs t)
 
   pub row_once : (k : RowKey) → count_by (has_row k) all_rows ≤ 1
   row_once k =
-      once_flat (has_row k) (is_this t (run_of_key (run_in_row k))) (live_rows t updates) (none_in_others k) (once_in_run k) (all_runs t) (run_once t (run_of_key (run_in_row k)))
+      once_flat (has_row k) (is_this t (run_in_row k)) (live_rows t updates) (none_in_others k) (once_in_run k) (all_runs t) (run_once t (run_in_row k))
 
   -- ---- in order
 
@@ -296,3 +296,16 @@ module _ (stop : ℕ) (end : ℤ) where
     rising = record { sorted = second_so _ _ are.rising.sorted };
     from = are.from.1;
   }
+
+  -- What the first of those that are left gives: its departure where it is ahead, and else nothing is left.
+  pub first_gives : (row : LiveRow) (all rows : List LiveRow) (left : List LiveSlot) (given : Option LiveSlot) → all ≡ row ∷ rows → AreAhead stop all → left ≡ slots_ahead stop end all → given ≡ cond (is_ahead stop end row) (Some row.slot) None
+      → YieldsFirst (λ slots. slots) left given (slots_ahead stop end rows)
+  first_gives row all rows left given are ahead view is =
+      subst (λ o. YieldsFirst (λ slots. slots) left o (slots_ahead stop end rows)) (sym is)
+      (by_test (is_ahead stop end row) refl (view ∙ ap (slots_ahead stop end) are))
+    where
+      by_test : (b : Bool) → is_ahead stop end row ≡ b → left ≡ map (λ (r : LiveRow). r.slot) (cond (is_ahead stop end row) (row ∷ filter (is_ahead stop end) rows) (filter (is_ahead stop end) rows)) → YieldsFirst (λ slots. slots) left (cond b (Some row.slot) None) (slots_ahead stop end rows)
+      by_test true at was = was ∙ ap (λ b. map (λ (r : LiveRow). r.slot) (cond b (row ∷ filter (is_ahead stop end) rows) (filter (is_ahead stop end) rows))) at
+      by_test false at was =
+          let none : slots_ahead stop end rows ≡ [] = none_ahead row rows (subst (AreAhead stop) are ahead) at in
+          (was ∙ ap (λ b. map (λ (r : LiveRow). r.slot) (cond b (row ∷ filter (is_ahead stop end) rows) (filter (is_ahead stop end) rows))) at ∙ none, none)

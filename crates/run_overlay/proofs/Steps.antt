@@ -6,7 +6,7 @@ use Rattle.std.specs.FinMap.Entries.{length-put}
 use Rattle.std.specs.List.{dedup, dedup_from, list_any}
 use Rattle.std.specs.Str.{bytes_eq}
 use Rattle.std.proofs.lemmas.List.{length-append}
-use Rattle.rt_types.specs.declared.entity.Entity.{Entity}
+use Rattle.rt_types.specs.declared.message.Entity.{Entity}
 use Rattle.rt_types.specs.declared.message.FeedMessage.{FeedMessage}
 use Rattle.feed_defs.specs.History.{Change as EntityChange, changes_in, changes_with, changes_without, entities_after, is_full, is_kept, stamp_of}
 use Rattle.feed_defs.proofs.Applied.{sorted_changed}

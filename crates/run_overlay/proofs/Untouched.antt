@@ -18,12 +18,10 @@ use Rattle.sched_types.specs.Timetable.{Timetable}
 use Rattle.board_defs.specs.Choice.{Update, choice_cmp, chosen, is_about}
 use Rattle.shared_list.proofs.Middle.{second_so}
 use Rattle.run_overlay.specs.declared.id_changes.IdChange.{IdChange}
-use Rattle.run_overlay.specs.declared.run_key.RunKey.{RunKey}
 use Rattle.run_overlay.specs.Changing.{id_change_by, run_in, runs_of_id, touched_runs}
 use Rattle.run_overlay.specs.Keys.{id_cmp}
 use Rattle.run_overlay.specs.Kept.{IsTable, mentions_of}
-use Rattle.run_overlay.specs.Sought.{is_key}
-use Rattle.run_overlay.specs.Turning.{run_of_key}
+use Rattle.run_overlay.specs.Sought.{is_same_run}
 use Rattle.run_overlay.specs.Updates.{update_alone, updates_of}
 use Rattle.run_overlay.proofs.AllRuns.{any_flat, any_map}
 use Rattle.run_overlay.proofs.Choosing.{mentions, run_itself}
@@ -89,26 +87,23 @@ module _ {I : Type 0} {cmp : I → I → Ordering} (o : IsTotalOrder cmp) (exact
 
 -- ---- runs
 
-module _ (t : Timetable) (old new : List EntityChange) (was : IsTable old) (is : IsTable new) (ids : List (List ℕ)) (others : (id : List ℕ) → list_any (bytes_eq id) ids ≡ false → find id_cmp id new ≡ find id_cmp id old) (key : RunKey) where
+module _ (t : Timetable) (old new : List EntityChange) (was : IsTable old) (is : IsTable new) (ids : List (List ℕ)) (others : (id : List ℕ) → list_any (bytes_eq id) ids ≡ false → find id_cmp id new ≡ find id_cmp id old) (run : Run) where
   abbrev change_at : List ℕ → IdChange
   change_at id = id_change_by t (mentions_of t old).links new id
-
-  abbrev run : Run
-  run = run_of_key key
 
   -- what is held is about the run
   abbrev is_about_held : Stored → Bool
   is_about_held s = passing_option (is_about t run) (update_alone s)
 
   -- then its run is among those of its id
-  not_about : (held : Option Stored) → list_any (is_key key) (run_in (mention_held t held)) ≡ false → if_passing is_about_held held ≡ None
+  not_about : (held : Option Stored) → list_any (is_same_run run) (run_in (mention_held t held)) ≡ false → if_passing is_about_held held ≡ None
   not_about None none = refl
   not_about (Some s) none = by_update (update_alone s) refl where
     by_about : (u : Update) → update_alone s ≡ Some u → (b : Bool) → is_about t run u ≡ b → cond b (Some s) None ≡ None
     by_about u has false about = refl
     by_about u has true about =
-        let there : list_any (is_key key) (run_in (mention_held t (Some s))) ≡ true =
-        ap (λ m. list_any (is_key key) (run_in m)) (mentions t s u run has about) ∙ ap (λ b. b || false) (run_itself run) in
+        let there : list_any (is_same_run run) (run_in (mention_held t (Some s))) ≡ true =
+        ap (λ m. list_any (is_same_run run) (run_in m)) (mentions t s u run has about) ∙ ap (λ b. b || false) (run_itself run) in
         absurd (let clash : true ≡ false = sym there ∙ none in cc)
 
     by_update : (given : Option Update) → update_alone s ≡ given → cond (passing_option (is_about t run) given) (Some s) None ≡ None
@@ -120,25 +115,25 @@ module _ (t : Timetable) (old new : List EntityChange) (was : IsTable old) (is :
   before_mention id = before_is t old was id
 
   -- where no run of an id is this one, what is held under it is not about this run, neither before nor after
-  of_untouched : (id : List ℕ) → list_any (is_key key) (runs_of_id (change_at id)) ≡ false → if_passing is_about_held (find id_cmp id new) ≡ if_passing is_about_held (find id_cmp id old)
+  of_untouched : (id : List ℕ) → list_any (is_same_run run) (runs_of_id (change_at id)) ≡ false → if_passing is_about_held (find id_cmp id new) ≡ if_passing is_about_held (find id_cmp id old)
   of_untouched id none =
-      let parts = neither (list_any (is_key key) (run_in (change_at id).before)) (list_any (is_key key) (run_in (mention_held t (find id_cmp id new))))
-      (sym (list_any-append (is_key key) (run_in (change_at id).before) (run_in (mention_held t (find id_cmp id new)))) ∙ none) in
+      let parts = neither (list_any (is_same_run run) (run_in (change_at id).before)) (list_any (is_same_run run) (run_in (mention_held t (find id_cmp id new))))
+      (sym (list_any-append (is_same_run run) (run_in (change_at id).before) (run_in (mention_held t (find id_cmp id new)))) ∙ none) in
       not_about (find id_cmp id new) parts.1
-      ∙ sym (not_about (find id_cmp id old) (ap (λ m. list_any (is_key key) (run_in m)) (sym (before_mention id)) ∙ parts.0))
+      ∙ sym (not_about (find id_cmp id old) (ap (λ m. list_any (is_same_run run) (run_in m)) (sym (before_mention id)) ∙ parts.0))
 
-  module _ (none : list_any (is_key key) (touched_runs (map change_at ids)) ≡ false) where
-    none_by_id : list_any (λ id. list_any (is_key key) (runs_of_id (change_at id))) ids ≡ false
+  module _ (none : list_any (is_same_run run) (touched_runs (map change_at ids)) ≡ false) where
+    none_by_id : list_any (λ id. list_any (is_same_run run) (runs_of_id (change_at id))) ids ≡ false
     none_by_id =
         sym
-        (any_flat (is_key key) runs_of_id (map change_at ids)
-        ∙ any_map (λ one. list_any (is_key key) (runs_of_id one)) change_at ids)
+        (any_flat (is_same_run run) runs_of_id (map change_at ids)
+        ∙ any_map (λ one. list_any (is_same_run run) (runs_of_id one)) change_at ids)
         ∙ none
 
     same_held : (id : List ℕ) → if_passing is_about_held (find id_cmp id new) ≡ if_passing is_about_held (find id_cmp id old)
     same_held id = by_among (list_any (bytes_eq id) ids) refl where
       by_among : (b : Bool) → list_any (bytes_eq id) ids ≡ b → if_passing is_about_held (find id_cmp id new) ≡ if_passing is_about_held (find id_cmp id old)
-      by_among true among = of_untouched id (none_of_any (λ i. list_any (is_key key) (runs_of_id (change_at i))) ids id none_by_id among)
+      by_among true among = of_untouched id (none_of_any (λ i. list_any (is_same_run run) (runs_of_id (change_at i))) ids id none_by_id among)
       by_among false apart = ap (if_passing is_about_held) (others id apart)
 
     abbrev about_in : List EntityChange → List EntityChange

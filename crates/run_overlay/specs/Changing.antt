@@ -8,15 +8,15 @@ use Rattle.shared_list.specs.declared.change.Change.{Change}
 use Rattle.shared_list.specs.declared.change.Change.TheVariants.{Put, Remove}
 use Rattle.feed_defs.specs.declared.history.Stored.{Stored}
 use Rattle.feed_defs.specs.History.{Change as EntityChange}
+use Rattle.sched_types.specs.declared.rows.Run.{Run}
 use Rattle.sched_types.specs.Timetable.{Timetable}
 use Rattle.run_overlay.specs.declared.candidate.Candidate.{Candidate}
 use Rattle.run_overlay.specs.declared.link.Link.{Link}
 use Rattle.run_overlay.specs.declared.mention.Mention.{Mention}
 use Rattle.run_overlay.specs.declared.id_changes.IdBefore.{IdBefore}
 use Rattle.run_overlay.specs.declared.id_changes.IdChange.{IdChange}
-use Rattle.run_overlay.specs.declared.run_key.RunKey.{RunKey}
 use Rattle.keyed_lists.specs.Keyed.{changed}
-use Rattle.run_overlay.specs.Keys.{CandidateKey, id_cmp, link_key, stored_key, candidate_key, candidate_cmp, run_key}
+use Rattle.run_overlay.specs.Keys.{CandidateKey, id_cmp, link_key, stored_key, candidate_key, candidate_cmp}
 use Rattle.run_overlay.specs.Kept.{Mentions, FeedOverlay, IsTable, if_added, overlay_of}
 use Rattle.run_overlay.specs.Updates.{about_held, about_stored, mention_in}
 
@@ -72,7 +72,7 @@ link_changes one = link_change one.id one.before (mention_now one)
 -- what was a candidate goes, and what is one comes
 abbrev pub going : List ℕ → Option Mention → List (Change Candidate CandidateKey)
 going id None = []
-going id (Some mention) = Remove (run_key mention.run, Some (mention.stamp, id)) ∷ []
+going id (Some mention) = Remove (mention.run, Some (mention.stamp, id)) ∷ []
 
 abbrev pub coming : List ℕ → Option Mention → List (Change Candidate CandidateKey)
 coming id None = []
@@ -108,13 +108,13 @@ mentions_after table changes kept = record {
 
 -- ---- which runs it touches
 
-abbrev pub run_in : Option Mention → List RunKey
+abbrev pub run_in : Option Mention → List Run
 run_in None = []
-run_in (Some mention) = run_key mention.run ∷ []
+run_in (Some mention) = mention.run ∷ []
 
 -- the run that an id's update was about, and the one that it is about now
-abbrev pub runs_of_id : IdChange → List RunKey
+abbrev pub runs_of_id : IdChange → List Run
 runs_of_id one = run_in one.before ++ run_in (mention_now one)
 
-abbrev pub touched_runs : List IdChange → List RunKey
+abbrev pub touched_runs : List IdChange → List Run
 touched_runs changes = flat_map runs_of_id changes

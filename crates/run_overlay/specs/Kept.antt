@@ -16,10 +16,9 @@ use Rattle.run_overlay.specs.declared.mention.About.{About}
 use Rattle.run_overlay.specs.declared.mention.About.TheVariants as about
 use Rattle.run_overlay.specs.declared.row.LiveRow.{LiveRow}
 use Rattle.run_overlay.specs.declared.row.RowKey.{RowKey}
-use Rattle.run_overlay.specs.declared.run_key.RunKey.{RunKey}
 use Rattle.run_overlay.specs.declared.slot.LiveSlot.{LiveSlot}
 use Rattle.keyed_lists.specs.Keyed.{by_key}
-use Rattle.run_overlay.specs.Keys.{CandidateKey, id_cmp, link_key, stored_key, candidate_key, candidate_cmp, run_key, run_cmp, live_run_key, row_key, row_cmp}
+use Rattle.run_overlay.specs.Keys.{CandidateKey, id_cmp, link_key, stored_key, candidate_key, candidate_cmp, run_cmp, live_run_key, row_key, row_cmp}
 use Rattle.run_overlay.specs.Live.{is_at, is_between, live_rows, rows_by}
 use Rattle.run_overlay.specs.Updates.{about_stored, mention_in, updates_of}
 
@@ -71,7 +70,7 @@ live_run t updates run = option_map (run_by t run) (chosen t updates run)
 
 -- the runs with such an update, and all their departures, by stops
 pub record LiveKept : Type 0 where
-  pub runs : List (RunKey × LiveRun)
+  pub runs : List (Run × LiveRun)
   pub rows : List (RowKey × LiveRow)
 
 unfoldable pub live_of : Timetable → List Update → LiveKept
@@ -112,7 +111,7 @@ told_update u = (u.id, u.stamp)
 
 abbrev pub chosen_in : FeedOverlay → Run → Option (List ℕ × ℕ)
 chosen_in overlay run =
-    option_map told_run (find run_cmp (run_key run) overlay.live.runs)
+    option_map told_run (find run_cmp run overlay.live.runs)
 
 -- the departures at a stop that are expected from one instant on and before another
 abbrev pub slots_in : FeedOverlay → ℕ → ℤ → ℤ → List LiveSlot

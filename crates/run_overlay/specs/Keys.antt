@@ -11,7 +11,6 @@ use Rattle.run_overlay.specs.declared.link.Link.{Link}
 use Rattle.run_overlay.specs.declared.live_run.LiveRun.{LiveRun}
 use Rattle.run_overlay.specs.declared.row.LiveRow.{LiveRow}
 use Rattle.run_overlay.specs.declared.row.RowKey.{RowKey}
-use Rattle.run_overlay.specs.declared.run_key.RunKey.{RunKey}
 
 -- by the bytes of an entity's id
 abbrev pub id_cmp : List ℕ → List ℕ → Ordering
@@ -24,26 +23,23 @@ abbrev pub stored_key : Stored → List ℕ
 stored_key stored = stored.entity.id
 
 -- by the trip and then by the day
-abbrev pub run_key : Run → RunKey
-run_key run = record { trip = run.trip; day = run.day }
-
-abbrev pub run_cmp : RunKey → RunKey → Ordering
+abbrev pub run_cmp : Run → Run → Ordering
 run_cmp a b = ordering_then (nat_cmp a.trip b.trip) (nat_cmp a.day b.day)
 
-abbrev pub live_run_key : LiveRun → RunKey
-live_run_key live = run_key live.run
+abbrev pub live_run_key : LiveRun → Run
+live_run_key live = live.run
 
 -- Updates about runs go by the run, and those of one run as they count, the one that counts most first: by the later
 -- stamp, and then by the greater id. A run without an update goes before them.
 abbrev pub CandidateKey : Type 0
-CandidateKey = RunKey × Option (ℕ × List ℕ)
+CandidateKey = Run × Option (ℕ × List ℕ)
 
 abbrev pub weight_cmp : ℕ × List ℕ → ℕ × List ℕ → Ordering
 weight_cmp a b = ordering_then (nat_cmp b.0 a.0) (slice_cmp nat_cmp b.1 a.1)
 
 abbrev pub candidate_key : Candidate → CandidateKey
 candidate_key candidate =
-    (run_key candidate.mention.run, Some (candidate.mention.stamp, candidate.id))
+    (candidate.mention.run, Some (candidate.mention.stamp, candidate.id))
 
 abbrev pub candidate_cmp : CandidateKey → CandidateKey → Ordering
 candidate_cmp a b = ordering_then (run_cmp a.0 b.0) (option_cmp weight_cmp a.1 b.1)

@@ -3,25 +3,25 @@ use Rattle.std.specs.Prelude.{ℕ, ◌≤◌, Bool, ◌&&◌, ◌==◌, Some, Li
 use Rattle.std.specs.Borrow.{Bor}
 use Rattle.std.specs.List.{AllByRecursion}
 use Rattle.shared_list.specs.Order.{Rises}
+use Rattle.sched_types.specs.declared.rows.Run.{Run}
 use Rattle.run_overlay.specs.declared.candidate.CandidateAt.{CandidateAt}
 use Rattle.run_overlay.specs.declared.row.LiveRow.{LiveRow}
 use Rattle.run_overlay.specs.declared.row.RowKey.{RowKey}
-use Rattle.run_overlay.specs.declared.run_key.RunKey.{RunKey}
 use Rattle.run_overlay.specs.declared.slot.LiveSlot.{LiveSlot}
-use Rattle.run_overlay.specs.Keys.{CandidateKey, row_cmp, row_key, run_key}
+use Rattle.run_overlay.specs.Keys.{CandidateKey, row_cmp, row_key}
 
 abbrev pub id_at : Bor (List ℕ) → List ℕ
 id_at id = id.now
 
 abbrev pub candidate_at : CandidateAt → CandidateKey
-candidate_at c = (run_key c.mention.run, Some (c.mention.stamp, c.id.now))
+candidate_at c = (c.mention.run, Some (c.mention.stamp, c.id.now))
 
 abbrev pub row_at : Bor LiveRow → RowKey
 row_at row = row_key row.now
 
--- a key is that one
-abbrev pub is_key : RunKey → RunKey → Bool
-is_key key other = (other.trip == key.trip) && (other.day == key.day)
+-- a run is that one
+abbrev pub is_same_run : Run → Run → Bool
+is_same_run run other = (other.trip == run.trip) && (other.day == run.day)
 
 -- ---- departures ahead
 

@@ -20,7 +20,6 @@ use Rattle.run_overlay.specs.declared.candidate.Candidate.{Candidate}
 use Rattle.run_overlay.specs.declared.live_run.LiveRun.{LiveRun}
 use Rattle.run_overlay.specs.declared.row.LiveRow.{LiveRow}
 use Rattle.run_overlay.specs.declared.row.RowKey.{RowKey}
-use Rattle.run_overlay.specs.declared.run_key.RunKey.{RunKey}
 use Rattle.run_overlay.specs.declared.turns.Turn.{Turn}
 use Rattle.keyed_lists.specs.Keyed.{changed}
 use Rattle.run_overlay.specs.Keys.{CandidateKey, row_cmp, row_key, run_cmp, live_run_key}
@@ -57,18 +56,15 @@ first_of run candidates =
 
 -- ---- what becomes of runs that are touched
 
-abbrev pub run_of_key : RunKey → Run
-run_of_key key = record { trip = key.trip; day = key.day }
-
 -- a run, and what it is now, if an update counts for it
-abbrev pub turn_of : Timetable → List Update → RunKey → Turn
-turn_of t updates key = record { run = key; now = live_run t updates (run_of_key key) }
+abbrev pub turn_of : Timetable → List Update → Run → Turn
+turn_of t updates run = record { run = run; now = live_run t updates run }
 
-abbrev pub turned_run : RunKey → Option LiveRun → Change LiveRun RunKey
-turned_run key None = Remove key
-turned_run key (Some live) = Put live
+abbrev pub turned_run : Run → Option LiveRun → Change LiveRun Run
+turned_run run None = Remove run
+turned_run run (Some live) = Put live
 
-abbrev pub run_change : Turn → Change LiveRun RunKey
+abbrev pub run_change : Turn → Change LiveRun Run
 run_change turn = turned_run turn.run turn.now
 
 -- the departures of a run that has an update
@@ -77,14 +73,14 @@ rows_kept None = []
 rows_kept (Some live) = live.rows
 
 -- those that it had go, and those that it has come
-abbrev pub row_changes : List (RunKey × LiveRun) → Turn → List (Change LiveRow RowKey)
+abbrev pub row_changes : List (Run × LiveRun) → Turn → List (Change LiveRow RowKey)
 row_changes runs turn =
     map (λ row. Remove (row_key row)) (rows_kept (find run_cmp turn.run runs))
     ++ map Put (rows_kept turn.now)
 
-abbrev pub live_after : Timetable → List Update → List RunKey → LiveKept → LiveKept
-live_after t updates keys kept =
-    let turns = map (turn_of t updates) keys in
+abbrev pub live_after : Timetable → List Update → List Run → LiveKept → LiveKept
+live_after t updates runs kept =
+    let turns = map (turn_of t updates) runs in
     record {
       runs = changed run_cmp live_run_key kept.runs (map run_change turns);
       rows = changed row_cmp row_key kept.rows (flat_map (row_changes kept.runs) turns);

@@ -1,8 +1,8 @@
 //! The departures at a stop between two instants, one after another.
 
-ghost use Rattle.std.specs.Prelude.{◌≡◌};
+ghost use Rattle.std.specs.Prelude.{◌≡◌, if◌then◌else◌, Some, None};
 ghost use Rattle.std.specs.Iterator.{YieldsFirst, item_count};
-ghost use Rattle.run_overlay.specs.Sought.{slots_ahead, AreAhead};
+ghost use Rattle.run_overlay.specs.Sought.{is_ahead, slots_ahead, AreAhead};
 
 use crate::row::LiveRow;
 use crate::slot::LiveSlot;
@@ -37,10 +37,21 @@ impl<'a> AtStop<'a> {
     /// Those of the departures that are at the stop and are expected before `end`. None of them is at a stop with a lower
     /// number.
     pub(crate) fn among(rows: Iter<'a, LiveRow>, stop: u32, end: i64) -> AtStop<'a>
-        requires { AreAhead stop rows.entry }
+        requires { AreAhead stop rows }
         ensures { result ≡ slots_ahead stop end rows.entry }
     {
         AtStop { rows, stop, end }
+    }
+}
+
+/// The departure, if it is at the stop and is expected before `end`.
+fn slot_ahead(row: &LiveRow, stop: u32, end: i64) -> Option<LiveSlot>
+    ensures { result ≡ if is_ahead stop end row.now then Some row.now.slot else None }
+{
+    if row.stop == stop && row.slot.at < end {
+        Some(row.slot)
+    } else {
+        None
     }
 }
 
@@ -53,10 +64,6 @@ impl<'a> Iterator for AtStop<'a> {
 
     fn next(&mut self) -> Option<LiveSlot> {
         let row = self.rows.next()?;
-        if row.stop == self.stop && row.slot.at < self.end {
-            Some(row.slot)
-        } else {
-            None
-        }
+        slot_ahead(row, self.stop, self.end)
     }
 }

@@ -2,11 +2,9 @@
 
 ghost use Rattle.std.specs.Prelude.{◌≡◌};
 ghost use Rattle.std.specs.Ordering.{ordering_then};
-ghost use Rattle.run_overlay.specs.Keys as rule;
 
 use crate::NoMemory;
 use crate::mention::Mention;
-use crate::run_key::RunKey;
 use copying::Copied;
 use rt_types::Text;
 use sched_types::Run;
@@ -32,7 +30,7 @@ pub(crate) struct CandidateAt<'a> {
 /// Where the updates of a run begin.
 #[derive(Clone, Copy)]
 pub(crate) struct FirstOf {
-    pub(crate) run: RunKey,
+    pub(crate) run: Run,
 }
 
 /// By the one, then by the next, then by the last.
@@ -40,13 +38,6 @@ fn in_turn(run: Ordering, stamp: Ordering, id: Ordering) -> Ordering
     ensures { result ≡ ordering_then run (ordering_then stamp id) }
 {
     run.then(stamp.then(id))
-}
-
-/// How one run is ordered to another.
-fn run_order(run: Run, other: RunKey) -> Ordering
-    ensures { result ≡ rule.run_cmp (rule.run_key run) other }
-{
-    RunKey::of(run).cmp(&other)
 }
 
 impl Copied for Candidate {
@@ -60,7 +51,7 @@ impl Copied for Candidate {
 
 impl Keyed for Candidate {
     // The run, and the stamp and the id of an update.
-    type Key = (RunKey, Option<(u64, Text)>);
+    type Key = (Run, Option<(u64, Text)>);
 
     ghost use Rattle.run_overlay.specs.Keys.{candidate_key, candidate_cmp};
     ghost use Rattle.run_overlay.specs.Orders.{candidates_total, candidates_exact};
@@ -71,7 +62,7 @@ impl Keyed for Candidate {
 
     fn order(&self, other: &Self) -> Ordering {
         in_turn(
-            run_order(self.mention.run, RunKey::of(other.mention.run)),
+            self.mention.run.cmp(&other.mention.run),
             other.mention.stamp.cmp(&self.mention.stamp),
             other.id.order(self.id.as_str()),
         )
@@ -84,13 +75,12 @@ impl Keyed for Candidate {
 
 impl<'a> KeyFor<Candidate> for CandidateAt<'a> {
     ghost use Rattle.std.specs.Prelude.{Some};
-    ghost use Rattle.run_overlay.specs.Keys.{run_key};
 
-    ghost sought = { λ c. (run_key c.mention.run, Some (c.mention.stamp, c.id.now)) };
+    ghost sought = { λ c. (c.mention.run, Some (c.mention.stamp, c.id.now)) };
 
     fn order_of(&self, candidate: &Candidate) -> Ordering {
         in_turn(
-            run_order(candidate.mention.run, RunKey::of(self.mention.run)),
+            candidate.mention.run.cmp(&self.mention.run),
             self.mention.stamp.cmp(&candidate.mention.stamp),
             self.id.cmp(candidate.id.as_str()),
         )
@@ -104,6 +94,6 @@ impl KeyFor<Candidate> for FirstOf {
     ghost sought = { λ first. (first.run, None) };
 
     fn order_of(&self, candidate: &Candidate) -> Ordering {
-        run_order(candidate.mention.run, self.run).then(Ordering::Greater)
+        candidate.mention.run.cmp(&self.run).then(Ordering::Greater)
     }
 }

@@ -7,7 +7,6 @@ ghost use Rattle.run_overlay.specs.Keys.{id_cmp};
 ghost use Rattle.run_overlay.specs.Turning.{first_of, is_of_run};
 
 use crate::candidate::{Candidate, FirstOf};
-use crate::run_key::RunKey;
 use entity_table::{Stored, Table};
 use rt_types::TripUpdate;
 use sched_types::Run;
@@ -27,9 +26,7 @@ pub(crate) fn first_candidate<'a>(
 ) -> Option<&'a Candidate>
     ensures { option_copied result ≡ first_of run candidates.entry.now }
 {
-    let mut from = candidates.from(FirstOf {
-        run: RunKey::of(run),
-    });
+    let mut from = candidates.from(FirstOf { run });
     let first = from.next()?;
     if is_of_run(first, run) {
         Some(first)

@@ -27,7 +27,6 @@
 
 mod at_stop;
 mod candidate;
-mod changes;
 mod found;
 mod id_changes;
 mod link;
@@ -39,7 +38,6 @@ mod message_ids;
 mod overlay;
 mod places;
 mod row;
-mod run_key;
 mod shown;
 mod slot;
 mod turns;

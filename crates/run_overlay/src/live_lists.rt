@@ -14,14 +14,13 @@ ghost use Rattle.run_overlay.specs.Updates.{updates_of};
 
 use crate::NoMemory;
 use crate::candidate::Candidate;
-use crate::changes::changed;
 use crate::live_run::LiveRun;
 use crate::row::LiveRow;
-use crate::run_key::RunKey;
 use crate::turns::{Turn, turns_of};
 use delay_rule::Steps;
 use entity_table::Table;
-use sched_types::Plan;
+use keyed_lists::changed;
+use sched_types::{Plan, Run};
 use shared_list::{Change, SharedList};
 use std::alloc::Global;
 use std::marker::Model;
@@ -61,7 +60,7 @@ impl LiveLists {
         plan: &Plan,
         table: &Table,
         candidates: &SharedList<Candidate>,
-        runs: &[RunKey],
+        runs: &[Run],
         steps: &mut Steps<L>,
     ) -> Result<LiveLists, NoMemory>
         requires { candidates.now ≡ (mentions_of plan.now table.now).candidates }
@@ -138,7 +137,7 @@ fn push_turn<'a>(
     out: &mut Vec<Change<LiveRow, &'a LiveRow>>,
 ) -> Result<(), NoMemory>
     ensures { OnOk result (naming_keys row_at out.new.items
-        ≡ naming_keys row_at out.old.items ++ rule.row_changes runs.entry.now turn.now) }
+        ≡ naming_keys row_at out.old.items ++ rule.row_changes runs.entry.now turn.entry.now) }
 {
     push_going(rows_of(runs.get(turn.run)), out)?;
     push_coming(rows_of(turn.now.as_ref()), out)
@@ -161,7 +160,7 @@ fn row_changes<'a>(
 }
 
 /// What a turn changes of the runs.
-fn run_change(turn: Turn) -> Change<LiveRun, RunKey>
+fn run_change(turn: Turn) -> Change<LiveRun, Run>
     ensures { result ≡ rule.run_change turn }
 {
     match turn.now {
@@ -171,7 +170,7 @@ fn run_change(turn: Turn) -> Change<LiveRun, RunKey>
 }
 
 /// What turns change of the runs; or out of memory.
-fn run_changes(alloc: Global, turns: Vec<Turn>) -> Result<Vec<Change<LiveRun, RunKey>>, NoMemory>
+fn run_changes(alloc: Global, turns: Vec<Turn>) -> Result<Vec<Change<LiveRun, Run>>, NoMemory>
     ensures { IfOk result (λ changes. changes.items ≡ map rule.run_change turns.items) }
 {
     let mut changes = Vec::with_capacity(alloc, turns.len())?;

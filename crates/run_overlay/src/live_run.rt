@@ -2,7 +2,6 @@
 
 use crate::NoMemory;
 use crate::row::LiveRow;
-use crate::run_key::RunKey;
 use copying::Copied;
 use rt_types::{Items, Shared, Text};
 use sched_types::Run;
@@ -33,7 +32,7 @@ impl Copied for LiveRun {
 }
 
 impl Keyed for LiveRun {
-    type Key = RunKey;
+    type Key = Run;
 
     ghost use Rattle.run_overlay.specs.Keys.{live_run_key, run_cmp};
     ghost use Rattle.run_overlay.specs.Orders.{runs_total, runs_exact};
@@ -43,7 +42,7 @@ impl Keyed for LiveRun {
     ghost key_cmp = { run_cmp };
 
     fn order(&self, other: &Self) -> Ordering {
-        RunKey::of(self.run).cmp(&RunKey::of(other.run))
+        self.run.cmp(&other.run)
     }
 
     ghost total = { runs_total };
@@ -51,10 +50,10 @@ impl Keyed for LiveRun {
     ghost exact = { runs_exact };
 }
 
-impl KeyFor<LiveRun> for RunKey {
+impl KeyFor<LiveRun> for Run {
     ghost sought = { λ key. key };
 
     fn order_of(&self, live: &LiveRun) -> Ordering {
-        RunKey::of(live.run).cmp(self)
+        live.run.cmp(self)
     }
 }

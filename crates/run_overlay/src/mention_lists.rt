@@ -10,12 +10,12 @@ ghost use Rattle.run_overlay.specs.Sought.{candidate_at, id_at};
 
 use crate::NoMemory;
 use crate::candidate::{Candidate, CandidateAt};
-use crate::changes::changed;
 use crate::id_changes::IdChange;
 use crate::link::Link;
 use crate::mention::{About, mention_in};
 use copying::Copied;
 use entity_table::{SharedStored, Stored, Table};
+use keyed_lists::changed;
 use shared_list::{Change, SharedList};
 use std::alloc::Global;
 use std::marker::Model;

@@ -19,7 +19,6 @@ use crate::live_lists::LiveLists;
 use crate::mention_lists::MentionLists;
 use crate::message_ids::MessageIds;
 use crate::row::RowKey;
-use crate::run_key::RunKey;
 use crate::turns::touched_runs;
 use delay_rule::Steps;
 use entity_table::{SharedStored, Table};
@@ -164,7 +163,7 @@ impl Overlay {
         ensures said { (t : Timetable) (entities : List Change) → self.entry.now ≡ overlay_of t entities
             → option_map told result ≡ option_map told_update (chosen t (updates_of entities) run) }
     {
-        match self.live.runs().get(RunKey::of(run)) {
+        match self.live.runs().get(run) {
             Some(live) => Some(Chosen {
                 id: &live.id,
                 stamp: live.stamp,

@@ -2,10 +2,10 @@
 
 ghost use Rattle.std.specs.Prelude.{◌≡◌, ◌+◌, ◌≤◌, ◌++◌, length, map, IfOk, OnOk};
 ghost use Rattle.std.specs.List.{list_any};
-ghost use Rattle.run_overlay.specs.declared.run_key.RunKey.{RunKey};
+ghost use Rattle.sched_types.specs.declared.rows.Run.{Run};
 ghost use Rattle.run_overlay.specs.Changing as changing;
 ghost use Rattle.run_overlay.specs.Kept.{live_run, mentions_of};
-ghost use Rattle.run_overlay.specs.Sought.{is_key};
+ghost use Rattle.run_overlay.specs.Sought.{is_same_run};
 ghost use Rattle.run_overlay.specs.Turning as rule;
 ghost use Rattle.run_overlay.specs.Updates.{updates_of};
 
@@ -16,7 +16,6 @@ use crate::id_changes::IdChange;
 use crate::live_run::LiveRun;
 use crate::mention::{Mention, mention_in};
 use crate::places::rows_of_run;
-use crate::run_key::RunKey;
 use copying::Copied;
 use delay_rule::Steps;
 use entity_table::Table;
@@ -29,22 +28,22 @@ use std::sync::ledger::Ledger;
 /// A run, and what it is now, if an update counts for it.
 #[derive(Drop)]
 pub(crate) struct Turn {
-    pub(crate) run: RunKey,
+    pub(crate) run: Run,
     pub(crate) now: Option<LiveRun>,
 }
 
 /// Appends the run of a mention, if there is one.
-fn push_run(mention: Option<Mention>, runs: &mut Vec<RunKey>) -> Result<(), NoMemory>
+fn push_run(mention: Option<Mention>, runs: &mut Vec<Run>) -> Result<(), NoMemory>
     ensures { OnOk result (runs.new.items ≡ runs.old.items ++ changing.run_in mention) }
 {
     if let Some(mention) = mention {
-        runs.push(RunKey::of(mention.run))?;
+        runs.push(mention.run)?;
     }
     Ok(())
 }
 
 /// The runs that updates were about before the changes and those that they are about now, id by id; or out of memory.
-fn all_runs(alloc: Global, ids: &[IdChange]) -> Result<Vec<RunKey>, NoMemory>
+fn all_runs(alloc: Global, ids: &[IdChange]) -> Result<Vec<Run>, NoMemory>
     ensures { IfOk result (λ runs. runs.items ≡ changing.touched_runs ids.now) }
 {
     let mut runs = Vec::new(alloc);
@@ -56,9 +55,9 @@ fn all_runs(alloc: Global, ids: &[IdChange]) -> Result<Vec<RunKey>, NoMemory>
 }
 
 /// The same, each once; or out of memory.
-pub(crate) fn touched_runs(alloc: Global, ids: &[IdChange]) -> Result<Vec<RunKey>, NoMemory>
-    ensures all { IfOk result (λ runs. (key : RunKey)
-        → list_any (is_key key) runs.items ≡ list_any (is_key key) (changing.touched_runs ids.now)) }
+pub(crate) fn touched_runs(alloc: Global, ids: &[IdChange]) -> Result<Vec<Run>, NoMemory>
+    ensures all { IfOk result (λ runs. (run : Run) → list_any (is_same_run run) runs.items
+        ≡ list_any (is_same_run run) (changing.touched_runs ids.now)) }
     ensures few { IfOk result (λ runs. length runs.items ≤ length (changing.touched_runs ids.now)) }
 {
     let mut runs = all_runs(alloc, ids)?;
@@ -103,7 +102,7 @@ pub(crate) fn turns_of<L: Ledger>(
     plan: &Plan,
     table: &Table,
     candidates: &SharedList<Candidate>,
-    runs: &[RunKey],
+    runs: &[Run],
     steps: &mut Steps<L>,
 ) -> Result<Vec<Turn>, NoMemory>
     requires { candidates.now ≡ (mentions_of plan.now table.now).candidates }
@@ -112,9 +111,9 @@ pub(crate) fn turns_of<L: Ledger>(
     ensures few { steps.new ≤ steps.old + length runs.now }
 {
     let mut turns = Vec::with_capacity(alloc, runs.len())?;
-    for key in runs {
-        let run = *key;
-        let now = run_now(alloc, plan, table, candidates, run.run(), steps)?;
+    for run in runs {
+        let run = *run;
+        let now = run_now(alloc, plan, table, candidates, run, steps)?;
         turns.push(Turn { run, now })?;
     }
     Ok(turns)

@@ -1,40 +1,35 @@
 -- The first departure is handed out where it is ahead; where it is not, none is.
-use Rattle.std.proofs.Common.{◌≡◌, [], ◌∷◌, map, filter, cond, length, sym, ap, subst, ◌∙◌, rules}
-use Rattle.run_overlay.specs.declared.row.LiveRow.{LiveRow}
+use Rattle.std.proofs.Common.{◌≡◌, List, [], Option, Some, None, cond, length, w64, SFits, sym, ap, subst, ◌∙◌, rules}
+use Rattle.std.proofs.lemmas.Int.{to_z-of_z}
+use Rattle.std.specs.Iterator.{MakesProgress, YieldsFirst, item_count}
+use Rattle.run_overlay.specs.declared.slot.LiveSlot.{LiveSlot}
 use Rattle.run_overlay.specs.Sought.{AreAhead, is_ahead, slots_ahead}
-use Rattle.run_overlay.proofs.Slots.{none_ahead, rest_ahead}
+use Rattle.run_overlay.proofs.Slots.{first_gives, rest_ahead}
 use Rattle.run_overlay.proofs.at_stop.AtStopIterator.next.Goals as goal
 
--- What is shown of c.next: nothing was left, or `row` was the first of c.self.inside.rows.
+-- an iterator that shows what is left comes nearer to its end with each item
+nearer : (r : Option LiveSlot) (s t : List LiveSlot) → YieldsFirst (λ left. left) s r t → MakesProgress (λ left. Unit {0}) (item_count (λ left. left)) s r t
+nearer None s t steps = search rules
+nearer (Some slot) s t steps = search (rules, ap length steps)
 
 pub invariant_of-self : goal.invariant_of-self
 invariant_of-self c = subst (AreAhead c.self.inside.stop) (sym c.in_err-row.ensures.steps.1) (record { rising = record { sorted = tt }; from = tt })
 
 pub returns-in_err-row-clause-steps : goal.returns-in_err-row-clause-steps
 returns-in_err-row-clause-steps c =
-    let none : slots_ahead c.self.inside.stop c.self.inside.end c.self.inside.rows ≡ [] = ap (slots_ahead c.self.inside.stop c.self.inside.end) c.in_err-row.ensures.steps.0 in
+    let none : c.args.self.now ≡ [] = sym c.self.view_is ∙ ap (slots_ahead c.self.inside.stop c.self.inside.end) c.in_err-row.ensures.steps.0 in
     let after : slots_ahead c.self.inside.stop c.self.inside.end c.next.new.self ≡ [] = ap (slots_ahead c.self.inside.stop c.self.inside.end) c.in_err-row.ensures.steps.1 in
-    (sym c.self.view_is ∙ none, after)
+    rw c.from_residual.ensures (none, after)
 
 pub invariant_of-self-2 : goal.invariant_of-self-2
-invariant_of-self-2 c = rest_ahead c.self.inside.stop c.in_ok-row.row.now c.next.new.self (subst (AreAhead c.self.inside.stop) c.in_ok-row.ensures.steps c.self.invariant)
+invariant_of-self-2 c = rest_ahead c.self.inside.stop c.self.inside.end c.in_ok-row.row.now c.next.new.self (subst (AreAhead c.self.inside.stop) c.in_ok-row.ensures.steps c.self.invariant)
 
-pub returns-then : goal.returns-then
-returns-then c =
-    let ahead : is_ahead c.self.inside.stop c.self.inside.end c.in_ok-row.row.now ≡ true = search rules in
-    let steps : c.args.self.now ≡ c.in_ok-row.row.now.slot ∷ slots_ahead c.self.inside.stop c.self.inside.end c.next.new.self =
-    sym c.self.view_is
-    ∙ ap (slots_ahead c.self.inside.stop c.self.inside.end) c.in_ok-row.ensures.steps
-    ∙ ap (λ b. map (λ (r : LiveRow). r.slot) (cond b (c.in_ok-row.row.now ∷ filter (is_ahead c.self.inside.stop c.self.inside.end) c.next.new.self) (filter (is_ahead c.self.inside.stop c.self.inside.end) c.next.new.self))) ahead in
-    record { steps = steps; goes = search (rules, ap length steps) }
+pub returns-clause-steps : goal.returns-clause-steps
+returns-clause-steps c =
+    let fits : SFits w64 c.self.inside.end = search rules in
+    first_gives c.self.inside.stop c.self.inside.end c.in_ok-row.row.now c.self.inside.rows c.next.new.self c.args.self.now c.slot_ahead.result
+    c.in_ok-row.ensures.steps c.self.invariant (sym c.self.view_is)
+    (c.slot_ahead.ensures ∙ ap (λ end. cond (is_ahead c.self.inside.stop end c.in_ok-row.row.now) (Some c.in_ok-row.row.now.slot) None) (to_z-of_z w64 c.self.inside.end fits))
 
-pub returns-else : goal.returns-else
-returns-else c =
-    let past : is_ahead c.self.inside.stop c.self.inside.end c.in_ok-row.row.now ≡ false = search rules in
-    let after : slots_ahead c.self.inside.stop c.self.inside.end c.next.new.self ≡ [] =
-    none_ahead c.self.inside.stop c.self.inside.end c.in_ok-row.row.now c.next.new.self (subst (AreAhead c.self.inside.stop) c.in_ok-row.ensures.steps c.self.invariant) past in
-    let before : slots_ahead c.self.inside.stop c.self.inside.end c.self.inside.rows ≡ [] =
-    ap (slots_ahead c.self.inside.stop c.self.inside.end) c.in_ok-row.ensures.steps
-    ∙ ap (λ b. map (λ (r : LiveRow). r.slot) (cond b (c.in_ok-row.row.now ∷ filter (is_ahead c.self.inside.stop c.self.inside.end) c.next.new.self) (filter (is_ahead c.self.inside.stop c.self.inside.end) c.next.new.self))) past
-    ∙ after in
-    record { steps = (sym c.self.view_is ∙ before, after); goes = search (rules, ap length before) }
+pub returns-clause-goes : goal.returns-clause-goes
+returns-clause-goes c = nearer c.slot_ahead.result c.args.self.now (slots_ahead c.self.inside.stop c.self.inside.end c.next.new.self) (returns-clause-steps c)
