@@ -5,7 +5,8 @@ ghost use Rattle.std.specs.Prelude.{◌≡◌};
 use run_overlay::Overlay;
 use std::marker::Model;
 
-/// A feed: its number among all feeds, its `max_age`, and the overlay of what it holds. A contract sees it as `LiveFeed`.
+/// A feed: its number among all feeds, its `max_age`, and the overlay of what it holds. A contract sees it as
+/// `LiveFeed`.
 #[derive(Drop)]
 pub struct LiveFeed<'a> {
     number: u32,
@@ -18,7 +19,8 @@ impl<'a> Model for LiveFeed<'a> {
 
     ghost Value = { LiveFeed };
 
-    ghost view = { λ f. record { number = f.number; max_age = f.max_age; overlay = f.overlay.now } };
+    ghost view = { λ f.
+        record { number = f.number; max_age = f.max_age; overlay = f.overlay.now } };
 }
 
 impl<'a> LiveFeed<'a> {

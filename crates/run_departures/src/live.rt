@@ -39,7 +39,8 @@ impl<'a> Model for Live<'a> {
 
     ghost use Rattle.run_departures.specs.Sources.{live_departure};
 
-    ghost view = { λ l. filter_map (live_departure l.plan.now l.feeds.now l.at l.number l.stop) l.slots };
+    ghost view = { λ l.
+        filter_map (live_departure l.plan.now l.feeds.now l.at l.number l.stop) l.slots };
 }
 
 impl<'a> Live<'a> {

@@ -37,7 +37,8 @@ impl<'a> Model for Scheduled<'a> {
 
     ghost use Rattle.run_departures.specs.Sources.{scheduled_departure};
 
-    ghost view = { λ s. filter_map (scheduled_departure s.plan.now s.feeds.now s.at s.stop) s.slots };
+    ghost view = { λ s.
+        filter_map (scheduled_departure s.plan.now s.feeds.now s.at s.stop) s.slots };
 }
 
 impl<'a> Scheduled<'a> {

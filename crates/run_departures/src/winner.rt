@@ -81,8 +81,8 @@ fn greater<'a>(best: Option<Offer<'a>>, offer: Option<Offer<'a>>) -> Option<Offe
     }
 }
 
-/// The number of the feed whose update counts for a run at a moment; `None` where no feed has one. It takes one search in
-/// each overlay.
+/// The number of the feed whose update counts for a run at a moment; `None` where no feed has one. It takes one
+/// search in each overlay.
 pub(crate) fn winner(feeds: &[LiveFeed<'_>], at: u64, run: Run) -> Option<u32>
     ensures { result ≡ winning at feeds.entry.now run }
 {
