@@ -14,3 +14,4 @@ pub mod Stops
 pub mod Whole
 pub mod Rising
 pub mod Told
+pub mod CityBoard
