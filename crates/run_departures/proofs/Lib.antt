@@ -6,12 +6,12 @@ pub mod Apart
 mod Bidding
 mod Taking
 pub mod Winners
-pub mod Alike
+mod Alike
 pub mod Placed
-pub mod Split
+mod Split
 pub mod RowOrder
-pub mod Stops
-pub mod Whole
-pub mod Rising
-pub mod Told
-pub mod CityBoard
+mod Stops
+mod Whole
+mod Rising
+mod Told
+mod CityBoard

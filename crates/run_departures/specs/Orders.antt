@@ -1,7 +1,6 @@
--- The orders of departures and of bids are total.
+-- The order of departures is total.
 use Rattle.std.specs.Cmp.{IsTotalOrder}
-use Rattle.std.proofs.lemmas.Cmp.{on_total, then_total, back_total, int_cmp_total, nat_cmp_total, nat_list_cmp_total}
-use Rattle.run_departures.specs.Bids.{Bid, bid_cmp}
+use Rattle.std.proofs.lemmas.Cmp.{on_total, then_total, int_cmp_total, nat_cmp_total}
 use Rattle.run_departures.specs.Departures.{departure_cmp}
 
 pub departure_total : IsTotalOrder departure_cmp
@@ -9,9 +8,3 @@ departure_total =
     then_total (on_total (λ d. d.expected) int_cmp_total)
     (then_total (on_total (λ d. d.run.trip) nat_cmp_total)
     (then_total (on_total (λ d. d.run.day) nat_cmp_total) (on_total (λ d. d.place) nat_cmp_total)))
-
-pub bid_total : IsTotalOrder bid_cmp
-bid_total =
-    then_total (on_total (λ (bid : Bid). bid.stamp) nat_cmp_total)
-    (then_total (on_total (λ (bid : Bid). bid.number) (back_total nat_cmp_total))
-    (on_total (λ (bid : Bid). bid.id) nat_list_cmp_total))
