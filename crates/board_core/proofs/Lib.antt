@@ -6,3 +6,4 @@ pub mod AllRows
 pub mod RowOrder
 pub mod Days
 pub mod FirstRows
+pub mod AddedTrips

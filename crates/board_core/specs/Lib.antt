@@ -4,3 +4,4 @@ pub mod Calling
 pub mod Departures
 pub mod Answers
 pub mod Lines
+pub mod FeedsOfSchedule

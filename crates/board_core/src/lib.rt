@@ -17,10 +17,12 @@
 //! rows are about on `alert_select`.
 #![tactic(auto)]
 
+mod added;
 mod board;
 mod choice;
 mod departure;
 mod fault;
+mod feeds;
 mod known;
 mod line;
 mod row_texts;

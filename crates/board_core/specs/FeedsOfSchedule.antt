@@ -1,0 +1,6 @@
+-- A feed of a schedule as definitions see it.
+use Rattle.board_defs.specs.Feeds.{HubFeed}
+use Rattle.board_core.specs.declared.feeds.ScheduleFeed.{ScheduleFeed}
+
+abbrev pub hub_feed_of : ScheduleFeed → HubFeed
+hub_feed_of one = record { number = one.number; feed = one.feed.now; fold = one.view.now.fold }
