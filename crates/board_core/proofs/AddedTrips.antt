@@ -73,6 +73,22 @@ own_entries key p (e ∷ es) own = by_test (p e) (own_entries key p es own.1) wh
   by_test true rest = λ i. (sym own.0 i, e.1) ∷ rest i
   by_test false rest = rest
 
+-- ---- the updates of some entities of a feed
+
+module _ (at : ℕ) where
+  abbrev pub stored_updates : HubFeed → List Stored → List Update
+  stored_updates one items = filter_map (λ stored. update_at at (held_of one.number one.feed stored)) items
+
+  -- one entity more
+  pub one_more : (one : HubFeed) (was now all : List Update) (items left : List Stored) (stored : Stored) → was ++ stored_updates one items ≡ all → items ≡ stored ∷ left
+      → now ≡ was ++ option_to_list (update_at at (held_of one.number one.feed stored)) → now ++ stored_updates one left ≡ all
+  one_more one was now all items left stored so_far split pushed =
+      let given = update_at at (held_of one.number one.feed stored) in
+      ap (λ us. us ++ stored_updates one left) pushed
+      ∙ append_assoc was (option_to_list given) (stored_updates one left)
+      ∙ ap (λ us. was ++ us) (sym (ap (stored_updates one) split ∙ cons_is given (stored_updates one left)))
+      ∙ so_far
+
 -- ---- what an overlay keeps of added trips
 
 module _ (t : Timetable) where
@@ -141,28 +157,15 @@ module _ (t : Timetable) where
     abbrev pub added_by : HubFeed → List Update
     added_by one = filter (is_added_update t) (filter_map (update_at at) (held_by one))
 
-    abbrev pub stored_updates : HubFeed → List Stored → List Update
-    stored_updates one items = filter_map (λ stored. update_at at (held_of one.number one.feed stored)) items
-
     pub of_feed : (one : HubFeed) (overlay : FeedOverlay) (items : List Stored) → overlay ≡ overlay_of t one.fold.entities → IsTable one.fold.entities
-        → items ≡ map (λ change. change.1) overlay.mentions.added → stored_updates one items ≡ added_by one
+        → items ≡ map (λ change. change.1) overlay.mentions.added → stored_updates at one items ≡ added_by one
     of_feed one overlay items is table are =
         let es = one.fold.entities in
-        ap (stored_updates one) (are ∙ ap (λ (x : FeedOverlay). map (λ change. change.1) x.mentions.added) is ∙ ap (map (λ change. change.1)) (added_are es table))
+        ap (stored_updates at one) (are ∙ ap (λ (x : FeedOverlay). map (λ change. change.1) x.mentions.added) is ∙ ap (map (λ change. change.1)) (added_are es table))
         ∙ over_map (λ stored. update_at at (held_of one.number one.feed stored)) (λ change. change.1) (filter is_added es)
         ∙ over_filter is_added (its_update one) es
         ∙ filter_each (is_added_update t) (its_update one) (λ change. if is_added change then its_update one change else None) es (λ change. added_where one change.1 change.1.entity.trip_update)
         ∙ ap (filter (is_added_update t)) (sym (over_map (update_at at) (held_as one) es))
-
-    -- one entity more
-    pub one_more : (one : HubFeed) (was now all : List Update) (items left : List Stored) (stored : Stored) → was ++ stored_updates one items ≡ all → items ≡ stored ∷ left
-        → now ≡ was ++ option_to_list (update_at at (held_of one.number one.feed stored)) → now ++ stored_updates one left ≡ all
-    one_more one was now all items left stored so_far split pushed =
-        let given = update_at at (held_of one.number one.feed stored) in
-        ap (λ us. us ++ stored_updates one left) pushed
-        ∙ append_assoc was (option_to_list given) (stored_updates one left)
-        ∙ ap (λ us. was ++ us) (sym (ap (stored_updates one) split ∙ cons_is given (stored_updates one left)))
-        ∙ so_far
 
     -- of some feeds
     abbrev pub added_in : List HubFeed → List Update

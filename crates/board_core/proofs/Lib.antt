@@ -7,3 +7,4 @@ pub mod RowOrder
 pub mod Days
 pub mod FirstRows
 pub mod AddedTrips
+pub mod FeedLists
