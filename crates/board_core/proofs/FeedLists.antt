@@ -1,0 +1,81 @@
+-- The feeds of a schedule, one after another.
+use Rattle.std.proofs.Common.{◌≡◌, ℕ, ◌+◌, ◌<◌, ◌≤◌, List, [], ◌∷◌, ◌++◌, length, drop, get_or, Bool, true, false, cond, Some, map, filter, refl, sym, ap, subst, ◌∙◌, append-nil, append_assoc, arith}
+use Rattle.std.specs.Prelude.{◌==◌, slice_get}
+use Rattle.std.specs.List.{All}
+use Rattle.std.specs.Option.{option_and_then}
+use Rattle.std.proofs.lemmas.List.{drop_all, drop_more, get_or-map, length-map, map-append}
+use Rattle.std.proofs.lemmas.List.Elements.{All-nil, All-push}
+use Rattle.sched_types.specs.declared.plans.NamedFeed.{NamedFeed}
+use Rattle.sched_types.specs.Schedules.{Schedules}
+use Rattle.sched_types.specs.Timetable.{Timetable}
+use Rattle.board_defs.specs.Feeds.{HubFeed, feeds_from, is_of_schedule, schedule_feeds}
+use Rattle.board_defs.specs.Fold.{FeedFold}
+use Rattle.board_defs.specs.Rows.{timetable_in}
+use Rattle.board_defs.specs.Views.{HubKept, feed_at, folds_of, no_fold, nothing_kept}
+use Rattle.feed_view.specs.Kept.{FeedSeen, IsOver, kept_of}
+use Rattle.board_parts.specs.Whole.{timetable_of}
+use Rattle.board_core.specs.declared.feeds.ScheduleFeed.{ScheduleFeed}
+use Rattle.board_core.specs.FeedsOfSchedule.{hub_feed_of}
+
+-- each is over the timetable of the schedule
+abbrev AreOver : Schedules → ℕ → List ScheduleFeed → Type 0
+AreOver plans schedule feeds = (t : Timetable) → timetable_in plans schedule ≡ Some t → All (λ (one : ScheduleFeed). IsOver t one.view.now) feeds
+
+module _ (schedule : ℕ) (named : List NamedFeed) (folds : List FeedFold) where
+  -- those from a number on
+  abbrev pub left_from : ℕ → List HubFeed
+  left_from i = filter (is_of_schedule schedule) (feeds_from i (drop i named) (drop i folds))
+
+  first_left : (i : ℕ) (feed : NamedFeed) (fold : FeedFold) → i < length named → i < length folds → feed ≡ get_or named i feed → fold ≡ get_or folds i fold
+      → left_from i ≡ cond (feed.plan == schedule) (record { number = i; feed = feed; fold = fold } ∷ left_from (i + 1)) (left_from (i + 1))
+  first_left i feed fold h g is says =
+      ap (λ xs. filter (is_of_schedule schedule) (feeds_from i xs (drop i folds))) (drop_more named i feed h ∙ ap (λ x. x ∷ drop (i + 1) named) (sym is))
+      ∙ ap (λ ys. filter (is_of_schedule schedule) (feeds_from i (feed ∷ drop (i + 1) named) ys)) (drop_more folds i fold g ∙ ap (λ y. y ∷ drop (i + 1) folds) (sym says))
+
+-- the feeds so far, and those that are left
+pub record AreSoFar (view : HubKept) (schedule i : ℕ) (feeds : List ScheduleFeed) : Type 0 where
+  pub goes : map hub_feed_of feeds ++ left_from schedule view.plans.feeds (folds_of view) i ≡ schedule_feeds schedule view.plans.feeds (folds_of view)
+  pub over : AreOver view.plans schedule feeds
+
+module _ (view : HubKept) (schedule : ℕ) where
+  abbrev named : List NamedFeed
+  named = view.plans.feeds
+
+  abbrev left : ℕ → List HubFeed
+  left i = left_from schedule named (folds_of view) i
+
+  pub begins : AreSoFar view schedule 0 []
+  begins = record { goes = refl; over = λ t is. All-nil (λ (one : ScheduleFeed). IsOver t one.view.now) }
+
+  pub ends : (i : ℕ) (feeds : List ScheduleFeed) → length named ≤ i → AreSoFar view schedule i feeds → map hub_feed_of feeds ≡ schedule_feeds schedule named (folds_of view)
+  ends i feeds h so_far =
+      sym (append-nil (map hub_feed_of feeds))
+      ∙ ap (λ xs. map hub_feed_of feeds ++ filter (is_of_schedule schedule) (feeds_from i xs (drop i (folds_of view)))) (sym (drop_all i named h))
+      ∙ so_far.goes
+
+  module _ (i : ℕ) (feed : NamedFeed) (h : i < length named) (all : length view.feeds ≡ length named) (is : feed ≡ get_or named i feed) where
+    first : (fold : FeedFold) → fold ≡ (feed_at view i).fold → left i ≡ cond (feed.plan == schedule) (record { number = i; feed = feed; fold = fold } ∷ left (i + 1)) (left (i + 1))
+    first fold says =
+        let size : length (folds_of view) ≡ length view.feeds = length-map view.feeds (λ one. one.fold) in
+        first_left schedule named (folds_of view) i feed fold h (omega (arith, size, all, h)) is
+        (says ∙ sym (get_or-map (λ one. one.fold) view.feeds i nothing_kept fold (omega (arith, all, h))))
+
+    pub skips : (feeds : List ScheduleFeed) → (feed.plan == schedule) ≡ false → AreSoFar view schedule i feeds → AreSoFar view schedule (i + 1) feeds
+    skips feeds other so_far = record {
+      goes = ap (λ xs. map hub_feed_of feeds ++ xs) (sym (first (feed_at view i).fold refl ∙ ap (λ b. cond b (record { number = i; feed = feed; fold = (feed_at view i).fold } ∷ left (i + 1)) (left (i + 1))) other)) ∙ so_far.goes;
+      over = so_far.over;
+    }
+
+    pub takes : (feeds : List ScheduleFeed) (one : ScheduleFeed) → (feed.plan == schedule) ≡ true → feed.plan ≡ schedule → one.number ≡ i → one.feed.now ≡ feed → kept_of one.view.now ≡ feed_at view i
+        → ((t : Timetable) → timetable_of view.plans i ≡ Some t → IsOver t one.view.now) → slice_get named i ≡ Some feed → AreSoFar view schedule i feeds → AreSoFar view schedule (i + 1) (feeds ++ one ∷ [])
+    takes feeds one passes its number same holds over at so_far = record {
+      goes =
+          ap (λ xs. xs ++ left (i + 1)) (map-append hub_feed_of feeds (one ∷ []))
+          ∙ append_assoc (map hub_feed_of feeds) (hub_feed_of one ∷ []) (left (i + 1))
+          ∙ ap (λ xs. map hub_feed_of feeds ++ xs)
+          ((λ j. record { number = number j; feed = same j; fold = one.view.now.fold } ∷ left (i + 1))
+          ∙ sym (first one.view.now.fold (ap (λ kept. kept.fold) holds) ∙ ap (λ b. cond b (record { number = i; feed = feed; fold = one.view.now.fold } ∷ left (i + 1)) (left (i + 1))) passes))
+          ∙ so_far.goes;
+      over = λ t is. All-push (λ (x : ScheduleFeed). IsOver t x.view.now) feeds one (so_far.over t is)
+          (over t (ap (option_and_then (λ (x : NamedFeed). timetable_in view.plans x.plan)) at ∙ ap (timetable_in view.plans) its ∙ is));
+    }
