@@ -1,5 +1,5 @@
 -- The feeds of a schedule, as departures are asked of them.
-use Rattle.std.proofs.Common.{◌≡◌, List, [], ◌∷◌, map, refl, ap, ◌∙◌}
+use Rattle.std.proofs.Common.{◌≡◌, Some, List, [], ◌∷◌, map, refl, ap, ◌∙◌}
 use Rattle.std.specs.List.{All, AllByRecursion}
 use Rattle.std.proofs.lemmas.List.Elements.{recursion_from_All}
 use Rattle.sched_types.specs.Timetable.{Timetable}
@@ -17,3 +17,6 @@ module _ (t : Timetable) where
 
   pub live_are : (feeds : List ScheduleFeed) → All (λ one. IsOver t one.view.now) feeds → map live_of feeds ≡ map (live_feed t) (map hub_feed_of feeds)
   live_are feeds all = each_live feeds (recursion_from_All (λ (one : ScheduleFeed). IsOver t one.view.now) feeds all)
+
+pub some_same : {X : Type 0} {x y : X} → Some x ≡ Some y → x ≡ y
+some_same e = cc

@@ -1,12 +1,48 @@
 -- The departures of runs and the rows of added trips give the lines of the board.
-use Rattle.std.proofs.Common.{◌≡◌, Some, map, ap, sym, ◌∙◌}
-use Rattle.stop_index.specs.Index.{index_of}
-use Rattle.run_departures.specs.Board.{AreLive}
+use Rattle.std.proofs.Common.{◌≡◌, List, Some, filter, map, ap, sym, subst, ◌∙◌}
+use Rattle.std.specs.List.{All, filter_map, flat_map}
+use Rattle.std.specs.Option.{option_map}
+use Rattle.stop_index.specs.Index.{Index, index_of}
+use Rattle.sched_types.specs.Runs.{all_runs}
+use Rattle.board_defs.specs.Choice.{is_added_update, update_at, updates_at}
+use Rattle.board_defs.specs.Feeds.{held_in}
+use Rattle.board_defs.specs.Rows.{is_within, run_rows}
 use Rattle.board_defs.specs.Views.{folds_of}
+use Rattle.feed_view.specs.Kept.{IsOver}
+use Rattle.run_departures.specs.Bids.{live_feed}
 use Rattle.board_parts.proofs.Appended.{become_same}
 use Rattle.board_added.specs.Added as others
-use Rattle.board_core.proofs.FirstRows.{rows_same, board_is, some_one}
+use Rattle.board_core.specs.declared.feeds.ScheduleFeed.{ScheduleFeed}
+use Rattle.board_core.specs.FeedsOfSchedule.{hub_feed_of, live_of}
+use Rattle.board_core.proofs.FirstRows.{rows_same, board_is}
+use Rattle.board_core.proofs.LiveFeeds.{live_are, some_same}
 use Rattle.board_core.proofs.board.lines_at.Goals as goal
+
+pub added_updates-requires-clause-over : goal.added_updates-requires-clause-over
+added_updates-requires-clause-over c =
+    let P : List ScheduleFeed → Type 0 = λ feeds. All (λ (one : ScheduleFeed). IsOver c.args.plan.now one.view.now) feeds in
+    subst P (sym c.as_slice-2.ensures.value) (c.in_ok-feeds.ensures.over c.args.plan.now c.requires.plan)
+
+pub departures-requires-clause-index : goal.departures-requires-clause-index
+departures-requires-clause-index c = some_same (sym c.index-index.ensures ∙ ap (option_map index_of) c.requires.plan)
+
+pub departures-requires-clause-live : goal.departures-requires-clause-live
+departures-requires-clause-live c = record {
+  plan = c.args.query.now.plan;
+  named = c.args.view.now.plans.feeds;
+  folds = folds_of c.args.view.now;
+  are =
+      c.as_slice-5.ensures.value
+      ∙ c.in_ok-live.ensures
+      ∙ ap (map live_of) c.as_slice.ensures.value
+      ∙ live_are c.args.plan.now c.in_ok-feeds.feeds.items (c.in_ok-feeds.ensures.over c.args.plan.now c.requires.plan)
+      ∙ ap (map (live_feed c.args.plan.now)) c.in_ok-feeds.ensures.list;
+}
+
+pub first_of_both-requires-clause-added : goal.first_of_both-requires-clause-added
+first_of_both-requires-clause-added c =
+    let plan = c.args.plan.now in
+    (become_same (others.as_row plan) (others.IsThere plan) c.as_slice-4.result.now c.in_ok-added.added.items _ c.as_slice-4.ensures.value c.in_ok-added.ensures).there
 
 pub returns : goal.returns
 returns c = ?
