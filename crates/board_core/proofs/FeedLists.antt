@@ -3,8 +3,10 @@ use Rattle.std.proofs.Common.{◌≡◌, ℕ, ◌+◌, ◌<◌, ◌≤◌, List,
 use Rattle.std.specs.Prelude.{◌==◌, slice_get}
 use Rattle.std.specs.List.{All}
 use Rattle.std.specs.Option.{option_and_then}
+use Rattle.std.proofs.lemmas.Bool.{eq-eqb, ne_eqb}
 use Rattle.std.proofs.lemmas.List.{drop_all, drop_more, get_or-map, length-map, map-append}
-use Rattle.std.proofs.lemmas.List.Elements.{All-nil, All-push}
+use Rattle.std.proofs.lemmas.List.Elements.{All-push}
+use Rattle.std.proofs.lemmas.Option.{slice_get-get_or}
 use Rattle.sched_types.specs.declared.plans.NamedFeed.{NamedFeed}
 use Rattle.sched_types.specs.Schedules.{Schedules}
 use Rattle.sched_types.specs.Timetable.{Timetable}
@@ -37,45 +39,55 @@ pub record AreSoFar (view : HubKept) (schedule i : ℕ) (feeds : List ScheduleFe
   pub goes : map hub_feed_of feeds ++ left_from schedule view.plans.feeds (folds_of view) i ≡ schedule_feeds schedule view.plans.feeds (folds_of view)
   pub over : AreOver view.plans schedule feeds
 
-module _ (view : HubKept) (schedule : ℕ) where
+-- one feed more, which is the next of those that the view shows
+module _ (view : HubKept) (schedule i : ℕ) (shown : List NamedFeed) (feed : NamedFeed) (are : shown ≡ view.plans.feeds) (all : length view.feeds ≡ length view.plans.feeds) (h : i < length shown) (is : feed ≡ get_or shown i feed) (feeds now : List ScheduleFeed) where
   abbrev named : List NamedFeed
   named = view.plans.feeds
 
   abbrev left : ℕ → List HubFeed
-  left i = left_from schedule named (folds_of view) i
+  left j = left_from schedule named (folds_of view) j
 
-  pub begins : AreSoFar view schedule 0 []
-  begins = record { goes = refl; over = λ t is. All-nil (λ (one : ScheduleFeed). IsOver t one.view.now) }
+  abbrev hub_feed : FeedFold → HubFeed
+  hub_feed fold = record { number = i; feed = feed; fold = fold }
 
-  pub ends : (i : ℕ) (feeds : List ScheduleFeed) → length named ≤ i → AreSoFar view schedule i feeds → map hub_feed_of feeds ≡ schedule_feeds schedule named (folds_of view)
-  ends i feeds h so_far =
-      sym (append-nil (map hub_feed_of feeds))
-      ∙ ap (λ xs. map hub_feed_of feeds ++ filter (is_of_schedule schedule) (feeds_from i xs (drop i (folds_of view)))) (sym (drop_all i named h))
-      ∙ so_far.goes
+  within : i < length named
+  within = subst (λ (xs : List NamedFeed). i < length xs) are h
 
-  module _ (i : ℕ) (feed : NamedFeed) (h : i < length named) (all : length view.feeds ≡ length named) (is : feed ≡ get_or named i feed) where
-    first : (fold : FeedFold) → fold ≡ (feed_at view i).fold → left i ≡ cond (feed.plan == schedule) (record { number = i; feed = feed; fold = fold } ∷ left (i + 1)) (left (i + 1))
-    first fold says =
-        let size : length (folds_of view) ≡ length view.feeds = length-map view.feeds (λ one. one.fold) in
-        first_left schedule named (folds_of view) i feed fold h (omega (arith, size, all, h)) is
-        (says ∙ sym (get_or-map (λ one. one.fold) view.feeds i nothing_kept fold (omega (arith, all, h))))
+  there : feed ≡ get_or named i feed
+  there = is ∙ ap (λ xs. get_or xs i feed) are
 
-    pub skips : (feeds : List ScheduleFeed) → (feed.plan == schedule) ≡ false → AreSoFar view schedule i feeds → AreSoFar view schedule (i + 1) feeds
-    skips feeds other so_far = record {
-      goes = ap (λ xs. map hub_feed_of feeds ++ xs) (sym (first (feed_at view i).fold refl ∙ ap (λ b. cond b (record { number = i; feed = feed; fold = (feed_at view i).fold } ∷ left (i + 1)) (left (i + 1))) other)) ∙ so_far.goes;
-      over = so_far.over;
-    }
+  first : (fold : FeedFold) → fold ≡ (feed_at view i).fold → left i ≡ cond (feed.plan == schedule) (hub_feed fold ∷ left (i + 1)) (left (i + 1))
+  first fold says =
+      let size : length (folds_of view) ≡ length view.feeds = length-map view.feeds (λ one. one.fold) in
+      first_left schedule named (folds_of view) i feed fold within (omega (arith, size, all, within)) there
+      (says ∙ sym (get_or-map (λ one. one.fold) view.feeds i nothing_kept fold (omega (arith, all, within))))
 
-    pub takes : (feeds : List ScheduleFeed) (one : ScheduleFeed) → (feed.plan == schedule) ≡ true → feed.plan ≡ schedule → one.number ≡ i → one.feed.now ≡ feed → kept_of one.view.now ≡ feed_at view i
-        → ((t : Timetable) → timetable_of view.plans i ≡ Some t → IsOver t one.view.now) → slice_get named i ≡ Some feed → AreSoFar view schedule i feeds → AreSoFar view schedule (i + 1) (feeds ++ one ∷ [])
-    takes feeds one passes its number same holds over at so_far = record {
-      goes =
-          ap (λ xs. xs ++ left (i + 1)) (map-append hub_feed_of feeds (one ∷ []))
-          ∙ append_assoc (map hub_feed_of feeds) (hub_feed_of one ∷ []) (left (i + 1))
-          ∙ ap (λ xs. map hub_feed_of feeds ++ xs)
-          ((λ j. record { number = number j; feed = same j; fold = one.view.now.fold } ∷ left (i + 1))
-          ∙ sym (first one.view.now.fold (ap (λ kept. kept.fold) holds) ∙ ap (λ b. cond b (record { number = i; feed = feed; fold = one.view.now.fold } ∷ left (i + 1)) (left (i + 1))) passes))
-          ∙ so_far.goes;
-      over = λ t is. All-push (λ (x : ScheduleFeed). IsOver t x.view.now) feeds one (so_far.over t is)
-          (over t (ap (option_and_then (λ (x : NamedFeed). timetable_in view.plans x.plan)) at ∙ ap (timetable_in view.plans) its ∙ is));
-    }
+  pub skips : (feed.plan ≡ schedule → ⊥) → now ≡ feeds → AreSoFar view schedule i feeds → AreSoFar view schedule (i + 1) now
+  skips other stays so_far =
+      let fold = (feed_at view i).fold in
+      let goes_on : left i ≡ left (i + 1) = first fold refl ∙ ap (λ b. cond b (hub_feed fold ∷ left (i + 1)) (left (i + 1))) (ne_eqb feed.plan schedule other) in
+      record {
+        goes = ap (λ xs. map hub_feed_of xs ++ left (i + 1)) stays ∙ ap (λ xs. map hub_feed_of feeds ++ xs) (sym goes_on) ∙ so_far.goes;
+        over = λ t its. subst (All (λ (x : ScheduleFeed). IsOver t x.view.now)) (sym stays) (so_far.over t its);
+      }
+
+  pub takes : (one : ScheduleFeed) → feed.plan ≡ schedule → one.number ≡ i → one.feed.now ≡ feed → kept_of one.view.now ≡ feed_at view i → ((t : Timetable) → timetable_of view.plans i ≡ Some t → IsOver t one.view.now)
+      → now ≡ feeds ++ one ∷ [] → AreSoFar view schedule i feeds → AreSoFar view schedule (i + 1) now
+  takes one passes number same holds over pushed so_far =
+      let fold = one.view.now.fold in
+      let goes_on : left i ≡ hub_feed fold ∷ left (i + 1) = first fold (ap (λ kept. kept.fold) holds) ∙ ap (λ b. cond b (hub_feed fold ∷ left (i + 1)) (left (i + 1))) (eq-eqb feed.plan schedule passes) in
+      record {
+        goes =
+            ap (λ xs. map hub_feed_of xs ++ left (i + 1)) pushed
+            ∙ ap (λ xs. xs ++ left (i + 1)) (map-append hub_feed_of feeds (one ∷ []))
+            ∙ append_assoc (map hub_feed_of feeds) (hub_feed_of one ∷ []) (left (i + 1))
+            ∙ ap (λ xs. map hub_feed_of feeds ++ xs) ((λ j. record { number = number j; feed = same j; fold = fold } ∷ left (i + 1)) ∙ sym goes_on)
+            ∙ so_far.goes;
+        over = λ t its.
+            subst (All (λ (x : ScheduleFeed). IsOver t x.view.now)) (sym pushed)
+            (All-push (λ (x : ScheduleFeed). IsOver t x.view.now) feeds one (so_far.over t its)
+            (over t
+            (ap (option_and_then (λ (x : NamedFeed). timetable_in view.plans x.plan)) (slice_get-get_or named i feed within ∙ ap Some (sym there))
+            ∙ ap (timetable_in view.plans) passes
+            ∙ its)));
+      }
