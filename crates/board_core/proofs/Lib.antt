@@ -4,3 +4,4 @@ pub mod FirstRows
 pub mod AddedTrips
 pub mod FeedLists
 pub mod LiveFeeds
+pub mod Taken

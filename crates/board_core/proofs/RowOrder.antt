@@ -1,4 +1,4 @@
--- Rows go as their departures do: numbers of trips and days stand as the texts of the rows.
+-- Lines go as their rows do.
 use Rattle.std.proofs.Common.{◌≡◌, ℕ, ◌<◌, None, List, length, [], slice_get, get_or, refl, sym, ap, ◌∙◌, inl, inr, Less, Greater, arith}
 use Rattle.std.specs.Prelude.{unwrap_or}
 use Rattle.std.specs.Cmp.{IsTotalOrder, bool_cmp_total}
@@ -40,69 +40,12 @@ line_total t dates =
     (then_total (on_total (date_of dates) nat_list_cmp_total)
     (then_total (on_total is_added_line bool_cmp_total) (on_total place_of nat_cmp_total))))
 
-less : (i j : ℕ) → i < j → nat_cmp i j ≡ Less
-less i j h = grind (arith, nat_tests)
-
-more : (i j : ℕ) → j < i → nat_cmp i j ≡ Greater
-more i j h = grind (arith, nat_tests)
-
 module _ (t : Timetable) (sound : IsTimetable t) where
-  -- later days have greater dates
-  date_rises : (i j : ℕ) → i < j → j < length t.bases → date_plus t.first i < date_plus t.first j
-  date_rises i j h within =
-      let a = date_plus-number t.first i (first_day t sound) (omega (arith, within_calendar t sound i (omega arith))) in
-      let b = date_plus-number t.first j (first_day t sound) (omega (arith, within_calendar t sound j (omega arith))) in
-      elim (cases_order (date_plus t.first i) (date_plus t.first j)) [
-        | inl e ↦ absurd (omega (arith, a.1, b.1, ap day_number e))
-        | inr (inl lt) ↦ lt
-        | inr (inr gt) ↦ absurd (omega (arith, a.1, b.1, day_number-lt (date_plus t.first j) (date_plus t.first i) b.0 a.0 gt))
-      ]
-
-  dates_order : (i j : ℕ) → i < length t.bases → j < length t.bases → nat_cmp (date_plus t.first i) (date_plus t.first j) ≡ nat_cmp i j
-  dates_order i j h k =
-      elim (cases_order i j) [
-        | inl e ↦ ap (λ n. nat_cmp (date_plus t.first n) (date_plus t.first j)) e ∙ tied_itself nat_cmp_total (date_plus t.first j)
-            ∙ sym (ap (λ n. nat_cmp n j) e ∙ tied_itself nat_cmp_total j)
-        | inr (inl lt) ↦ less (date_plus t.first i) (date_plus t.first j) (date_rises i j lt k) ∙ sym (less i j lt)
-        | inr (inr gt) ↦ more (date_plus t.first i) (date_plus t.first j) (date_rises j i gt h) ∙ sym (more i j gt)
-      ]
-
   -- the text of a day's date
   pub date_is : (day : ℕ) → day < length t.bases → date_text t day ≡ decimal (date_plus t.first day)
   date_is day h =
       ap (λ o. decimal (unwrap_or o 0)) (slice_get-get_or (dates_of t) day 0 (omega (arith, length_dates t sound)))
       ∙ ap decimal (date_at t sound day 0 h)
-
-  texts_order : (i j : ℕ) → i < length t.bases → j < length t.bases → slice_cmp nat_cmp (date_text t i) (date_text t j) ≡ nat_cmp i j
-  texts_order i j h k =
-      ap (λ xs. slice_cmp nat_cmp xs (date_text t j)) (date_is i h)
-      ∙ ap (slice_cmp nat_cmp (decimal (date_plus t.first i))) (date_is j k)
-      ∙ decimal_order (date_plus t.first i) (date_plus t.first j) (omega (arith, date_early t sound i h)) (omega (arith, date_late t sound i h))
-      (omega (arith, date_early t sound j k)) (omega (arith, date_late t sound j k))
-      ∙ dates_order i j h k
-
-  -- the id of a trip, by its number
-  abbrev trip_text : ℕ → List ℕ
-  trip_text trip = unwrap_or (option_map (λ x. x.id) (slice_get t.trips trip)) []
-
-  trips_order : (i j : ℕ) → i < length t.trips → j < length t.trips → slice_cmp nat_cmp (trip_text i) (trip_text j) ≡ nat_cmp i j
-  trips_order i j h k =
-      let none : Trip = record { id = []; route = 0; service = 0; headsign = []; direction = None } in
-      let at = slice_get-get_or t.trips i none h in
-      let then = slice_get-get_or t.trips j none k in
-      ap (λ o. slice_cmp nat_cmp (unwrap_or (option_map (λ x. x.id) o) []) (trip_text j)) at
-      ∙ ap (λ o. slice_cmp nat_cmp (get_or t.trips i none).id (unwrap_or (option_map (λ x. x.id) o) [])) then
-      ∙ id_order (λ trip. trip.id) t.trips sound.trips_rise i j (get_or t.trips i none) (get_or t.trips j none) at then
-
-  -- departures stand as their rows
-  pub rows_order : (a b : Departure) → IsThere t a → IsThere t b → row_cmp (as_row t a) (as_row t b) ≡ departure_cmp a b
-  rows_order a b there other =
-      ap
-      (λ o. ordering_then (int_cmp a.expected b.expected) (ordering_then o (ordering_then (slice_cmp nat_cmp (date_text t a.run.day) (date_text t b.run.day)) (nat_cmp a.place b.place))))
-      (trips_order a.run.trip b.run.trip there.trip other.trip)
-      ∙ ap
-      (λ o. ordering_then (int_cmp a.expected b.expected) (ordering_then (nat_cmp a.run.trip b.run.trip) (ordering_then o (nat_cmp a.place b.place))))
-      (texts_order a.run.day b.run.day there.day other.day)
 
   -- ---- lines
 

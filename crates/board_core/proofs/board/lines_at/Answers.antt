@@ -18,8 +18,8 @@ use Rattle.board_core.proofs.FirstRows.{rows_same, board_is}
 use Rattle.board_core.proofs.LiveFeeds.{live_are, some_same}
 use Rattle.board_core.proofs.board.lines_at.Goals as goal
 
-pub added_updates-requires-clause-over : goal.added_updates-requires-clause-over
-added_updates-requires-clause-over c =
+pub added_updates-requires : goal.added_updates-requires
+added_updates-requires c =
     let P : List ScheduleFeed → Type 0 = λ feeds. All (λ (one : ScheduleFeed). IsOver c.args.plan.now one.view.now) feeds in
     subst P (sym c.as_slice-2.ensures.value) (c.in_ok-feeds.ensures.over c.args.plan.now c.requires.plan)
 
@@ -32,7 +32,7 @@ departures-requires-clause-live c = record {
   named = c.args.view.now.plans.feeds;
   folds = folds_of c.args.view.now;
   are =
-      c.as_slice-5.ensures.value
+      c.as_slice-4.ensures.value
       ∙ c.in_ok-live.ensures
       ∙ ap (map live_of) c.as_slice.ensures.value
       ∙ live_are c.args.plan.now c.in_ok-feeds.feeds.items (c.in_ok-feeds.ensures.over c.args.plan.now c.requires.plan)
@@ -42,7 +42,19 @@ departures-requires-clause-live c = record {
 pub first_of_both-requires-clause-added : goal.first_of_both-requires-clause-added
 first_of_both-requires-clause-added c =
     let plan = c.args.plan.now in
-    (become_same (others.as_row plan) (others.IsThere plan) c.as_slice-4.result.now c.in_ok-added.added.items _ c.as_slice-4.ensures.value c.in_ok-added.ensures).there
+    (become_same (others.as_row plan) (others.IsThere plan) c.as_slice-5.result.now c.in_ok-added.added.items _ c.as_slice-5.ensures.value c.in_ok-added.ensures).there
 
 pub returns : goal.returns
-returns c = ?
+returns c =
+    let plan = c.args.plan.now in
+    let query = c.args.query.now in
+    let updates = updates_at query.plan query.at c.args.view.now.plans.feeds (folds_of c.args.view.now) in
+    rows_same c.first_of_both.result (λ lines. lines.items) plan c.in_ok-runs.runs
+    (filter (is_within query.at query.span) (flat_map (run_rows plan c.args.stop updates) (all_runs plan))) _ (map (others.as_row plan) c.as_slice-5.result.now) query.limit
+    (c.in_ok-runs.ensures.said query.plan c.args.view.now.plans.feeds (folds_of c.args.view.now) (departures-requires-clause-live c).are)
+    (board_is plan c.args.stop query updates c.as_slice-3.result.now c.as_slice-5.result.now
+    (c.as_slice-3.ensures.value
+    ∙ c.in_ok-updates.ensures
+    ∙ ap (λ feeds. filter (is_added_update plan) (filter_map (update_at query.at) (held_in feeds))) (ap (map hub_feed_of) c.as_slice-2.ensures.value ∙ c.in_ok-feeds.ensures.list))
+    (ap (map (others.as_row plan)) c.as_slice-5.ensures.value ∙ c.in_ok-added.ensures.become))
+    c.first_of_both.ensures
