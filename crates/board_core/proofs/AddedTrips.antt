@@ -1,19 +1,18 @@
 -- The updates of added trips that overlays keep are those of all that their feeds hold.
-use Rattle.std.proofs.Common.{◌≡◌, ℕ, ◌+◌, ◌<◌, ◌≤◌, List, [], ◌∷◌, ◌++◌, length, drop, get_or, Bool, true, false, cond, Option, Some, None, map, filter, refl, sym, ap, subst, ◌∙◌, append-nil, append_assoc}
+use Rattle.std.proofs.Common.{◌≡◌, ℕ, ◌+◌, ◌<◌, List, [], ◌∷◌, ◌++◌, length, drop, get_or, Bool, true, false, cond, Option, Some, None, map, filter, refl, sym, ap, subst, ◌∙◌, append-nil, append_assoc}
 use Rattle.std.specs.Prelude.{T, fold, if◌then◌else◌}
 use Rattle.std.specs.Cmp.{IsTotalOrder}
 use Rattle.std.specs.FinMap.{is_sorted, put}
-use Rattle.std.specs.List.{AllByRecursion, cons_option, filter_map, flat_map}
+use Rattle.std.specs.List.{AllByRecursion, cons_option, filter_map}
 use Rattle.std.specs.Option.{option_to_list}
 use Rattle.std.specs.declared.cmp.Ordering.{Ordering}
 use Rattle.std.proofs.lemmas.Cmp.{nat_list_cmp_total}
-use Rattle.std.proofs.lemmas.List.{drop_all, drop_more}
+use Rattle.std.proofs.lemmas.List.{drop_more}
 use Rattle.std.proofs.lemmas.List.Elements.{filter-append, filter_map-append}
 use Rattle.rt_types.specs.declared.trip_update.TripUpdate.{TripUpdate}
 use Rattle.feed_defs.specs.declared.history.Stored.{Stored}
 use Rattle.feed_defs.specs.History.{Change}
 use Rattle.feed_defs.proofs.Applied.{sorted_filter}
-use Rattle.sched_types.specs.declared.plans.NamedFeed.{NamedFeed}
 use Rattle.sched_types.specs.Timetable.{Timetable}
 use Rattle.trip_match_defs.specs.declared.found.Found.{Found}
 use Rattle.trip_match_defs.specs.declared.found.Found.TheVariants as found
@@ -24,10 +23,10 @@ use Rattle.keyed_lists.specs.Keyed.{by_key, with_item}
 use Rattle.keyed_lists.proofs.Entries.{HasItsKey, keyed_each}
 use Rattle.order.proofs.Lists.{cons_is}
 use Rattle.board_defs.specs.Choice.{Update, if_counting, is_added_found, is_added_update, stamp_or, update_at, update_of}
-use Rattle.board_defs.specs.Feeds.{HubFeed, HeldEntity, counts_at, held_as, held_by, held_in}
+use Rattle.board_defs.specs.Feeds.{HubFeed, counts_at, held_as, held_by, held_in}
 use Rattle.run_overlay.specs.Keys.{id_cmp, stored_key}
 use Rattle.run_overlay.specs.Kept.{FeedOverlay, IsTable, added_of, if_added, mentions_of, overlay_of}
-use Rattle.run_overlay.specs.Updates.{about_found, about_stored, about_update, held_alone}
+use Rattle.run_overlay.specs.Updates.{about_found, about_update, held_alone}
 use Rattle.board_parts.specs.Walks.{held_of}
 use Rattle.board_parts.proofs.Lists.{filter_each, kept}
 use Rattle.board_core.specs.declared.feeds.ScheduleFeed.{ScheduleFeed}
@@ -185,6 +184,3 @@ module _ (t : Timetable) where
         ∙ append_assoc was (added_by (hub_feed_of one)) rest
         ∙ ap (λ us. was ++ us) (sym (ap (λ xs. added_in (map hub_feed_of xs)) (drop_more feeds i one h ∙ ap (λ x. x ∷ drop (i + 1) feeds) (sym there)) ∙ added_first (hub_feed_of one) (map hub_feed_of (drop (i + 1) feeds))))
         ∙ so_far
-
-    pub feeds_gone : (feeds : List ScheduleFeed) (i : ℕ) (now all : List Update) → length feeds ≤ i → now ++ added_in (map hub_feed_of (drop i feeds)) ≡ all → now ≡ all
-    feeds_gone feeds i now all h so_far = sym (append-nil now) ∙ ap (λ xs. now ++ added_in (map hub_feed_of xs)) (sym (drop_all i feeds h)) ∙ so_far

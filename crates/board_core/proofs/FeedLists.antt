@@ -1,10 +1,10 @@
 -- The feeds of a schedule, one after another.
-use Rattle.std.proofs.Common.{◌≡◌, ℕ, ◌+◌, ◌<◌, ◌≤◌, List, [], ◌∷◌, ◌++◌, length, drop, get_or, Bool, true, false, cond, Some, map, filter, refl, sym, ap, subst, ◌∙◌, append-nil, append_assoc, arith}
-use Rattle.std.specs.Prelude.{◌==◌, slice_get}
+use Rattle.std.proofs.Common.{◌≡◌, ℕ, ◌+◌, ◌<◌, List, [], ◌∷◌, ◌++◌, length, drop, get_or, cond, Some, map, filter, refl, sym, ap, subst, ◌∙◌, append_assoc, arith}
+use Rattle.std.specs.Prelude.{◌==◌}
 use Rattle.std.specs.List.{All}
 use Rattle.std.specs.Option.{option_and_then}
 use Rattle.std.proofs.lemmas.Bool.{eq-eqb, ne_eqb}
-use Rattle.std.proofs.lemmas.List.{drop_all, drop_more, get_or-map, length-map, map-append}
+use Rattle.std.proofs.lemmas.List.{drop_more, get_or-map, length-map, map-append}
 use Rattle.std.proofs.lemmas.List.Elements.{All-push}
 use Rattle.std.proofs.lemmas.Option.{slice_get-get_or}
 use Rattle.sched_types.specs.declared.plans.NamedFeed.{NamedFeed}
@@ -13,8 +13,8 @@ use Rattle.sched_types.specs.Timetable.{Timetable}
 use Rattle.board_defs.specs.Feeds.{HubFeed, feeds_from, is_of_schedule, schedule_feeds}
 use Rattle.board_defs.specs.Fold.{FeedFold}
 use Rattle.board_defs.specs.Rows.{timetable_in}
-use Rattle.board_defs.specs.Views.{HubKept, feed_at, folds_of, no_fold, nothing_kept}
-use Rattle.feed_view.specs.Kept.{FeedSeen, IsOver, kept_of}
+use Rattle.board_defs.specs.Views.{HubKept, feed_at, folds_of, nothing_kept}
+use Rattle.feed_view.specs.Kept.{IsOver, kept_of}
 use Rattle.board_parts.specs.Whole.{timetable_of}
 use Rattle.board_core.specs.declared.feeds.ScheduleFeed.{ScheduleFeed}
 use Rattle.board_core.specs.FeedsOfSchedule.{hub_feed_of}
