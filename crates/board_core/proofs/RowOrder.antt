@@ -1,27 +1,18 @@
 -- Lines go as their rows do.
-use Rattle.std.proofs.Common.{◌≡◌, ℕ, ◌<◌, None, List, length, [], slice_get, get_or, refl, sym, ap, ◌∙◌, inl, inr, Less, Greater, arith}
+use Rattle.std.proofs.Common.{◌≡◌, ℕ, ◌<◌, List, length, [], slice_get, refl, sym, ap, ◌∙◌, arith}
 use Rattle.std.specs.Prelude.{unwrap_or}
 use Rattle.std.specs.Cmp.{IsTotalOrder, bool_cmp_total}
 use Rattle.std.specs.Cmp.Lexicographic.{slice_cmp}
 use Rattle.std.specs.Fmt.{decimal}
-use Rattle.std.specs.Option.{option_map}
 use Rattle.std.specs.Ordering.{bool_cmp, int_cmp, nat_cmp, ordering_then}
 use Rattle.std.specs.declared.cmp.Ordering.{Ordering}
-use Rattle.std.proofs.lemmas.Bool.{cases_order}
-use Rattle.std.proofs.lemmas.Bool.Decides.{nat_tests}
-use Rattle.std.proofs.lemmas.Cmp.{int_cmp_total, nat_cmp_total, nat_list_cmp_total, on_total, then_total, tied_itself}
+use Rattle.std.proofs.lemmas.Cmp.{int_cmp_total, nat_cmp_total, nat_list_cmp_total, on_total, then_total}
 use Rattle.std.proofs.lemmas.List.FromFn.{get_or-map-range_with_len}
 use Rattle.std.proofs.lemmas.Option.{slice_get-get_or, unwrap_or-slice_get}
-use Rattle.text_defs.specs.Dates.{day_number, date_plus}
-use Rattle.text_defs.proofs.DateLaws.{day_number-lt, date_plus-number}
-use Rattle.sched_types.specs.declared.rows.Trip.{Trip}
+use Rattle.text_defs.specs.Dates.{date_plus}
 use Rattle.sched_types.specs.Timetable.{Timetable, IsTimetable, dates_of}
-use Rattle.sched_types.proofs.Days.{first_day, within_calendar, date_early, date_late, date_at, length_dates}
+use Rattle.sched_types.proofs.Days.{date_at, length_dates}
 use Rattle.board_defs.specs.Rows.{BoardRow, is_added, row_cmp, date_text}
-use Rattle.board_defs.proofs.DateOrder.{decimal_order}
-use Rattle.board_defs.proofs.KeyOrder.{id_order}
-use Rattle.run_departures.specs.declared.departure.Departure.{Departure}
-use Rattle.run_departures.specs.Departures.{as_row, IsThere}
 use Rattle.board_core.specs.declared.line.Line.{Line}
 use Rattle.board_core.specs.declared.line.Line.TheVariants as line
 use Rattle.board_core.specs.Lines.{line_row, line_cmp, expected_of, trip_of, date_of, is_added_line, place_of, date_texts, IsInPlan}

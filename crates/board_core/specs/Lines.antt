@@ -9,7 +9,6 @@ use Rattle.sched_types.specs.Timetable.{Timetable}
 use Rattle.board_defs.specs.Rows.{BoardRow, date_text}
 use Rattle.alert_select.specs.declared.subject.Subject.{Subject}
 use Rattle.alert_select.specs.declared.subject.Subject.TheVariants as about
-use Rattle.run_departures.specs.declared.departure.Departure.{Departure}
 use Rattle.run_departures.specs.Departures.{as_row, IsThere}
 use Rattle.board_added.specs.Added as added
 use Rattle.board_core.specs.declared.line.Line.{Line}
