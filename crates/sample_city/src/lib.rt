@@ -3,7 +3,7 @@
 //!
 //! [`city`] is its timetable, which contracts know as the example of `sched_types`; [`one_feed`],
 //! [`two_feeds`] and [`four_feeds`] are a hub's timetables and feeds with it. There are messages in their
-//! own form and as bytes, ports, doors and clocks in memory, and the view of a hub after one message more.
+//! own form and as bytes, and ports, doors and clocks in memory.
 #![tactic(auto)]
 
 mod messages;
@@ -17,4 +17,4 @@ pub use outside::{city_doors, city_ports, clock, door, link, number_at, port, si
 pub use plan::{city, place, routes, stop, stops, trip, trips};
 pub use schedules::{feed, four_feeds, named_city, one_feed, two_feeds};
 pub use std::alloc::AllocError as NoMemory;
-pub use views::{last_stamp, view_after};
+pub use views::last_stamp;

@@ -7,7 +7,7 @@ use crate::files::folder;
 use crate::world::World;
 use board_parts::HubView;
 use rt_types::Text;
-use sample_city::{dataset_of, feed, last_stamp, view_after};
+use sample_city::{dataset_of, feed, last_stamp};
 use sched_load::{LoadFault, PlanConf, load};
 use sched_types::{NamedPlan, Plan, PlanName, Plans};
 use std::alloc::{AllocError, Global};
@@ -53,7 +53,7 @@ fn spoken(alloc: Global, view: &HubView, world: &World, feed: u32) -> Result<Hub
         return Err(AllocError);
     }
     let message = dataset_of(alloc, stamp, entities(alloc, world, feed)?)?;
-    view_after(alloc, view, feed, message)
+    view.after(alloc, feed, message)
 }
 
 /// The view of a hub after both feeds of a world have spoken.

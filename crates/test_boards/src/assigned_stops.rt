@@ -14,9 +14,7 @@ use rt_types::{
     Entity, FeedMessage, Shared, StopProps, StopRelation, StopUpdate, StopUpdates, Text, TripRef,
     TripRelation, TripUpdate,
 };
-use sample_city::{
-    MOMENT, MOVED, NoMemory, UPDATE, dataset_of, last_stamp, no_bytes, two_feeds, view_after,
-};
+use sample_city::{MOMENT, MOVED, NoMemory, UPDATE, dataset_of, last_stamp, no_bytes, two_feeds};
 use std::alloc::{AllocError, Global};
 use std::test::Fail;
 use view_answers::{Question, answer};
@@ -205,7 +203,7 @@ fn view_of(alloc: Global, said: Said) -> Result<HubView, NoMemory> {
     if last_stamp(&view, 0) >= MOMENT {
         return Err(AllocError);
     }
-    view_after(alloc, &view, 0, message(alloc, said)?)
+    view.after(alloc, 0, message(alloc, said)?)
 }
 
 /// A trip, and the stop at which it leaves.

@@ -8,7 +8,7 @@ use rt_types::{
     Entity, Event, FeedMessage, Shared, StopRelation, StopUpdate, StopUpdates, Text, TripRef,
     TripRelation, TripUpdate,
 };
-use sample_city::{NoMemory, dataset_of, last_stamp, no_bytes, two_feeds, view_after};
+use sample_city::{NoMemory, dataset_of, last_stamp, no_bytes, two_feeds};
 use sched_types::Plans;
 use std::alloc::{AllocError, Global};
 use std::sync::Arc;
@@ -90,7 +90,7 @@ fn after(alloc: Global, view: &HubView, feed: u32, told: Told) -> Result<HubView
     if last_stamp(view, feed) >= MOMENT {
         return Err(AllocError);
     }
-    view_after(alloc, view, feed, message(alloc, told)?)
+    view.after(alloc, feed, message(alloc, told)?)
 }
 
 /// The rows at a stop in the hour from a moment on.
