@@ -59,6 +59,7 @@ else
   run replays_small replays "2,000 messages of 20 entities" small 2000 20
   run replays_full replays "4 whole data sets of 3,000 entities" full 4 3000
   run replays_large replays "a whole data set of 30,000 entities" full 1 30000
+  run boards bench/boards.sh
   run combined bench/combined.sh
   run gen bench/gen.sh
   run serve bench/serve.sh
@@ -68,6 +69,7 @@ else
   run sizes bench/running.sh sizes
   run looks bench/looks.sh 4000000 2000
   run intake bench/intake.sh
+  run index bench/index.sh
 fi
 
 python3 - "$said" <<'PY'
@@ -195,6 +197,18 @@ rows("`table.sh`",
      ("a differential message of 20 entities, two of them alerts, whose ids are spread over a table of 2,000 and of 20,000",
       joined(found("table", r"([\d,]+) instructions over")) + f" instructions, {shown(grown[1] if grown[1:] else None, '.2f')} times"),
      ("", joined(found("table", r"([\d,]+) microseconds over")) + f" microseconds, {shown(grown[0] if grown else None, '.1f')} times"))
+rows("`boards.sh`",
+     ("a board of 50 rows out of 20,000 trips and 2,000 updates, in a window of 7 and of 400 days",
+      joined(found("boards", r"days: ([\d,]+)")) + " instructions"),
+     ("a message of 20 updates of 20 places into a feed of 2,000 and of 20,000",
+      joined(found("boards", r"into a feed of [\d,]+: ([\d,]+)")) + " instructions"),
+     ("a whole data set of 3,000 such updates; reading it alone",
+      "; ".join(shown(first("boards", rf"{part}: ([\d,]+)")[0]) for part in ("read and taken in", "read alone")) + " instructions"),
+     ("memory of a feed of these", joined(found("boards", r"MiB of .*: ([\d.]+)"), ".1f") + " MiB"))
+rows("`index.sh`",
+     ("the index of departures of 1,000,000 stop times, next to loading these", joined(found("index", r"instructions, ([\d.]+) of"), ".2f") + " of the instructions, "
+      + joined(found("index", r"([\d.]+) MiB more"), ".1f") + " MiB"),
+     ("a departure that it hands out, in a window of 7 and of 400 days", joined(found("index", r"days: (\d+)")) + " instructions"))
 rows("`combined.sh`",
      ("the combined feed of 3,000 entities, without a prefix and with one", joined(found("combined", r": ([\d,]+) bytes")) + " bytes"),
      ("", joined(found("combined", r"bytes in ([\d,]+) microseconds")) + " microseconds, "
