@@ -5,6 +5,7 @@ use Rattle.feed_defs.specs.History.Refusal.{TooLong as LongCause}
 use Rattle.board_text_defs.specs.Answers.{Question, answer_to}
 use Rattle.http_serve_defs.specs.Connections.{Served, IsServed, connection_bytes}
 use Rattle.hub_replay_defs.specs.Lines.{Head, longest_line}
+use Rattle.hub_replay_defs.specs.Lines.Head.{Feed, Message, Ask, Connection, End}
 use Rattle.hub_replay_defs.specs.Record.{Hub, Turn, turn, act, reply_line, payload_waits, offered_turn, waits, answer_reply, question_word, folds_in, serving, connection_reply}
 use Rattle.answer_defs.specs.Choices.{only_if}
 use Rattle.hub_replay.specs.declared.records.Step.{Step}
@@ -93,6 +94,14 @@ Acts head behind step old new bytes said said' =
     Does (λ later more. act (serving later old) head (drop behind bytes ++ more))
     (λ later more. payload_waits (serving later old) head (drop behind bytes ++ more))
     step old new bytes said said'
+
+-- the question that a line asks, if it asks one
+abbrev pub question_in : Head → Option Question
+question_in (Ask question) = Some question
+question_in (Feed name) = None
+question_in (Message feed n) = None
+question_in (Connection moment n) = None
+question_in End = None
 
 -- so many bytes without a line among them wait, or are no record whatever follows
 abbrev pub LacksLine : ℕ → Step → Type 0

@@ -1,11 +1,12 @@
 //! One whole record: what it prints, and what it does to the hub.
 ghost use Rattle.std.specs.Prelude.{◌≡◌, ◌<◌, ◌≤◌, ◌+◌, ◌++◌, length, Some, None, slice_get};
+ghost use Rattle.std.specs.Option.{option_map};
 ghost use Rattle.view_answers.specs.Questions.{question_seen};
 ghost use Rattle.board_text_defs.specs.Answers.{IsAsked};
 ghost use Rattle.hub_replay_defs.specs.Lines.Head.{Feed, Message, Ask};
 ghost use Rattle.hub_replay_defs.specs.Record.{answer_reply, question_word};
 ghost use Rattle.script_lines.specs.Lines.{head_seen, MayAsk};
-ghost use Rattle.hub_replay.specs.Records.{Turns, Acts, LacksLine, Says, OffersTo, Asks};
+ghost use Rattle.hub_replay.specs.Records.{Turns, Acts, LacksLine, Says, OffersTo, Asks, question_in};
 
 use crate::NoMemory;
 use crate::connections::do_connection;
@@ -66,17 +67,30 @@ fn do_line(
     ensures { Acts (head_seen line.now) behind result hub.old hub.new
         bytes.now said.old.items said.new.items }
 {
+    if let Some(question) = question_of(line) {
+        return do_question(alloc, hub, &question, bytes, behind, said);
+    }
     match line {
         Line::Feed { name } => do_feed(alloc, hub, name.as_str(), bytes, behind, said),
         Line::Message { feed, n } => {
             do_message(alloc, hub, feed.as_str(), *n, bytes, behind, said)
         }
-        Line::Combined { schedule } => {
-            let question = Question::Feed {
-                schedule: schedule.as_str(),
-            };
-            do_question(alloc, hub, &question, bytes, behind, said)
+        Line::Connection { moment, n } => {
+            do_connection(alloc, hub, *moment, *n, bytes, behind, said)
         }
+        Line::End => Step::Ends,
+        _ => unreachable!(),
+    }
+}
+
+/// The question that a line asks, if it asks one.
+fn question_of(line: &Line) -> Option<Question<'_>>
+    ensures { option_map question_seen result ≡ question_in (head_seen line.now) }
+{
+    match line {
+        Line::Combined { schedule } => Some(Question::Feed {
+            schedule: schedule.as_str(),
+        }),
         Line::Board {
             schedule,
             stop,
@@ -84,45 +98,33 @@ fn do_line(
             span,
             limit,
             json,
-        } => {
-            let asked = BoardAsked {
-                schedule: schedule.as_str(),
-                stop: stop.as_str(),
-                at: *moment,
-                span: *span,
-                limit: *limit,
-                json: *json,
-            };
-            do_question(alloc, hub, &Question::Board(asked), bytes, behind, said)
-        }
+        } => Some(Question::Board(BoardAsked {
+            schedule: schedule.as_str(),
+            stop: stop.as_str(),
+            at: *moment,
+            span: *span,
+            limit: *limit,
+            json: *json,
+        })),
         Line::Alerts {
             schedule,
             stop,
             moment,
             span,
             limit,
-        } => {
-            let asked = BoardAsked {
-                schedule: schedule.as_str(),
-                stop: stop.as_str(),
-                at: *moment,
-                span: *span,
-                limit: *limit,
-                json: false,
-            };
-            do_question(alloc, hub, &Question::Alerts(asked), bytes, behind, said)
-        }
-        Line::Unmatched { schedule } => {
-            let question = Question::Unmatched {
-                schedule: schedule.as_str(),
-            };
-            do_question(alloc, hub, &question, bytes, behind, said)
-        }
-        Line::Status => do_question(alloc, hub, &Question::Status, bytes, behind, said),
-        Line::Connection { moment, n } => {
-            do_connection(alloc, hub, *moment, *n, bytes, behind, said)
-        }
-        Line::End => Step::Ends,
+        } => Some(Question::Alerts(BoardAsked {
+            schedule: schedule.as_str(),
+            stop: stop.as_str(),
+            at: *moment,
+            span: *span,
+            limit: *limit,
+            json: false,
+        })),
+        Line::Unmatched { schedule } => Some(Question::Unmatched {
+            schedule: schedule.as_str(),
+        }),
+        Line::Status => Some(Question::Status),
+        Line::Feed { .. } | Line::Message { .. } | Line::Connection { .. } | Line::End => None,
     }
 }
 

@@ -5,6 +5,7 @@ use Rattle.std.specs.List.{All, AllByRecursion, range_with_len}
 use Rattle.std.proofs.lemmas.List.Elements.{recursion_from_All, All-from_recursion}
 use mathlib.Core.List.{IsPrefix}
 use Rattle.sched_types.specs.Schedules.{Schedules}
+use Rattle.exit_status.specs.Codes.{code_of}
 use Rattle.hub_history.specs.Log.{entries_of}
 use Rattle.hub_history.specs.Told.{Told, history_of}
 use Rattle.snapshot_cell.specs.Seen.{PassSeen}
@@ -132,7 +133,7 @@ module _ {P D I O C : Type 0} (ports : PortWords P) (doors : DoorWords D I O) (s
     writing = ends.writing;
     wrote = ends.wrote;
     cause = ends.cause;
-    status_is = ends.status_is ∙ ap (λ (b : Bool). status_by ends.writing b rs' (map (λ (post : Post C). post.report) posts')) (sym ends.closes.there);
+    status_is = ends.status_is ∙ ap (λ (b : Bool). code_of (status_by ends.writing b rs' (map (λ (post : Post C). post.report) posts'))) (sym ends.closes.there);
   }
 
 -- what is read of the clocks of posts

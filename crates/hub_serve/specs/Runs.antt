@@ -2,6 +2,9 @@
 use Rattle.std.specs.Prelude.{◌≡◌, ℕ, nat_lt, not, Bool, true, false, ◌||◌, if◌then◌else◌, List, [], ◌∷◌, ◌++◌, length, Option, IfSome}
 use Rattle.std.specs.List.{list_any, sum_by}
 use Rattle.std.specs.Option.{is_some}
+use Rattle.exit_status.specs.Codes.{code_of}
+use Rattle.exit_status.specs.declared.status.ExitStatus.{ExitStatus}
+use Rattle.exit_status.specs.declared.status.ExitStatus.TheVariants as exit
 use Rattle.feed_defs.specs.History.{IsLegal}
 use Rattle.hub_history.specs.Told.{Told, history_of}
 use Rattle.sched_types.specs.declared.plans.NamedFeed.{NamedFeed}
@@ -78,12 +81,12 @@ is_ill report = is_fault report.end || nat_lt 0 report.too_long
 
 -- The output failed; or no ending was had, or an ingester had no memory for its buffer; or a port
 -- went ill, or a door failed; or all went well.
-abbrev pub status_by : Writing → Bool → List PortReport → List DoorReport → ℕ
-status_by Cut closed reports doors = 5
+abbrev pub status_by : Writing → Bool → List PortReport → List DoorReport → ExitStatus
+status_by Cut closed reports doors = exit.OutputFault
 status_by Whole closed reports doors =
-    if not closed || list_any (λ report. is_starved report.end) reports then 6
-    else if list_any is_ill reports || list_any (λ door. has_failed door.end) doors then 1
-    else 0
+    if not closed || list_any (λ report. is_starved report.end) reports then exit.NoMemory
+    else if list_any is_ill reports || list_any (λ door. has_failed door.end) doors then exit.Failed
+    else exit.Done
 
 -- ---- the run
 
@@ -106,7 +109,7 @@ pub record Ran {P D I O : Type 0}
   pub writing : Writing
   pub wrote : Wrote writing written written' (text_of schedules.feeds reports lasts door_reports)
   pub cause : HasCause Whole writing faults faults'
-  pub status_is : status ≡ status_by writing (is_some ending) reports door_reports
+  pub status_is : status ≡ code_of (status_by writing (is_some ending) reports door_reports)
 
 -- no hub was had for want of memory: no port and no door was asked, and nothing was written
 pub record WasNotOpened {P D K : Type 0} (ps ps' : List P) (ds ds' : List D) (out out' : K)
@@ -114,4 +117,4 @@ pub record WasNotOpened {P D K : Type 0} (ps ps' : List P) (ds ds' : List D) (ou
   pub ports_same : ps' ≡ ps
   pub doors_same : ds' ≡ ds
   pub out_same : out' ≡ out
-  pub wants : status ≡ 6
+  pub wants : status ≡ code_of exit.NoMemory

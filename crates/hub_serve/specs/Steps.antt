@@ -3,6 +3,7 @@ use Rattle.std.specs.Prelude.{◌≡◌, ℕ, Bool, List, map, Option, IfSome}
 use Rattle.std.specs.List.{All}
 use Rattle.std.specs.Option.{is_some}
 use mathlib.Core.List.{IsPrefix}
+use Rattle.exit_status.specs.Codes.{code_of}
 use Rattle.feed_defs.specs.History.{IsLegal}
 use Rattle.hub_history.specs.Told.{Told, history_of}
 use Rattle.snapshot_cell.specs.Seen.{PassSeen}
@@ -41,4 +42,4 @@ pub record EndsRun (hub : Ties) (feeds : List NamedFeed) (seats : List SeatSeen)
   pub writing : Writing
   pub wrote : Wrote writing written written' (text_of feeds reports (lasts_of seats) doors)
   pub cause : HasCause Whole writing faults faults'
-  pub status_is : status ≡ status_by writing closed reports doors
+  pub status_is : status ≡ code_of (status_by writing closed reports doors)

@@ -14,6 +14,7 @@ use crate::naming::OfHub;
 use crate::opening::{passes_at, port_reports, posts_of};
 use crate::readers::{HubPass, Post};
 use crate::working::run_work;
+use exit_status::ExitStatus;
 use feed_port::FeedPort;
 use hub_outside::{Clock, Door, Gate, Sink};
 use hub_shared::{FeedSeat, Opened, PortReport, open_hub};
@@ -23,9 +24,6 @@ use std::alloc::Global;
 use std::marker::Brand;
 use std::sync::{Arc, Wait};
 use std::thread::Threads;
-
-/// The exit status where memory is wanting.
-const WANTS_MEMORY: u8 = 6;
 
 /// Runs a hub with those timetables and feeds. It brings in the messages of each port, one for each feed,
 /// and serves the connections of each door with the clock of the same place, each in a thread of its own
@@ -63,10 +61,10 @@ where
         (K.written out.old) (K.written out.new) (K.faults out.old) (K.faults out.new) result }
 {
     let Ok(names) = Arc::try_clone(&plans) else {
-        return WANTS_MEMORY;
+        return ExitStatus::NoMemory.code();
     };
     let Ok(opened) = open_hub(rt, alloc, plans, doors.len() as u32) else {
-        return WANTS_MEMORY;
+        return ExitStatus::NoMemory.code();
     };
     run_opened::<Brand, R, P, D, C, K, G>(
         rt, alloc, &names, opened, ports, doors, clocks, gate, out,
@@ -114,7 +112,7 @@ where
         Ok(work) => work,
         Err(_) => {
             discard(rt, hub);
-            return WANTS_MEMORY;
+            return ExitStatus::NoMemory.code();
         }
     };
     let Work {

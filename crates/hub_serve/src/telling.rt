@@ -2,6 +2,7 @@
 
 ghost use Rattle.std.specs.Prelude.{◌≡◌, length, map, not, ◌||◌, if◌then◌else◌};
 ghost use Rattle.std.specs.List.{list_any};
+ghost use Rattle.exit_status.specs.declared.status.ExitStatus.TheVariants as exit;
 ghost use Rattle.serve_lines.specs.declared.pieces.Writing.TheVariants.{Whole};
 ghost use Rattle.serve_lines.specs.Wrote.{Puts, HasCause};
 ghost use Rattle.hub_serve.specs.Runs as run;
@@ -10,6 +11,7 @@ ghost use Rattle.hub_serve.specs.Steps.{lasts_of};
 
 use crate::closing::Closed;
 use crate::readers::Post;
+use exit_status::ExitStatus;
 use http_door::DoorEnd;
 use hub_outside::Sink;
 use hub_shared::{FeedSeat, PortEnd, PortReport};
@@ -89,19 +91,20 @@ fn sum_of<C>(posts: &[Post<C>]) -> ReaderNumbers
     sum
 }
 
-/// The exit status of a run: 5 where the output failed, else 6 where memory was wanting to close the hub
-/// or for an ingester's buffer, else 1 where a port or a door failed or a message was too long, else 0.
+/// How a run ended: `OutputFault` where the output failed, else `NoMemory` where memory was wanting to close
+/// the hub or for an ingester's buffer, else `Failed` where a port or a door failed or a message was too long,
+/// else `Done`.
 pub(crate) fn status_of<C>(
     writing: Writing,
     closed: &Closed,
     reports: &[PortReport],
     posts: &[Post<C>],
-) -> u8
+) -> ExitStatus
     ensures { result ≡ run.status_by writing closed.now reports.now
         (map (λ post. post.report) posts.now) }
 {
     match writing {
-        Writing::Cut => 5,
+        Writing::Cut => ExitStatus::OutputFault,
         Writing::Whole => status_whole(
             wants_memory(closed.has_ending(), reports),
             went_ill(reports, posts),
@@ -125,15 +128,15 @@ fn went_ill<C>(reports: &[PortReport], posts: &[Post<C>]) -> bool
 }
 
 /// The status where all was written.
-fn status_whole(wants: bool, ill: bool) -> u8
-    ensures { result ≡ (if wants then 6 else if ill then 1 else 0) }
+fn status_whole(wants: bool, ill: bool) -> ExitStatus
+    ensures { result ≡ (if wants then exit.NoMemory else if ill then exit.Failed else exit.Done) }
 {
     if wants {
-        6
+        ExitStatus::NoMemory
     } else if ill {
-        1
+        ExitStatus::Failed
     } else {
-        0
+        ExitStatus::Done
     }
 }
 

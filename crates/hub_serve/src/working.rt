@@ -152,5 +152,5 @@ fn end<H: OfHub, R: Wait, C, K: Sink>(
 {
     let closed = close(rt, hub, seats, passes);
     let writing = write_lines(out, &closed, plans, seats, reports, posts);
-    status_of(writing, &closed, reports, posts)
+    status_of(writing, &closed, reports, posts).code()
 }
