@@ -27,9 +27,10 @@ mod words;
 use hub_outside::StdFiles;
 use std::alloc::{AllocError as NoMemory, Global};
 use std::process::ExitCode;
+use std::rt;
 use std::sync::Wait;
 use std::thread::Threads;
-use words::{Command, Departures, Task, Way, read_command};
+use words::{Command, Task, Way, read_command};
 
 /// What a run counted.
 #[derive(Debug, Drop)]
@@ -76,20 +77,24 @@ fn print_line<R: Print>(rt: &R, alloc: Global, tally: Option<Tally>) -> u8 {
 }
 
 /// Does what is asked for; none where memory ran out, or where the timetable can't be loaded.
-fn run(rt: &HostRuntime, command: &Command) -> Option<Tally>
+fn run<R: Threads + Wait + Sync + rt::Files>(
+    rt: &R,
+    alloc: Global,
+    command: &Command,
+) -> Option<Tally>
     requires { IsMeasurable command.now }
 {
     match command {
-        Command::Rates(task) => tally_of(rt, rt.alloc(), task).ok(),
+        Command::Rates(task) => tally_of(rt, alloc, task).ok(),
         Command::Departures(asked) => {
-            departures::counted(rt.alloc(), &mut StdFiles::new(rt), asked).ok()
+            departures::counted(alloc, &mut StdFiles::new(rt), asked).ok()
         }
     }
 }
 
 fn main(rt: HostRuntime) -> ExitCode {
     let status = match read_command(std::env::args(&rt)) {
-        Some(command) => print_line(&rt, rt.alloc(), run(&rt, &command)),
+        Some(command) => print_line(&rt, rt.alloc(), run(&rt, rt.alloc(), &command)),
         None => match rt.eprintln(
             "usage: bench_rates cell|mutex|offer|none THREADS LOOKS MESSAGES (1 to 64 threads), or \
              bench_rates departures CONFIG START SPAN TIMES",
