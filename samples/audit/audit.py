@@ -268,4 +268,7 @@ def main():
         tell_rows(audit, counts)
 
 
-main()
+try:
+    main()
+except (OSError, ValueError, subprocess.CalledProcessError) as error:
+    sys.exit(f"audit.py: {error}")

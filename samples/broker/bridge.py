@@ -33,7 +33,7 @@ from wire import fields
 LONGEST = 16_777_216  # bytes of a message: at a longer one a hub ends the stream
 GREATEST_STAMP = 253_402_300_799
 AGAIN_SECONDS = 1
-SILENCE_SECONDS = 60  # after which a hub that takes nothing is given up
+SILENCE_SECONDS = 60  # after which a machine that doesn't answer is given up
 AHEAD = 262_144  # bytes that the system keeps for a hub that is at work
 HEXADECIMAL = re.compile("(?:[0-9a-f]{2})+\n")
 
@@ -119,10 +119,17 @@ class Log:
             return following, self.messages[following].frame()
 
 
-def give(log, link):
-    """Hands on what counts, until the hub is gone or takes nothing any more."""
-    link.setsockopt(socket.IPPROTO_TCP, socket.TCP_USER_TIMEOUT, SILENCE_SECONDS * 1000)
+def watch(link):
+    """Has a connection end once the other side's machine has vanished, of which nothing else would tell."""
     link.setsockopt(socket.SOL_SOCKET, socket.SO_KEEPALIVE, 1)
+    link.setsockopt(socket.IPPROTO_TCP, socket.TCP_KEEPIDLE, SILENCE_SECONDS // 2)
+    link.setsockopt(socket.IPPROTO_TCP, socket.TCP_KEEPINTVL, SILENCE_SECONDS // 6)
+    link.setsockopt(socket.IPPROTO_TCP, socket.TCP_KEEPCNT, 3)
+
+
+def give(log, link):
+    """Hands on what counts, until the hub is gone."""
+    watch(link)
     link.setsockopt(socket.SOL_SOCKET, socket.SO_SNDBUF, AHEAD)
     number = 0
     with link:
@@ -153,6 +160,7 @@ def stream(words):
     """The messages of a stream, each after four bytes with its length."""
     host, port = words[0].rsplit(":", 1)
     with socket.create_connection((host, int(port))) as link, link.makefile("rb") as file:
+        watch(link)
         while len(head := file.read(4)) == 4:
             length = struct.unpack(">I", head)[0]
             if length > LONGEST or len(payload := file.read(length)) < length:

@@ -105,6 +105,17 @@ sed 's/Market/market/' "$work/last" > "$work/forged"
 check "an answer that the hub never gave is found out" is "$(audit "$work/forged" /board/city/ST; echo $?)" 1
 sed 's/^/        /' "$work/said"
 
+echo "== a hub that took messages in another order than that in which they came"
+mkdir "$work/turned"
+samples/tests/audit.py "$hub" "$work/hub.toml" "$work/turned"
+turned() { HUB=$hub samples/audit/audit.py "$work/hub.toml" "$work/turned/records" "$work/turned/answer" /feed/city > "$work/said" 2>&1; }
+check "its answer is found by its status" turned
+sed 's/^/        /' "$work/said"
+rm "$work/turned/answer.status"
+check "and without" turned
+sed 's/^/        /' "$work/said"
+check "by a further try" grep -q '^accepted before it: notices 1, trams 4; found by try [2-9]$' "$work/said"
+
 echo "== a spool by way of the recorder"
 samples/serve/send.py samples/serve/hub.toml spool "$work/spool" alert
 stop_process "$hub_process"
