@@ -52,10 +52,16 @@ while :; do
 done &
 started+=("$!")
 
+# seconds_to_next COUNT: how long it is until the next answer is asked for, after so many.
+seconds_to_next() {
+  awk -v began="$began" -v now="$EPOCHREALTIME" -v all="$seconds" -v of="$answers" -v count="$1" \
+    'BEGIN { rest = began + count * all / of - now; print (rest > 0 ? rest : 0) }'
+}
+
 echo "== $answers answers in $seconds seconds"
 paths=('/board/city/ST' '/board/city/S3?span=7200' '/board/city/S1?limit=3&format=json' '/alerts/city/ST' '/unmatched/city'
   '/board/city/ST?span=86400&limit=1000' '/feed/city' '/board/city/S2' '/board/city/NO')
-began=$(date +%s.%N)
+began=$EPOCHREALTIME
 for count in $(seq "$answers"); do
   path=${paths[count % ${#paths[@]}]}
   # Each third answer is asked for while messages of both feeds are on their way.
@@ -70,8 +76,7 @@ for count in $(seq "$answers"); do
   else
     curl -sS -i --max-time 5 "http://$hub_address$path" -o "$work/answer.$count"
   fi
-  sleep "$(awk -v began="$began" -v now="$(date +%s.%N)" -v each="$(awk "BEGIN { print $seconds / $answers }")" -v count="$count" \
-    'BEGIN { rest = began + each * count - now; print (rest > 0 ? rest : 0) }')"
+  sleep "$(seconds_to_next "$count")"
 done
 curl -fsS --max-time 5 "http://$hub_address/status" | sed 's/^/        /'
 (cd "$work/records" && wc -c -- * | sed 's/^/        bytes kept: /')
