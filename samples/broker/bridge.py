@@ -2,11 +2,13 @@
 """Takes the messages of one GTFS Realtime feed from a topic of an MQTT broker, or from a stream, and hands them to any
 number of hubs.
 
-usage: bridge.py ADDRESS mqtt WORD ..     WORDs are those of mosquitto_sub: -h HOST -t TOPIC -c -i NAME, and what the
-                                          broker asks for (-u, -P, --cafile)
-       bridge.py ADDRESS tcp HOST:PORT    a stream: of another bridge, of poll.py, or of whoever listens there
+usage: bridge.py [--state FILE] ADDRESS mqtt WORD ..     WORDs are those of mosquitto_sub: -h HOST -t TOPIC -c -i NAME,
+                                                         and what the broker asks for (-u, -P, --cafile)
+       bridge.py [--state FILE] ADDRESS tcp HOST:PORT    a stream: of another bridge, of poll.py, or of whoever listens
+                                                         there
 
-At ADDRESS (HOST:PORT, 0 for a free port) hubs find it: a feed of kind "stream" whose place is this address.
+At ADDRESS (HOST:PORT, 0 for a free port) hubs find it: a feed of kind "stream" whose place is this address. What still
+counts when it is ended by a signal is kept in FILE, and taken from there, and removed, when it starts again.
 
 A hub that connects is sent what still counts: the last whole data set and the messages since then, each without the
 entities that later ones have replaced, and from then on what comes. So it comes to hold what a hub holds that has
@@ -15,6 +17,7 @@ what still counts once, whatever the number of hubs is, and nothing for each of 
 
 Broker, stream and hubs may come and go as they like. It runs until it is ended; what is wrong it says on standard error.
 """
+import argparse
 import bisect
 import re
 import signal
@@ -145,49 +148,61 @@ def tell(trouble):
     print(f"bridge.py: {trouble}", file=sys.stderr, flush=True)
 
 
-def topic(words):
-    """The messages of a topic, and what goes wrong. mosquitto_sub writes a message as a line of hexadecimal digits."""
-    command = ["mosquitto_sub", "-q", "1", "-F", "%x", *words]
-    with subprocess.Popen(command, stdout=subprocess.PIPE, stderr=subprocess.STDOUT, text=True) as program:
-        try:
+def framed(file):
+    """The messages of a stream, each after four bytes with its length."""
+    while len(head := file.read(4)) == 4:
+        length = struct.unpack(">I", head)[0]
+        if length > LONGEST or len(payload := file.read(length)) < length:
+            return
+        yield payload
+
+
+class Source:
+    """Where messages come from. `end` ends what it waits for; what has come by then is still handed on."""
+
+    def __init__(self, kind, words):
+        self.open, self.words = {"mqtt": self.topic, "tcp": self.stream}[kind], words
+        self.ended, self.interrupt = threading.Event(), lambda: None
+
+    def end(self, *_):
+        self.ended.set()
+        self.interrupt()
+
+    def topic(self):
+        """The messages of a topic, and what goes wrong. mosquitto_sub writes a message as a line of hexadecimal digits."""
+        command = ["mosquitto_sub", "-q", "1", "-F", "%x", *self.words]
+        with subprocess.Popen(command, stdout=subprocess.PIPE, stderr=subprocess.STDOUT, text=True) as program:
+            self.interrupt = program.terminate
             for line in program.stdout:
                 yield bytes.fromhex(line) if HEXADECIMAL.fullmatch(line) else line.strip()
-        finally:
-            program.terminate()
 
+    def stream(self):
+        host, port = self.words[0].rsplit(":", 1)
+        with socket.create_connection((host, int(port))) as link, link.makefile("rb") as file:
+            watch(link)
+            self.interrupt = lambda: link.shutdown(socket.SHUT_RDWR)
+            yield from framed(file)
 
-def stream(words):
-    """The messages of a stream, each after four bytes with its length."""
-    host, port = words[0].rsplit(":", 1)
-    with socket.create_connection((host, int(port))) as link, link.makefile("rb") as file:
-        watch(link)
-        while len(head := file.read(4)) == 4:
-            length = struct.unpack(">I", head)[0]
-            if length > LONGEST or len(payload := file.read(length)) < length:
-                return
-            yield payload
+    def messages(self):
+        """What comes, again and again, until it is ended. What goes wrong is said once, until messages come again."""
+        troubles = set()
+        while not self.ended.is_set():
+            try:
+                for said in self.open():
+                    if isinstance(said, bytes):
+                        troubles.clear()
+                        yield said
+                    else:
+                        self.tell_once(troubles, said)
+                self.tell_once(troubles, "the source has ended; it is asked again each second")
+            except OSError as error:
+                self.tell_once(troubles, f"the source: {error}")
+            self.ended.wait(AGAIN_SECONDS)
 
-
-def follow(log, source, words):
-    """Takes what the source has, and asks it again once it has ended. What goes wrong is said once, until messages come
-    again."""
-    troubles = set()
-    while True:
-        try:
-            for said in source(words):
-                if isinstance(said, bytes):
-                    log.offer(said)
-                    troubles.clear()
-                elif said not in troubles:
-                    troubles.add(said)
-                    tell(said)
-            said = "the source has ended; it is asked again each second"
-        except OSError as error:
-            said = f"the source: {error}"
-        if said not in troubles:
+    def tell_once(self, troubles, said):
+        if said not in troubles and not self.ended.is_set():
             troubles.add(said)
             tell(said)
-        time.sleep(AGAIN_SECONDS)
 
 
 def accept(log, listener):
@@ -197,17 +212,29 @@ def accept(log, listener):
 
 
 def main():
-    kinds = {"mqtt": topic, "tcp": stream}
-    if len(sys.argv) < 4 or sys.argv[2] not in kinds:
-        sys.exit(__doc__)
-    for number in (signal.SIGTERM, signal.SIGINT):
-        signal.signal(number, lambda *_: sys.exit())  # by way of `finally`, so that mosquitto_sub is ended too
-    host, port = sys.argv[1].rsplit(":", 1)
+    parser = argparse.ArgumentParser(add_help=False)
+    parser.error = lambda _: sys.exit(__doc__)
+    parser.add_argument("--state", type=Path)
+    parser.add_argument("address")
+    parser.add_argument("kind", choices=("mqtt", "tcp"))
+    parser.add_argument("words", nargs=argparse.REMAINDER)
+    words = parser.parse_args()
+    log, source = Log(), Source(words.kind, words.words)
+    if words.state and words.state.exists():
+        with open(words.state, "rb") as file:
+            for payload in framed(file):
+                log.offer(payload)
+        words.state.unlink()
+    host, port = words.address.rsplit(":", 1)
     listener = socket.create_server((host, int(port)), backlog=128)
     tell("listening on %s:%d" % listener.getsockname()[:2])
-    log = Log()
+    for number in (signal.SIGTERM, signal.SIGINT):
+        signal.signal(number, source.end)
     threading.Thread(target=accept, args=(log, listener), daemon=True).start()
-    follow(log, kinds[sys.argv[2]], sys.argv[3:])
+    for payload in source.messages():
+        log.offer(payload)
+    if words.state:
+        words.state.write_bytes(b"".join(message.frame() for message in log.messages.values()))
 
 
 main()

@@ -83,7 +83,7 @@ echo "user $(id -un)" >> "$work/broker.conf"
 source=(mqtt -h 127.0.0.1 -p "$port" -t city/trams -c -i trams)
 
 echo "== hubs, bridge and broker start in any order"
-start_bridge bridge 127.0.0.1:0 "${source[@]}"
+start_bridge bridge --state "$work/state" 127.0.0.1:0 "${source[@]}"
 bridge=$bridge_address bridge_first=$bridge_process
 start_taker first "$bridge" 127.0.0.1:0
 first=$hub_address first_process=$hub_process
@@ -149,11 +149,19 @@ wait_for has_last "$fourth"
 stop_process "$bridge_first"
 publish $((rate * 2))
 wait "$producer"
-start_bridge bridge "$bridge" "${source[@]}"
+[ -s "$work/state" ] || fail "the bridge has left no state"
+start_bridge bridge --state "$work/state" "$bridge" "${source[@]}"
 wait_for has_last "$fourth"
 replay_all
 check "the hub of the other bridge has what was published meanwhile" holds_all "$fourth"
 check "and those of the one that ended need a start" is "$(trams_at "$first" | cut -d ' ' -f 1)" "$((stamp - rate * 2 - 1))"
+
+stop_process "$bridge_process"
+start_bridge bridge --state "$work/state" "$bridge" "${source[@]}"
+start_taker fifth "$bridge" 127.0.0.1:0
+wait_for has_last "$hub_address"
+check "a hub that starts after a bridge has all, by $(messages_at "$hub_address") messages" holds_all "$hub_address"
+stop_process "$hub_process"
 
 echo "== $readers readers of one bridge"
 began=$(processor_of "$bridge_process")
