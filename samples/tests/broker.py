@@ -45,38 +45,41 @@ class Publisher:
         self.connect()
 
     def connect(self):
-        while True:
-            try:
-                self.link, self.heard = socket.create_connection(self.address, timeout=5), b""
-                self.link.sendall(packet(CONNECT, text("MQTT") + bytes([4, 2]) + struct.pack(">H", 0) + text("producer")))
-                if self.link.recv(4) == bytes([0x20, 2, 0, 0]):
-                    break
-            except OSError:
-                pass
+        while not self.connects():
             time.sleep(0.1)
-        for flags, body in list(self.waiting.values()):
-            self.send(PUBLISH | flags | AGAIN, body)
 
-    def send(self, first, body):
+    def connects(self):
+        """Whether the broker takes a connection, and what it hasn't acknowledged."""
         try:
-            self.link.sendall(packet(first, body))
+            self.link, self.heard = socket.create_connection(self.address, timeout=30), b""
+            self.link.setsockopt(socket.IPPROTO_TCP, socket.TCP_NODELAY, 1)
+            self.link.sendall(packet(CONNECT, text("MQTT") + bytes([4, 2]) + struct.pack(">H", 0) + text("producer")))
+            if self.link.recv(4) != bytes([0x20, 2, 0, 0]):
+                return False
+            for name, (flags, body) in list(self.waiting.items()):
+                if name in self.waiting:
+                    self.link.sendall(packet(PUBLISH | flags | AGAIN, body))
+                    self.take_answers(0)
+            return True
         except OSError:
-            self.connect()
+            return False
+
+    def take_answers(self, seconds):
+        """Takes the acknowledgements that come within that time: each has four bytes, of which two name the message."""
+        if select.select([self.link], [], [], seconds)[0]:
+            came = self.link.recv(65536)
+            if not came:
+                raise OSError("the broker is gone")
+            self.heard += came
+            while len(self.heard) >= 4:
+                self.waiting.pop(struct.unpack(">H", self.heard[2:4])[0], None)
+                self.heard = self.heard[4:]
 
     def hear(self, seconds):
-        """Takes the acknowledgements that come within that time: each has four bytes, of which two name the message."""
-        if not select.select([self.link], [], [], seconds)[0]:
-            return
         try:
-            came = self.link.recv(65536)
+            self.take_answers(seconds)
         except OSError:
-            came = b""
-        if not came:
-            return self.connect()
-        self.heard += came
-        while len(self.heard) >= 4:
-            self.waiting.pop(struct.unpack(">H", self.heard[2:4])[0], None)
-            self.heard = self.heard[4:]
+            self.connect()
 
     def publish(self, topic, payload, retain):
         while len(self.waiting) >= WAITING:
@@ -86,7 +89,10 @@ class Publisher:
         flags = QUALITY_1 | (RETAIN if retain else 0)
         body = text(topic) + struct.pack(">H", name) + payload
         self.waiting[name] = flags, body
-        self.send(PUBLISH | flags, body)
+        try:
+            self.link.sendall(packet(PUBLISH | flags, body))
+        except OSError:
+            self.connect()
         self.hear(0)
 
 
