@@ -1,7 +1,7 @@
 #!/usr/bin/env bash
-# Tries samples/operating/judge.sh on messages for the example's city: a good one, a stale one, malformed ones, one with a
-# trip that the timetable doesn't have, and one that is too much for a stamp. Ends by itself, with status 0 exactly where
-# all was as it should be. HUB names the program, where it is not ./hub. Needs python3.
+# Tries samples/operating/judge.sh: on the message of samples/late.script, of which each line is known, and on messages for
+# the example's city: good ones, a stale one, malformed ones, and one with a trip that the timetable doesn't have. Ends by
+# itself, with status 0 exactly where all was as it should be. HUB names the program, where it is not ./hub. Needs python3.
 set -euo pipefail
 top=$(cd "$(dirname "$0")/../.." && pwd)
 . "$top/samples/serve/functions.sh"
@@ -37,6 +37,29 @@ header = run(1, run(1, b"2.0") + number(3, 1795871749))
 open(folder + "/latin", "wb").write(header + run(2, run(1, b"a")) + run(2, run(1, b"b") + run(3, run(1, run(1, b"Z\xfcrich")))))
 open(folder + "/undated", "wb").write(run(1, run(1, b"2.0")))
 PY
+
+echo "== a message of which all is known"
+python3 - > "$work/known" <<'PY'
+import sys
+line, _, rest = open("samples/late.script", "rb").read().partition(b"\n")
+sys.stdout.buffer.write(rest[:int(line.split()[2])])
+PY
+tr '|' '\t' > "$work/wanted" <<'WANTED'
+accepted: a whole data set with stamp 1743314000
+unmatched: 0
+stops that it touches: 3
+stop|ST|Market
+  - 1743314400|1743314400|-|scheduled|7|Hill|T1|20250330|S1
+  - 1743315660|1743315660|-|scheduled|7|Hill|T1|20250330|S2
+  + 1743314700|1743314400|300|live|7|Hill|T1|20250330|S1
+  + 1743315960|1743315660|300|live|7|Hill|T1|20250330|S2
+stop|S3|Harbour
+  - 1743315000|1743315000|-|scheduled|7|Hill|T1|20250330|S3
+  + 1743315300|1743315000|300|live|7|Hill|T1|20250330|S3
+stop|S4|Hill|nothing changes
+WANTED
+HUB=$hub samples/operating/judge.sh samples/city.toml a "$work/known" > "$work/said" 2>&1 || true
+check "it is said line by line" diff "$work/wanted" "$work/said"
 
 echo "== a good message"
 check "it is accepted" judged 0 "$work/late"
