@@ -27,7 +27,7 @@ sleep 1.1
 message late skipped canceled added > "$work/later"
 message unmatched > "$work/unmatched"
 message alert > "$work/alert"
-head -c 100 "$work/late" > "$work/cut"
+head -c -1 "$work/late" > "$work/cut"
 python3 - "$work" <<'PY'
 import sys
 sys.path.append("samples/serve")
