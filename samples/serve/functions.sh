@@ -97,6 +97,7 @@ start_hub() {
   sed -e 's/^listen = .*/listen = "127.0.0.1:0"/' \
     -e "s/^first = .*/first = \"$(date -d yesterday +%Y%m%d)\"/" -e 's/^days = .*/days = 3/' "${edits[@]}" \
     "$top/samples/serve/hub.toml" > "$work/$name.toml"
+  : > "$work/$name.err"
   (cd "$top" && exec "$hub" serve "$work/$name.toml" > "$work/$name.out" 2> "$work/$name.err" 7>&-) &
   hub_process=$!
   started+=("$hub_process")
