@@ -42,7 +42,8 @@ CROSSING = [
     ("5", "9C6B1E", TRAM, (5, 270), (5.5, 125), (-0.8, -0.4)), ("6", "4A5560", TRAM, (6, 320), (6, 180), (0, 0)),
 ]
 TURNS = iter("""Airport|Harbour|University|Stadium|Lakeside|Exhibition Centre|Zoo|Botanical Garden|General Hospital|
-Old Brewery|Forest Cemetery|Science Park|Observatory|Ferry Landing|Racecourse|Waterworks|Windmill|Fort""".replace("\n", "").split("|"))
+Old Brewery|Forest Cemetery|Science Park|Observatory|Ferry Landing|Racecourse|Waterworks|Windmill|Fort
+""".replace("\n", "").split("|"))
 KNOWN = {(0, 0): "Central Station", (0.8, 0.4): "Market", (-0.8, -0.4): "Town Hall", (0.4, 0.4): "Opera",
          (-0.4, 0): "Old Bridge", (0.4, -0.4): "Post Office", (-0.4, 0.4): "Cathedral", (0, 0.4): "Theatre"}
 FIRST = """Linden Mill Weaver Castle Abbey Orchard Baker Cooper Fisher Garden King Queen Bishop Rose Poplar Maple Birch
@@ -218,7 +219,8 @@ def main():
            for name, line, service, direction, stations, _ in made))
     stops = write(folder, "stops.txt", "stop_id,stop_name,stop_lat,stop_lon,location_type,parent_station,platform_code",
                   stop_rows(city))
-    write(folder, "routes.txt", "route_id,agency_id,route_short_name,route_long_name,route_type,route_color,route_text_color",
+    write(folder, "routes.txt",
+          "route_id,agency_id,route_short_name,route_long_name,route_type,route_color,route_text_color",
           ((line.name, "city", line.name, f"{line.stations[0].name} - {line.stations[-1].name}", line.kind, line.colour,
             "FFFFFF") for line in city.lines))
     write(folder, "agency.txt", "agency_id,agency_name,agency_url,agency_timezone",

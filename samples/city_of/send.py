@@ -42,7 +42,8 @@ EXTRA_EACH = 20 * 60
 
 def chance(*words):
     """A number from 0 to 1 that is always the same for these words."""
-    return int.from_bytes(hashlib.blake2b("|".join(map(str, words)).encode(), digest_size=6).digest(), "big") / (1 << 48)
+    digest = hashlib.blake2b("|".join(map(str, words)).encode(), digest_size=6).digest()
+    return int.from_bytes(digest, "big") / (1 << 48)
 
 
 def chosen(items, *words):
@@ -70,8 +71,6 @@ class Trip(NamedTuple):
     name: str
     line: str
     service: str
-    direction: str
-    headsign: str
     stops: list  # the stop_id of each place
     leaves: list  # and its seconds after midnight
 
@@ -80,21 +79,19 @@ class Timetable:
     """The trips by route_type, and which services run on a date."""
 
     def __init__(self, folder):
-        self.kind_of = {row["route_id"]: row["route_type"] for row in rows(folder, "routes.txt")}
+        kind_of = {row["route_id"]: row["route_type"] for row in rows(folder, "routes.txt")}
         places = {}
         for row in rows(folder, "stop_times.txt"):
             places.setdefault(row["trip_id"], []).append((row["stop_id"], seconds(row["departure_time"])))
         self.trips = {kind: [] for kind in KINDS.values()}
         for row in rows(folder, "trips.txt"):
             stops, leaves = map(list, zip(*places[row["trip_id"]]))
-            self.trips[self.kind_of[row["route_id"]]].append(Trip(
-                row["trip_id"], row["route_id"], row["service_id"], row["direction_id"], row["trip_headsign"], stops, leaves))
+            self.trips[kind_of[row["route_id"]]].append(
+                Trip(row["trip_id"], row["route_id"], row["service_id"], stops, leaves))
         self.weeks = {row["service_id"]: row for row in rows(folder, "calendar.txt")}
         self.exceptions = {(row["service_id"], row["date"]): row["exception_type"]
                            for row in rows(folder, "calendar_dates.txt")}
-        stops = rows(folder, "stops.txt")
-        self.name_of = {row["stop_id"]: row["stop_name"] for row in stops}
-        self.station_of = {row["stop_id"]: row["parent_station"] for row in stops}
+        self.stops = {row["stop_id"] for row in rows(folder, "stops.txt")}
 
     def runs(self, service, date):
         said = self.exceptions.get((service, date))
@@ -178,7 +175,7 @@ class Feed:
         place = int(chance("moved at", trip.name, date) * (len(trip.stops) - 1))
         station, _, platform = trip.stops[place].partition(":")
         other = f"{station}:{dict(zip('ABCD123456', 'BADC214365'))[platform]}"
-        return (place, other) if other in self.timetable.station_of else (None, None)
+        return (place, other) if other in self.timetable.stops else (None, None)
 
     def extra(self, now):
         """Trips in addition by day, each as one of the line that begins at about its time."""
@@ -193,8 +190,9 @@ class Feed:
             if place >= len(leaves):
                 continue
             named = f"extra-{line}-{time.strftime('%H%M', time.localtime(begin))}"
-            yield named, update(run(1, named.encode()) + number(4, ADDED) + run(5, line.encode()), *(
-                run(3, number(2, leave)) + run(4, stop.encode()) for leave, stop in zip(leaves[place:], model.stops[place:])))
+            calls = zip(leaves[place:], model.stops[place:])
+            yield named, update(run(1, named.encode()) + number(4, ADDED) + run(5, line.encode()),
+                                *(run(3, number(2, leave)) + run(4, stop.encode()) for leave, stop in calls))
 
     def alerts(self, now):
         for line, begin, end in self.disturbances(now):
@@ -202,14 +200,14 @@ class Feed:
                 TECHNICAL, DELAYS, f"Line {line}: delays of up to six minutes after a fault of the signals.",
                 [(2, line)], (begin, end))
         if self.name == "metro":
-            yield "lift", alert(MAINTENANCE, ACCESSIBILITY, "Central Station: the lift to platforms 1 and 2 is out of order.",
-                                [(5, "central-station")])
+            text = "Central Station: the lift to platforms 1 and 2 is out of order."
+            yield "lift", alert(MAINTENANCE, ACCESSIBILITY, text, [(5, "central-station")])
         elif self.name == "trams":
-            yield "works", alert(CONSTRUCTION, MODIFIED, "Line 3: works on the track at Market from 20:00 to 04:00; trams run slowly.",
-                                 [(2, "3")], *self.daily(now, 20, 28))
+            text = "Line 3: works on the track at Market from 20:00 to 04:00; trams run slowly."
+            yield "works", alert(CONSTRUCTION, MODIFIED, text, [(2, "3")], *self.daily(now, 20, 28))
         else:
-            yield "market", alert(OTHER, DELAYS, "Market days: until 14:00 buses may come late to the Market.",
-                                  [(5, "market")], *self.daily(now, 7, 14, (2, 5)))
+            text = "Market days: until 14:00 buses may come late to the Market."
+            yield "market", alert(OTHER, DELAYS, text, [(5, "market")], *self.daily(now, 7, 14, (2, 5)))
 
     def daily(self, now, begin, end, weekdays=range(7)):
         """Periods between two hours of these weekdays, from yesterday to a week ahead."""

@@ -258,8 +258,8 @@ function tellNews(rows) {
   const worse = rows.filter((row) => (row.state === "live"
     ? minutesBetween(row.scheduled, row.expected) >= 3 : row.state !== "scheduled"));
   if (worse.length === 0) return;
-  setText(part("news"), worse.slice(0, 3).map((row) =>
-    TEXTS.news(row.route, row.headsign || TEXTS.noHeadsign, clockOf(row.scheduled ?? row.expected), remarkOf(row))).join(" "));
+  setText(part("news"), worse.slice(0, 3).map((row) => TEXTS.news(row.route, row.headsign || TEXTS.noHeadsign,
+    clockOf(row.scheduled ?? row.expected), remarkOf(row))).join(" "));
 }
 
 // Those of all stops, each once.

@@ -103,7 +103,8 @@ const WORDS = {
     minutes: (count) => (count === 1 ? "vor 1 Minute" : `vor ${count} Minuten`),
     news: (line, headsign, clock, remark) => `Linie ${line}, ${headsign}, ${clock}: ${remark}.`,
     effects: ["Kein Betrieb", "Weniger Fahrten", "Große Verspätungen", "Umleitung", "Zusätzliche Fahrten",
-      "Geänderter Betrieb", "Hinweis", "Hinweis", "Haltestelle verlegt", "Ohne Folgen für den Betrieb", "Barrierefreiheit"],
+      "Geänderter Betrieb", "Hinweis", "Hinweis", "Haltestelle verlegt", "Ohne Folgen für den Betrieb",
+      "Barrierefreiheit"],
     notice: "Hinweis",
   },
 

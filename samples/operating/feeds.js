@@ -247,7 +247,8 @@ function tick() {
   const all = [...hubs.values()];
   const away = all.filter(isOld).length;
   const feeds = new Set(all.flatMap((hub) => hub.feeds.map((feed) => feed.feed)));
-  const bad = new Set(all.flatMap((hub) => hub.feeds.filter((feed) => stateOf(hub, feed)[0] === "bad").map((feed) => feed.feed)));
+  const bad = new Set(all.flatMap((hub) =>
+    hub.feeds.filter((feed) => stateOf(hub, feed)[0] === "bad").map((feed) => feed.feed)));
   const told = [...new Set(all.flatMap((hub) => hub.wrong))];
   if (bad.size > 0) told.unshift(`Feeds that need a look: ${bad.size} of ${feeds.size}`);
   if (away > 0) told.unshift(`Hubs that do not answer: ${away} of ${all.length}`);
@@ -259,7 +260,7 @@ function tick() {
 
 part("schedule").value = SCHEDULES[0] ?? "";
 part("stop").value = STOPS[0] ?? "";
-setText(part("zone"), `Times are those of this device's zone, ${clock.resolvedOptions().timeZone}; ages are counted by the hub's clock. `
-  + `A feed is silent after ${SILENT[""]} seconds, where the page's address doesn't say another number.`);
+setText(part("zone"), `Times are those of this device's zone, ${clock.resolvedOptions().timeZone}; ages are counted by the `
+  + `hub's clock. A feed is silent after ${SILENT[""]} seconds, where the page's address doesn't say another number.`);
 setInterval(tick, 1000);
 poll();
