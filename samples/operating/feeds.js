@@ -158,6 +158,7 @@ const isOld = (hub) => hub.trouble !== "" || since(hub) >= OLD;
 
 // By the hub's own clock, counted on since it answered.
 function stateOf(hub, feed) {
+  if (isOld(hub)) return ["soft", "not known"];
   const age = hub.moment + since(hub) - Number(feed.last);
   if (Number(feed.last) === 0) return ["bad", "no message yet"];
   if (age < -5) return ["bad", `its clock is ${span(-age)} ahead`];
@@ -204,6 +205,8 @@ function joined(list, keyOf) {
   return [...groups.values()];
 }
 
+const saidBy = (group) => make("td", { class: "hub" }, [...group.by].join(", "));
+
 function unmatchedRow(group) {
   const ids = [...group.rows.values()].map((row) => (row.kind === "vehicle" ? `${row.id} (vehicle)` : row.id));
   const listed = (some) => make("ul", {}, ...some.map((id) => make("li", {}, make("code", {}, id))));
@@ -211,13 +214,13 @@ function unmatchedRow(group) {
     : [listed(ids.slice(0, FEW)), make("details", { "data-key": `${group.schedule} ${group.feed} ${group.reason}` },
       make("summary", {}, `${ids.length - FEW} more`), listed(ids.slice(FEW)))];
   return make("tr", {}, cell(group.schedule), make("th", { scope: "row" }, group.feed),
-    cell(group.reason, make("span", { class: "soft" }, REASONS[group.reason] ?? "")), amount(ids.length),
-    cell(...shown), cell([...group.by].join(", ")));
+    cell(group.reason, make("span", { class: "why" }, REASONS[group.reason] ?? "")), amount(ids.length),
+    cell(...shown), saidBy(group));
 }
 
 function alertRow(group) {
   return make("tr", {}, cell(group.schedule), cell(group.stop), make("th", { scope: "row" }, group.feed),
-    cell(make("code", {}, group.id)), cell(group.header || "–"), cell([...group.by].join(", ")));
+    cell(make("code", {}, group.id)), cell(group.header || "–"), saidBy(group));
 }
 
 // Puts rows into a table, whose opened details stay open, or says in words that there are none.

@@ -201,13 +201,12 @@ def see_several(display):
     show_scene("late", "alert")
     browser = display.browser
     display.open("ST", more="&stop=S3&stop=S4", width=1280, height=720)
-    browser.wait("document.querySelectorAll('.rows tr').length > 20 && !document.getElementById('alerts').hidden")
+    browser.wait("[...document.querySelectorAll('.stop')].every(place => place.querySelector('tbody tr')) "
+                 "&& !document.getElementById('alerts').hidden")
     names = browser.value("[...document.querySelectorAll('h1, h2.name')].map(name => name.textContent)")
     display.check(f"several stops: {' | '.join(names)}", names == ["Departures", "Market", "Harbour", "Hill"])
     display.check("each with its own departures, side by side", browser.value(
-        """(() => { const places = [...document.querySelectorAll('.stop')].map(place => place.getBoundingClientRect());
-            return places.every(place => place.top === places[0].top)
-                && [...document.querySelectorAll('.stop')].every(place => place.querySelector('tbody tr')); })()"""))
+        """new Set([...document.querySelectorAll('.stop')].map(place => place.getBoundingClientRect().top)).size === 1"""))
     display.check("and a notice of all of them once",
                   browser.value("document.querySelectorAll('#alert-list li').length") == 1)
     display.open("ST", more="&stop=NO")

@@ -78,6 +78,8 @@ def see_lists(display):
     asked = browser.value("hubs.get(1).heard")
     browser.wait(f"hubs.get(1).heard > {asked}", 30)
     display.check("what an operator has opened stays open", browser.value("document.querySelector('details').open"))
+    said = browser.complaints()
+    display.check(f"the page has no faults, and breaks no rule of what it may load: {said}", not said)
 
 
 def see_questions(display):
@@ -97,8 +99,6 @@ def see_questions(display):
 def see_gone(display, sender, second_process, nginx):
     browser = display.browser
     open_page(display, "&schedule=city&stop=ST")
-    said = browser.complaints()
-    display.check(f"the page has no faults, and breaks no rule of what it may load: {said}", not said)
     os.kill(sender, signal.SIGTERM)
     browser.wait("document.querySelectorAll('#feeds tr')[2].cells[2].innerText === 'silent'", 60)
     display.check("a sender that is gone: its feed is silent", browser.value(SUMMARY) == "Feeds that need a look: 1 of 2")
