@@ -41,9 +41,9 @@ CROSSING = [
     ("3", "7A3E9D", TRAM, (5, 165), (6, 350), (0.8, 0.4)), ("4", "00857C", TRAM, (6, 205), (4.5, 60), (-0.8, -0.4)),
     ("5", "9C6B1E", TRAM, (5, 270), (5.5, 125), (-0.8, -0.4)), ("6", "4A5560", TRAM, (6, 320), (6, 180), (0, 0)),
 ]
-TURNS = iter("""Airport|Harbour|University|Stadium|Lakeside|Exhibition Centre|Zoo|Botanical Garden|General Hospital|
+TURNS = """Airport|Harbour|University|Stadium|Lakeside|Exhibition Centre|Zoo|Botanical Garden|General Hospital|
 Old Brewery|Forest Cemetery|Science Park|Observatory|Ferry Landing|Racecourse|Waterworks|Windmill|Fort
-""".replace("\n", "").split("|"))
+""".replace("\n", "").split("|")
 KNOWN = {(0, 0): "Central Station", (0.8, 0.4): "Market", (-0.8, -0.4): "Town Hall", (0.4, 0.4): "Opera",
          (-0.4, 0): "Old Bridge", (0.4, -0.4): "Post Office", (-0.4, 0.4): "Cathedral", (0, 0.4): "Theatre"}
 FIRST = """Linden Mill Weaver Castle Abbey Orchard Baker Cooper Fisher Garden King Queen Bishop Rose Poplar Maple Birch
@@ -82,18 +82,20 @@ class Station:
 
 
 def polar(point):
+    """Where a point is that is given by its distance from the centre and its degrees."""
     return point[0] * math.cos(math.radians(point[1])), point[0] * math.sin(math.radians(point[1]))
+
+
+def block_of(x, y):
+    return round(x / BLOCK), round(y / BLOCK)
 
 
 class City:
     def __init__(self):
-        self.stations, self.lines, self.free = {}, [], random.Random(5)
-        streets = [f"{first} {second}" for first in FIRST for second in SECOND]
-        self.free.shuffle(streets)
-        self.streets = iter(streets)
+        self.stations, self.lines = {}, []
 
     def station(self, x, y):
-        block = round(x / BLOCK), round(y / BLOCK)
+        block = block_of(x, y)
         return self.stations.setdefault(block, Station(block[0] * BLOCK, block[1] * BLOCK))
 
     def lay(self, name, colour, kind, points):
@@ -124,16 +126,17 @@ class City:
     def give_names(self):
         """Known places first, then termini, then a street for each station that has no name yet."""
         for point, name in KNOWN.items():
-            self.station(*point).name = name
-        ends = iter(f"{district} {part}" for part in ("Church", "Park", "School") for district in DISTRICTS)
+            if block_of(*point) in self.stations:
+                self.station(*point).name = name
+        turns = iter(TURNS)
+        quarters = iter(f"{district} {part}" for part in ("Church", "Park", "School") for district in DISTRICTS)
         for line in self.lines:
             for end in (line.stations[0], line.stations[-1]):
-                if end.name is None and line.kind != BUS:
-                    end.name = next(TURNS)
-                elif end.name is None:
-                    end.name = next(ends)
-        for station in self.stations.values():
-            station.name = station.name or next(self.streets)
+                end.name = end.name or next(quarters if line.kind == BUS else turns)
+        streets = [f"{first} {second}" for first in FIRST for second in SECOND]
+        random.Random(5).shuffle(streets)
+        for station, street in zip(self.stations.values(), streets):
+            station.name = station.name or street
 
 
 def minutes_of(line):
