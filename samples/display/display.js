@@ -179,14 +179,11 @@ function away() {
   tick();
 }
 
-// Asks for a stop; what else the address says stays.
+// Asks for a stop.
 function choose() {
   if (!part("chooser").hidden) return;
   part("choose-schedule").value = SCHEDULE || Object.keys(SETTINGS.zones)[0] || "";
   part("choose-stop").value = STOPS[0] ?? "";
-  for (const [name, value] of asked) {
-    if (name === "language" || name === "form") part("chooser").append(make("input", { type: "hidden", name, value }));
-  }
   part("chooser").hidden = false;
 }
 
@@ -311,6 +308,10 @@ document.title = TEXTS.title;
 setText(part("title"), TEXTS.title);
 document.body.classList.toggle("several", STOPS.length > 1);
 shown.places = STOPS.map(placeOf);
+// What the address says of the page stays where another stop is chosen.
+for (const [name, value] of asked) {
+  if (name === "language" || name === "form") part("chooser").append(make("input", { type: "hidden", name, value }));
+}
 for (const element of document.querySelectorAll("[data-text]")) element.textContent = TEXTS[element.dataset.text];
 if (SCHEDULE && STOPS.length > 0) {
   setInterval(tick, 1000);
