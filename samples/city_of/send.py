@@ -151,7 +151,7 @@ class Feed:
 
     def of_run(self, trip, date, begin, now):
         """The update of a run: its next departure, and the delay that is left towards the terminus."""
-        if chance("canceled", trip.name, date) < 0.02:
+        if chance("canceled", trip.name, date) < 0.04:
             return update(about_trip(trip.name, date, CANCELED))
         late = self.delay(trip, date, now)
         place = bisect.bisect_right(trip.leaves, now - begin - late)
