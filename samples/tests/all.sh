@@ -1,7 +1,7 @@
 #!/usr/bin/env bash
 # Runs each script of samples/tests, and samples/serve/run.sh, one after another: a line each, and a last line with the
 # counts. Status 0 where none failed. What a script printed is shown where it failed. The gate runs none of them.
-# HUB names the program, where it is not ./hub. Takes about five minutes; what each needs is in docs/OPERATING.md.
+# HUB names the program, where it is not ./hub. Takes about eight minutes; what each needs is in docs/OPERATING.md.
 #
 # usage: all.sh [NAME ..]   the scripts with these names, as nginx or two_hubs; all where there is none
 set -euo pipefail
