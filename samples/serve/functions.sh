@@ -87,16 +87,17 @@ trams_from() { echo "s|^place = \"127.*|place = \"$1\"|"; }
 # The edit by which no trams come.
 no_trams='s/^kind = "stream"/kind = "none"/'
 
-# start_hub NAME [EDIT ..]: the hub of the example's configuration, changed by sed's EDITs, on a port that is free and
-# with a window that begins yesterday. Its address is in `hub_address`, its process in `hub_process`, its standard
-# output and standard error in the files NAME.out and NAME.err of `work`.
+# start_hub NAME [EDIT ..]: the hub of the configuration `model`, which is the example's, changed by sed's EDITs, on a
+# port that is free and with a window that begins yesterday. Its address is in `hub_address`, its process in
+# `hub_process`, its standard output and standard error in the files NAME.out and NAME.err of `work`.
+model=$top/samples/serve/hub.toml
 start_hub() {
   local name=$1 edits=() edit
   shift
   for edit in "$@"; do edits+=(-e "$edit"); done
   sed -e 's/^listen = .*/listen = "127.0.0.1:0"/' \
     -e "s/^first = .*/first = \"$(date -d yesterday +%Y%m%d)\"/" -e 's/^days = .*/days = 3/' "${edits[@]}" \
-    "$top/samples/serve/hub.toml" > "$work/$name.toml"
+    "$model" > "$work/$name.toml"
   : > "$work/$name.err"
   (cd "$top" && exec "$hub" serve "$work/$name.toml" > "$work/$name.out" 2> "$work/$name.err" 7>&-) &
   hub_process=$!

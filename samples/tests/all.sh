@@ -1,7 +1,7 @@
 #!/usr/bin/env bash
 # Runs each script of samples/tests, and samples/serve/run.sh, one after another: a line each, and a last line with the
 # counts. Status 0 where none failed. What a script printed is shown where it failed. The gate runs none of them.
-# HUB names the program, where it is not ./hub. Takes about ten minutes; what each needs is in docs/OPERATING.md.
+# HUB names the program, where it is not ./hub. Takes about fifteen minutes; what each needs is in docs/OPERATING.md.
 #
 # usage: all.sh [NAME ..]   the scripts with these names, as nginx or two_hubs; all where there is none
 set -euo pipefail
@@ -10,7 +10,7 @@ top=$(cd "$(dirname "$0")/../.." && pwd)
 cd "$top"
 build_hub
 
-[ $# -gt 0 ] || set -- run protoc poll clients operating judge audit nginx readers two_hubs broker display moved
+[ $# -gt 0 ] || set -- run protoc poll clients operating judge audit nginx readers two_hubs broker display moved operators city_of
 declare -A counts=([ok]=0 [failed]=0 [untried]=0)
 for name; do
   script=samples/tests/$name.sh

@@ -91,6 +91,13 @@ class Browser:
             {"name": "prefers-color-scheme", "value": scheme},
             {"name": "prefers-reduced-motion", "value": "reduce" if still else "no-preference"}])
 
+    def before(self, source):
+        """Runs a script in each page before its own. Returns what `forget` takes."""
+        return self.call("Page.addScriptToEvaluateOnNewDocument", source=source)["identifier"]
+
+    def forget(self, identifier):
+        self.call("Page.removeScriptToEvaluateOnNewDocument", identifier=identifier)
+
     def go(self, url):
         self.call("Page.navigate", url=url)
 

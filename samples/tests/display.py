@@ -14,7 +14,7 @@ sys.path.insert(0, str(Path(__file__).resolve().parent))
 from browser import Browser
 
 TAB, ENTER = 9, 13
-ROWS = "[...document.querySelectorAll('#rows tr')]"
+ROWS = "[...document.querySelectorAll('.rows tr')]"
 LOOKED = "document.getElementById('age').textContent"
 TROUBLE = "document.getElementById('trouble').textContent"
 
@@ -55,16 +55,16 @@ def show_scene(*scenes):
 def see_board(display):
     browser = display.browser
     display.open("ST")
-    browser.wait("document.querySelector('#rows tr')")
+    browser.wait("document.querySelector('.rows tr')")
     display.check("a board has the stop's name as its heading and title", browser.value(
         "document.querySelector('h1').textContent === 'Market' && document.title === 'Market – Departures'"))
     display.check("departures by the timetable say nothing of a delay", browser.value(
         f"{ROWS}.length >= 9 && "
         f"{ROWS}.every(row => row.dataset.state === 'scheduled' && row.cells[5].innerText === '')"))
     display.check("times are those of the schedule's zone, whatever the device's is", browser.value(
-        """new Date(shown.board.rows[0].scheduled * 1000).toLocaleTimeString('en-GB',
+        """new Date(shown.places[0].board.rows[0].scheduled * 1000).toLocaleTimeString('en-GB',
                {hour: '2-digit', minute: '2-digit', timeZone: 'Europe/Berlin'})
-           === document.querySelector('#rows time').textContent"""))
+           === document.querySelector('.rows time').textContent"""))
     display.check("it says how old its data are", "second" in browser.value(LOOKED))
     roles = browser.tree()
     display.check("a screen reader finds a table, its titles, and a row with its line as heading",
@@ -116,14 +116,14 @@ def see_phone(display):
 
 def see_wall(display):
     display.open("ST", width=1920, height=1080, scheme="dark")
-    display.browser.wait("document.querySelector('#rows tr')")
+    display.browser.wait("document.querySelector('.rows tr')")
     display.keep("wall")
 
 
 def see_no_service(display):
     display.open("S6")
-    display.browser.wait("!document.getElementById('empty').hidden")
-    display.check("no service: said in words", display.browser.value("document.getElementById('empty').innerText")
+    display.browser.wait("!document.querySelector('.empty').hidden")
+    display.check("no service: said in words", display.browser.value("document.querySelector('.empty').innerText")
                   == "No departures in the next 60 minutes.")
     display.keep("no_service")
 
@@ -159,7 +159,7 @@ def see_names(display):
     """The timetable that display.sh hands to the hub has HTML in the name of a stop and in a headsign."""
     browser = display.browser
     display.open("S5")
-    browser.wait("document.querySelector('#rows tr')")
+    browser.wait("document.querySelector('.rows tr')")
     display.check("a name is put in as text and never as HTML", browser.value(
         "document.querySelector('h1').textContent === 'Botanical <b>Garden</b>' && !document.querySelector('b')"))
     display.check("and so is a headsign", browser.value(
@@ -167,11 +167,90 @@ def see_names(display):
         ".some(cell => cell.textContent === '<img src=x onerror=alert(1)>')"))
 
 
+# A device whose clock is an hour ahead.
+AHEAD = """{ const Right = Date; Date = class extends Right {
+    constructor(...given) { if (given.length > 0) super(...given); else super(Right.now() + 3600000); }
+    static now() { return Right.now() + 3600000; } }; }"""
+
+
+def see_wrong_clock(display):
+    browser = display.browser
+    added = browser.before(AHEAD)
+    display.open("ST")
+    browser.wait("document.querySelector('.near .wait')")
+    hub_clock, device_clock, waits = browser.value("""fetch('/status').then(response => {
+        const moment = Number(response.headers.get('X-Hub-Moment'));
+        const wait = document.querySelector('.near .wait');
+        return [[clockOf(moment - 1), clockOf(moment), clockOf(moment + 1)], clockOf(Date.now() / 1000),
+            [wait.textContent, ...[moment - 1, moment, moment + 1].map(now => minutesBetween(now, wait.dataset.at))]];
+    })""")
+    clock = browser.value("document.getElementById('clock').textContent")
+    display.check(f"a device's clock says {device_clock}, and the page {clock}, as the hub does",
+                  clock in hub_clock and device_clock not in hub_clock)
+    told, *minutes = waits
+    display.check(f"and the minutes are the hub's: {told}",
+                  told in [f"in {count} min" if count > 0 else "now" for count in minutes])
+    display.check("the nearest departures have their minutes in front of their clock", browser.value(
+        """[...document.querySelectorAll('.near .when')].every(when => {
+            const [wait, at] = ['.wait', '.at'].map(name => when.querySelector(name).getBoundingClientRect());
+            return wait.right <= at.left; })"""))
+    browser.forget(added)
+
+
+def see_several(display):
+    show_scene("late", "alert")
+    browser = display.browser
+    display.open("ST", more="&stop=S3&stop=S4", width=1280, height=720)
+    browser.wait("[...document.querySelectorAll('.stop')].every(place => place.querySelector('tbody tr')) "
+                 "&& !document.getElementById('alerts').hidden")
+    names = browser.value("[...document.querySelectorAll('h1, h2.name')].map(name => name.textContent)")
+    display.check(f"several stops: {' | '.join(names)}", names == ["Departures", "Market", "Harbour", "Hill"])
+    display.check("each with its own departures, side by side", browser.value(
+        """new Set([...document.querySelectorAll('.stop')].map(place => place.getBoundingClientRect().top)).size === 1"""))
+    display.check("and a notice of all of them once",
+                  browser.value("document.querySelectorAll('#alert-list li').length") == 1)
+    display.open("ST", more="&stop=NO")
+    browser.wait(TROUBLE)
+    display.check("a stop among several that isn't there is said, and the others are shown", browser.value(
+        f"{TROUBLE} === 'There is no stop “NO” in the timetable “city”.' && {ROWS}.length > 0 "
+        "&& document.getElementById('chooser').hidden"))
+
+
+def see_forms(display):
+    browser = display.browser
+    for form, width, compact in (("compact", 960, True), ("full", 390, False), ("", 390, True), ("", 960, False)):
+        display.open("ST", more=f"&form={form}" if form else "", width=width)
+        browser.wait("document.querySelector('.rows tr')")
+        is_compact = browser.value("document.body.classList.contains('compact')")
+        display.check(f"form '{form}' on {width} pixels: {'compact' if is_compact else 'full'}", is_compact == compact)
+    display.open("ST", width=390, height=844, phone=True)
+    browser.wait("document.querySelector('.rows tr')")
+    heights = browser.value(f"{ROWS}.map(row => row.getBoundingClientRect().height)")
+    display.check(f"compact: no departure is higher than {max(heights):.0f} pixels", max(heights) < 65)
+    display.check("compact: each tells its minutes or its clock, and not both", browser.value(
+        f"{ROWS}.every(row => /^(in \\d+ min|now|was due|\\d\\d:\\d\\d)?$/.test(row.cells[4].innerText.trim()))"))
+
+
+def see_languages(display):
+    browser = display.browser
+    show_scene("late")
+    german, english = ("de-DE", "Abfahrten", "4 min später"), ("en-GB", "Departures", "4 min late")
+    for language, (name, title, late) in (("de", german), ("fr", ("fr-FR", "Départs", "4 min de retard")),
+                                          ("de-AT", german), ("xx", english)):
+        display.open("ST", more=f"&language={language}")
+        browser.wait(f"{ROWS}.some(row => row.innerText.includes('{late}'))", 30)
+        display.check(f"language {language}: {name}, {title}, {late}", browser.value(
+            f"document.documentElement.lang === '{name}' && document.title.endsWith('{title}')"))
+    display.check("no language lacks a word", browser.value(
+        """Object.values(WORDS).every(words => words.effects.length === 11
+            && JSON.stringify(Object.keys(words)) === JSON.stringify(Object.keys(WORDS.en)))"""))
+
+
 def see_hub_hang(display, hub_process):
     """A hub that takes questions and answers none, for a while."""
     browser = display.browser
     display.open("ST")
-    browser.wait("document.querySelector('#rows tr')")
+    browser.wait("document.querySelector('.rows tr')")
     os.kill(hub_process, signal.SIGSTOP)
     try:
         browser.wait("document.body.classList.contains('away')", 30)
@@ -213,6 +292,10 @@ def main():
         see_wall(display)
         see_questions(display)
         see_names(display)
+        see_wrong_clock(display)
+        see_several(display)
+        see_forms(display)
+        see_languages(display)
         see_hub_hang(display, int(hub_process))
         see_hub_gone(display, int(hub_process))
     print(f"{display.failed} failed")

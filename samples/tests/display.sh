@@ -1,8 +1,9 @@
 #!/usr/bin/env bash
 # Tries the display over a running hub behind nginx, in Chromium without a window: what it shows of each state, what a
-# screen reader finds, that it says how old its data are and when the hub is away. With a folder it leaves pictures
-# there, made small by pngquant where that is installed. Ends by itself, with status 0 exactly where all was as it
-# should be. HUB names the program, where it is not ./hub. Needs curl, python3, nginx, openssl and chromium.
+# screen reader finds, that it says how old its data are and when the hub is away, that it goes by the hub's clock, several
+# stops at once, its forms and its languages. With a folder it leaves pictures there, made small by pngquant where that is
+# installed. Ends by itself, with status 0 exactly where all was as it should be. HUB names the program, where it is not
+# ./hub. Needs curl, python3, nginx, openssl and chromium.
 #
 # usage: display.sh [FOLDER]
 set -euo pipefail

@@ -41,7 +41,8 @@ start_nginx() {
   sed "${edits[@]}" "$top/samples/nginx/$upstream" > "$folder/hub_upstream.conf"
   sed -e "s|listen 443 |listen 127.0.0.1:$tls_port |" -e "s|listen 80;|listen 127.0.0.1:$plain_port;|" \
     -e '/listen \[::\]/d' -e "s|/etc/nginx/|$folder/|" -e "s|/var/cache/nginx/hub|$folder/cache|" \
-    -e "s|/usr/share/hub/display|$top/samples/display|" "$top/samples/nginx/hub.conf" > "$folder/hub.conf"
+    -e "s|/usr/share/hub/display|$top/samples/display|" -e "s|root /usr/share/hub;|root $top/samples;|" \
+    "$top/samples/nginx/hub.conf" > "$folder/hub.conf"
   cat > "$folder/nginx.conf" <<CONF
 daemon off;
 worker_processes 2;

@@ -16,7 +16,7 @@ from display import Display
 
 SCRIPT = Path("samples/moved.script")
 MOMENT = 1743314000  # that of the script's boards
-SHOWN = """[...document.querySelectorAll('#rows tr')].map(row => [
+SHOWN = """[...document.querySelectorAll('.rows tr')].map(row => [
     row.querySelector('time').textContent, row.querySelector('.platform').lastChild.textContent,
     row.querySelector('.at').textContent, row.querySelector('.remark').textContent])"""
 
@@ -55,7 +55,7 @@ def answer(hub, target):
 def see(display, stop, wanted):
     """Opens the display of a stop, and compares time, platform, expected time and remark of each departure."""
     display.open(stop, height=320)
-    display.browser.wait("document.querySelector('#rows tr') || !document.getElementById('empty').hidden")
+    display.browser.wait("document.querySelector('.rows tr') || !document.querySelector('.stop .empty').hidden")
     rows = display.browser.value(SHOWN)
     display.check(f"{stop}: {rows}", rows == wanted)
 

@@ -67,6 +67,12 @@ get '/board/city/ST?limit=0'
 check "a limit of 0 is 400" is "$status $(cat "$work/body")" "400 bad request"
 get /status
 check "the status, asked from this machine" is "$status" 200
+get '/operating/status?hub=1'
+check "for the operators' page, with the address of the hub that said so" is "$status $(field X-Hub-Address)" "200 $hub_address"
+get '/operating/status?hub=2'
+check "and nothing for a hub that there isn't" is "$status" 204
+get /operating/feeds.html
+check "the operators' page" is "$status $(field Content-Type)" "200 text/html"
 get '/gtfs-rt/city.pb?made=up'
 check "the feed under its public name" is "$status $(field Content-Type)" "200 application/x-protobuf"
 curl -s -o "$work/straight" "http://$hub_address/feed/city"
