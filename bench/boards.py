@@ -22,10 +22,10 @@ MORNING = MIDNIGHT + 7 * 3600
 TRIPS, PLACES = 20_000, 20
 
 
-def timetable(work, days):
-    """The configuration of TRIPS trips in a window of so many days from 28 March on, with one feed."""
-    folder = f"{work}/city{days}"
-    subprocess.run([sys.executable, BENCH / "make_timetable.py", str(TRIPS), folder, str(PLACES)], check=True)
+def timetable(work, days, trips=TRIPS):
+    """The configuration of so many trips in a window of so many days from 28 March on, with one feed."""
+    folder = f"{work}/city{trips}-{days}"
+    subprocess.run([sys.executable, BENCH / "make_timetable.py", str(trips), folder, str(PLACES)], check=True)
     conf = Path(f"{folder}.toml")
     text = conf.read_text().replace('first = "20250329"', 'first = "20250328"')
     conf.write_text(re.sub(r"days = .*", f"days = {days}", text) + '[[feed]]\nname = "a"\nschedule = "city"\nkind = "none"\n')
@@ -45,9 +45,9 @@ def message(stamp, incrementality, trips):
     return b"M a %d\n%s\n" % (len(body), body)
 
 
-def whole(updates):
+def whole(updates, trips=TRIPS):
     """A whole data set of so many updates, of trips that leave around the clock."""
-    return message(MIDNIGHT, 0, [k * TRIPS // updates for k in range(updates)])
+    return message(MIDNIGHT, 0, [k * trips // updates for k in range(updates)])
 
 
 def boards(count):
@@ -100,8 +100,10 @@ def main():
         for what, script in (("read and taken in", whole(3000)), ("read alone", stale + whole(3000))):
             told(f"instructions of a whole data set of 3,000 updates of 20 places, {what}",
                  [cost(program, week, work, script) - cost(program, week, work, b"") for program in PROGRAMS])
+        # Of a timetable of no more trips than that, so that loading it isn't what takes most.
+        small = timetable(work, 7, 3000)
         told("MiB of a feed of 3,000 updates of 20 places",
-             [peak(program, week, work, whole(3000)) - peak(program, week, work, b"") for program in PROGRAMS], "{:.1f}")
+             [peak(program, small, work, whole(3000, 3000)) - peak(program, small, work, b"") for program in PROGRAMS], "{:.1f}")
 
 
 main()
