@@ -207,7 +207,7 @@ rows("`boards.sh`",
      ("memory of a feed of these", joined(found("boards", r"MiB of .*: ([\d.]+)"), ".1f") + " MiB"))
 rows("`index.sh`",
      ("the index of departures of 1,000,000 stop times, next to loading these", joined(found("index", r"instructions, ([\d.]+) of"), ".2f") + " of the instructions, "
-      + joined(found("index", r"([\d.]+) MiB more"), ".1f") + " MiB"),
+      + joined(found("index", r"at most (\d+) MiB")) + " MiB at most, " + joined(found("index", r"MiB, (\d+) without")) + " without it"),
      ("a departure that it hands out, in a window of 7 and of 400 days", joined(found("index", r"days: (\d+)")) + " instructions"))
 rows("`combined.sh`",
      ("the combined feed of 3,000 entities, without a prefix and with one", joined(found("combined", r": ([\d,]+) bytes")) + " bytes"),

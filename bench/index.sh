@@ -28,8 +28,8 @@ checked=$(instructions "$hub" check "$work/large.toml")
 with=$(memory "$program" departures "$work/large.toml" 0 0 0)
 without=$(memory "$hub" check "$work/large.toml")
 awk -v loaded="$loaded" -v checked="$checked" -v with="$with" -v without="$without" 'BEGIN {
-  printf "the index of 1,000,000 stop times: %d million instructions, %.2f of loading them; %.1f MiB more\n",
-    (loaded - checked) / 1e6, (loaded - checked) / checked, (with - without) / 1024
+  printf "the index of 1,000,000 stop times: %d million instructions, %.2f of loading them; at most %d MiB, %d without it\n",
+    (loaded - checked) / 1e6, (loaded - checked) / checked, with / 1024, without / 1024
 }'
 
 # What a departure costs in a window of so many days: the slope of going over those of an hour at all stops more often.
