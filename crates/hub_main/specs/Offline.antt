@@ -4,6 +4,8 @@ use Rattle.std.specs.Arc.{arc_value}
 use Rattle.std.specs.declared.alloc.Global.{Global}
 use Rattle.std.specs.declared.sync.Arc.{Arc}
 use Rattle.std.specs.Io.KnownBytes.{Appends}
+use Rattle.exit_status.specs.Codes.{code_of}
+use Rattle.exit_status.specs.declared.status.ExitStatus.TheVariants as exit
 use Rattle.hub_outside.specs.Count.{Rose}
 use Rattle.hub_outside.specs.Outside.{FileStore, Outside, Stream}
 use Rattle.hub_load.specs.Stops.{LoadingStopped}
@@ -22,11 +24,12 @@ use Rattle.hub_main_defs.specs.Commands.{board_output, file_fault_line, usage_li
 use Rattle.hub_main_defs.specs.Hubs.{schedules_at}
 use Rattle.hub_main_defs.specs.Samples.{gen_output}
 
--- done, no command, refused configuration or timetable, input or file fault, output fault, no
--- memory, refused script, no such schedule or stop
+-- the statuses of a command that ends: all but that of a server of which a port or a door failed
 abbrev pub IsExitStatus : ℕ → Type 0
-IsExitStatus status = (status ≡ 0) ⊎ (status ≡ 2) ⊎ (status ≡ 3) ⊎ (status ≡ 4) ⊎ (status ≡ 5)
-    ⊎ (status ≡ 6) ⊎ (status ≡ 7) ⊎ (status ≡ 8)
+IsExitStatus status = (status ≡ code_of exit.Done) ⊎ (status ≡ code_of exit.Usage)
+    ⊎ (status ≡ code_of exit.Refused) ⊎ (status ≡ code_of exit.Fault)
+    ⊎ (status ≡ code_of exit.OutputFault) ⊎ (status ≡ code_of exit.NoMemory)
+    ⊎ (status ≡ code_of exit.NotAScript) ⊎ (status ≡ code_of exit.NotFound)
 
 -- the output grew by those bytes, or by fewer of them, from the first on
 abbrev pub Grew : Stream → Stream → List ℕ → Type 0
@@ -50,14 +53,17 @@ FileFailed path before after = Rose before.faults after.faults
 abbrev pub WritesLine : List ℕ → ℕ → Stream → Stream → ℕ → Type 0
 WritesLine bytes defined output output' status = (output.faults ≤ output'.faults)
     × ((status ≡ defined) × Grew output output' bytes
-    ⊎ (status ≡ 5) × OutputRose output output' × GrewByFront output output' bytes)
+    ⊎ (status ≡ code_of exit.OutputFault) × OutputRose output output'
+    × GrewByFront output output' bytes)
 
 -- words that are no command: the line that says so
 pub record UsageOutcome (output output' : Stream) (status : ℕ) : Type 0 where
-  pub is_status : (status ≡ 2) ⊎ (status ≡ 5) ⊎ (status ≡ 6)
-  pub whole : status ≡ 2 → Grew output output' usage_line
-  pub output_fault : status ≡ 5 → OutputRose output output' × GrewByFront output output' usage_line
-  pub no_memory : status ≡ 6 → Grew output output' []
+  pub is_status : (status ≡ code_of exit.Usage) ⊎ (status ≡ code_of exit.OutputFault)
+      ⊎ (status ≡ code_of exit.NoMemory)
+  pub whole : status ≡ code_of exit.Usage → Grew output output' usage_line
+  pub output_fault : status ≡ code_of exit.OutputFault → OutputRose output output'
+      × GrewByFront output output' usage_line
+  pub no_memory : status ≡ code_of exit.NoMemory → Grew output output' []
   pub output_count : output.faults ≤ output'.faults
 
 -- a front of what a check prints was written; of the line of a file that can't be read, only where
@@ -71,13 +77,17 @@ CheckCut path files files' output output' =
 -- `check` of the configuration at a path: nothing is printed before all is known
 pub record CheckOutcome (path : List ℕ) (files files' : FileStore) (output output' : Stream)
     (status : ℕ) : Type 0 where
-  pub is_status : (status ≡ 0) ⊎ (status ≡ 3) ⊎ (status ≡ 4) ⊎ (status ≡ 5) ⊎ (status ≡ 6)
-  pub whole : (status ≡ 0) ⊎ (status ≡ 3) → IfSome files.told (λ fs.
-      Grew output output' (check_output fs path).written × (status ≡ (check_output fs path).status))
-  pub file_fault : status ≡ 4 → FileFailed path files files' × Grew output output' file_fault_line
-  pub output_fault : status ≡ 5 → OutputRose output output'
+  pub is_status : (status ≡ code_of exit.Done) ⊎ (status ≡ code_of exit.Refused)
+      ⊎ (status ≡ code_of exit.Fault) ⊎ (status ≡ code_of exit.OutputFault)
+      ⊎ (status ≡ code_of exit.NoMemory)
+  pub whole : (status ≡ code_of exit.Done) ⊎ (status ≡ code_of exit.Refused)
+      → IfSome files.told (λ fs. Grew output output' (check_output fs path).written
+      × (status ≡ (check_output fs path).status))
+  pub file_fault : status ≡ code_of exit.Fault → FileFailed path files files'
+      × Grew output output' file_fault_line
+  pub output_fault : status ≡ code_of exit.OutputFault → OutputRose output output'
       × CheckCut path files files' output output'
-  pub no_memory : status ≡ 6 → Grew output output' []
+  pub no_memory : status ≡ code_of exit.NoMemory → Grew output output' []
   pub files_count : files.faults ≤ files'.faults
   pub output_count : output.faults ≤ output'.faults
 
@@ -101,31 +111,35 @@ LoadCut path files files' output output' =
 -- there is no hub: the configuration or a timetable is refused, or could not be read
 pub record LoadFailed (path : List ℕ) (files files' : FileStore) (output output' : Stream)
     (status : ℕ) : Type 0 where
-  pub is_status : (status ≡ 3) ⊎ (status ≡ 4) ⊎ (status ≡ 5) ⊎ (status ≡ 6)
-  pub refused : status ≡ 3 → (line : List ℕ) × IsRefusedWith path files line
+  pub is_status : (status ≡ code_of exit.Refused) ⊎ (status ≡ code_of exit.Fault)
+      ⊎ (status ≡ code_of exit.OutputFault) ⊎ (status ≡ code_of exit.NoMemory)
+  pub refused : status ≡ code_of exit.Refused → (line : List ℕ) × IsRefusedWith path files line
       × Grew output output' line
-  pub file_fault : status ≡ 4 → FileFailed path files files' × Grew output output' file_fault_line
-  pub output_fault : status ≡ 5 → OutputRose output output'
+  pub file_fault : status ≡ code_of exit.Fault → FileFailed path files files'
+      × Grew output output' file_fault_line
+  pub output_fault : status ≡ code_of exit.OutputFault → OutputRose output output'
       × LoadCut path files files' output output'
-  pub no_memory : status ≡ 6 → Grew output output' []
+  pub no_memory : status ≡ code_of exit.NoMemory → Grew output output' []
   pub files_count : files.faults ≤ files'.faults
   pub output_count : output.faults ≤ output'.faults
 
 -- what printing such a fault comes to: its line was written, or the output failed in the midst of it
 abbrev pub PrintsFault : HubFault → Stream → Stream → ℕ → Type 0
 PrintsFault (Refused line) output output' status =
-    WritesLine line.items 3 output output' status
+    WritesLine line.items (code_of exit.Refused) output output' status
 PrintsFault FileFault output output' status =
-    WritesLine file_fault_line 4 output output' status
-PrintsFault NoMemory output output' status = (status ≡ 6) × (output' ≡ output)
+    WritesLine file_fault_line (code_of exit.Fault) output output' status
+PrintsFault NoMemory output output' status =
+    (status ≡ code_of exit.NoMemory) × (output' ≡ output)
 
 -- a command's one output was written, or a front of it
 pub record PrintsOutput (defined : Output) (output output' : Stream) (status : ℕ) : Type 0 where
-  pub is_status : (status ≡ defined.status) ⊎ (status ≡ 5) ⊎ (status ≡ 6)
+  pub is_status : (status ≡ defined.status) ⊎ (status ≡ code_of exit.OutputFault)
+      ⊎ (status ≡ code_of exit.NoMemory)
   pub whole : status ≡ defined.status → Grew output output' defined.written
-  pub output_fault : status ≡ 5 → OutputRose output output'
+  pub output_fault : status ≡ code_of exit.OutputFault → OutputRose output output'
       × GrewByFront output output' defined.written
-  pub no_memory : status ≡ 6 → Grew output output' []
+  pub no_memory : status ≡ code_of exit.NoMemory → Grew output output' []
   pub output_count : output.faults ≤ output'.faults
 
 -- a board of the timetables of the configuration at a path, which needs no input
@@ -163,7 +177,9 @@ OutcomeOf (Some (Gen seed trips messages)) before after status =
 
 -- the statuses at which the whole output was written
 abbrev pub IsDone : ℕ → Type 0
-IsDone status = (status ≡ 0) ⊎ (status ≡ 2) ⊎ (status ≡ 3) ⊎ (status ≡ 7) ⊎ (status ≡ 8)
+IsDone status = (status ≡ code_of exit.Done) ⊎ (status ≡ code_of exit.Usage)
+    ⊎ (status ≡ code_of exit.Refused) ⊎ (status ≡ code_of exit.NotAScript)
+    ⊎ (status ≡ code_of exit.NotFound)
 
 -- the output grew by all that is told, and the status is the told one
 abbrev pub WritesTold : Option Output → ℕ → Option (List ℕ) → Option (List ℕ) → Type 0

@@ -1,6 +1,8 @@
 -- What preparing to serve comes to.
 use Rattle.std.specs.Prelude.{◌≡◌, ℕ, ◌≤◌, List, map, Option, Some, None, IfSome, Ok}
 use Rattle.std.specs.Arc.{arc_value}
+use Rattle.exit_status.specs.Codes.{code_of}
+use Rattle.exit_status.specs.declared.status.ExitStatus.TheVariants as exit
 use Rattle.hub_outside.specs.Outside.{FileStore, Stream}
 use Rattle.hub_config_defs.specs.Right.{IsLegal}
 use Rattle.hub_main_defs.specs.Hubs.{configured_at, named_feed}
@@ -39,4 +41,4 @@ PrepareOutcome (Some path) files files' output output' (Status status) =
 abbrev pub IsSharing : Configured → Prepared → Type 0
 IsSharing configured (Ready ready) =
     (ready.conf ≡ configured.conf) × (arc_value ready.plans ≡ configured.plans)
-IsSharing configured (Status status) = status ≡ 6
+IsSharing configured (Status status) = status ≡ code_of exit.NoMemory

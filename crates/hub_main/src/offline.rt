@@ -1,6 +1,8 @@
 //! The commands that run once and end.
 ghost use Rattle.std.specs.Prelude.{◌≡◌, ◌≤◌, ◌⊎◌, None};
 ghost use Rattle.std.specs.Arc.{arc_value};
+ghost use Rattle.exit_status.specs.Codes.{code_of};
+ghost use Rattle.exit_status.specs.declared.status.ExitStatus.TheVariants as exit;
 ghost use Rattle.hub_outside.specs.Outside.{file_store, outside, stream};
 ghost use Rattle.board_text_defs.specs.Asked.{asked_seen};
 ghost use Rattle.board_text_defs.specs.Answers.{MayAsk};
@@ -10,24 +12,17 @@ ghost use Rattle.hub_main_defs.specs.Samples.{gen_output};
 ghost use Rattle.hub_main.specs.Offline.{BoardOutcome, CheckOutcome, IsExitStatus, MayMake, OutcomeOf, PrintsFault, PrintsOutput, ReadsFiles, ReadsInput, ReplayWithOutcome, UsageOutcome, WritesLine, WritesWhole};
 
 use crate::boards::{board_of, load_shared};
+use exit_status::ExitStatus;
 use hub_check::check;
 use hub_gen::run_sample;
 use hub_load::HubFault;
 use hub_outside::{Clock, Files, OutputFault, Sink, Source, write_all};
 use hub_replay::replay;
-use hub_replay::statuses::{DONE, FAULT, NO_MEMORY, OUTPUT_FAULT};
 use hub_words::{BoardAsked, Command, WordsFault, read_words};
 use rt_types::Text;
 use sched_types::Plans;
 use std::alloc::Global;
 use std::sync::Arc;
-
-/// The words are no command.
-const USAGE: u8 = 2;
-/// A configuration or a timetable is refused.
-const REFUSED_CONF: u8 = 3;
-/// The schedule or the stop of a board isn't there.
-const NOT_FOUND: u8 = 8;
 
 /// Runs the command of the words, which are those behind the program's name, and gives the exit
 /// status: 0 where it was done, 2 where the words are no command, 3 where a configuration or a
@@ -58,7 +53,7 @@ pub fn run_offline<F: Files, S: Source, K: Sink, C: Clock>(
     ensures whole { WritesWhole
         (λ served. output_where_told served (command_of words.now) (F.contents files.old)
         (S.left input.old)) result (K.written out.old) (K.written out.new) }
-    ensures usage { result ≡ 2 → command_of words.now ≡ None }
+    ensures usage { result ≡ code_of exit.Usage → command_of words.now ≡ None }
     ensures input_count { S.faults input.old ≤ S.faults input.new }
     ensures output_count { K.faults out.old ≤ K.faults out.new }
     ensures files_count { F.faults files.old ≤ F.faults files.new }
@@ -67,7 +62,7 @@ pub fn run_offline<F: Files, S: Source, K: Sink, C: Clock>(
     ensures no_input { ReadsInput (command_of words.now) ⊎ (input.new ≡ input.old) }
     ensures clock { clock.new ≡ clock.old }
 {
-    run_words(alloc, words, files, input, out)
+    run_words(alloc, words, files, input, out).code()
 }
 
 /// The same without a clock, which no command reads.
@@ -77,7 +72,7 @@ fn run_words<F: Files, S: Source, K: Sink>(
     files: &mut F,
     input: &mut S,
     out: &mut K,
-) -> u8
+) -> ExitStatus
     ensures outcome { OutcomeOf (command_of words.now)
         (outside (file_store (F.contents files.old) (F.faults files.old) (F.last_fault files.old))
         (stream (S.left input.old) (S.faults input.old))
@@ -85,7 +80,7 @@ fn run_words<F: Files, S: Source, K: Sink>(
         (outside (file_store (F.contents files.new) (F.faults files.new) (F.last_fault files.new))
         (stream (S.left input.new) (S.faults input.new))
         (stream (K.written out.new) (K.faults out.new)))
-        result }
+        (code_of result) }
     ensures input_count { S.faults input.old ≤ S.faults input.new }
     ensures files_count { F.faults files.old ≤ F.faults files.new }
     ensures files { F.contents files.new ≡ F.contents files.old }
@@ -105,7 +100,7 @@ fn run_words<F: Files, S: Source, K: Sink>(
             },
         ) => run_gen(alloc, seed, trips, messages, out),
         Err(WordsFault::Usage) => run_usage(out),
-        Err(WordsFault::NoMemory) => NO_MEMORY,
+        Err(WordsFault::NoMemory) => ExitStatus::NoMemory,
     }
 }
 
@@ -116,7 +111,7 @@ fn run_replay<F: Files, S: Source, K: Sink>(
     path: &str,
     input: &mut S,
     out: &mut K,
-) -> u8
+) -> ExitStatus
     ensures outcome { ReplayWithOutcome path.now
         (outside (file_store (F.contents files.old) (F.faults files.old) (F.last_fault files.old))
         (stream (S.left input.old) (S.faults input.old))
@@ -124,7 +119,7 @@ fn run_replay<F: Files, S: Source, K: Sink>(
         (outside (file_store (F.contents files.new) (F.faults files.new) (F.last_fault files.new))
         (stream (S.left input.new) (S.faults input.new))
         (stream (K.written out.new) (K.faults out.new)))
-        result }
+        (code_of result) }
     ensures same { F.contents files.new ≡ F.contents files.old }
 {
     match load_shared(alloc, files, path) {
@@ -140,14 +135,14 @@ fn run_board<F: Files, K: Sink>(
     path: &str,
     asked: &BoardAsked<'_>,
     out: &mut K,
-) -> u8
+) -> ExitStatus
     requires { MayAsk (asked_seen asked.now) }
     ensures outcome { BoardOutcome path.now (board_output (asked_seen asked.now))
         (file_store (F.contents files.old) (F.faults files.old) (F.last_fault files.old))
         (file_store (F.contents files.new) (F.faults files.new) (F.last_fault files.new))
         (stream (K.written out.old) (K.faults out.old))
         (stream (K.written out.new) (K.faults out.new))
-        result }
+        (code_of result) }
     ensures same { F.contents files.new ≡ F.contents files.old }
 {
     match load_shared(alloc, files, path) {
@@ -157,79 +152,84 @@ fn run_board<F: Files, K: Sink>(
 }
 
 /// The board of these timetables.
-fn write_board<K: Sink>(alloc: Global, plans: Arc<Plans>, asked: &BoardAsked<'_>, out: &mut K) -> u8
+fn write_board<K: Sink>(
+    alloc: Global,
+    plans: Arc<Plans>,
+    asked: &BoardAsked<'_>,
+    out: &mut K,
+) -> ExitStatus
     requires { MayAsk (asked_seen asked.now) }
     ensures { PrintsOutput (board_output (asked_seen asked.now) (arc_value plans))
         (stream (K.written out.old) (K.faults out.old))
         (stream (K.written out.new) (K.faults out.new))
-        result }
+        (code_of result) }
 {
     match board_of(alloc, plans, asked) {
-        Ok(Some(bytes)) => write_line(&bytes, DONE, out),
-        Ok(None) => write_line(b"hub: not found\n", NOT_FOUND, out),
-        Err(_) => NO_MEMORY,
+        Ok(Some(bytes)) => write_line(&bytes, ExitStatus::Done, out),
+        Ok(None) => write_line(b"hub: not found\n", ExitStatus::NotFound, out),
+        Err(_) => ExitStatus::NoMemory,
     }
 }
 
 /// Why there is no hub.
-pub(crate) fn write_fault<K: Sink>(fault: &HubFault, out: &mut K) -> u8
+pub(crate) fn write_fault<K: Sink>(fault: &HubFault, out: &mut K) -> ExitStatus
     ensures { PrintsFault fault.now (stream (K.written out.old) (K.faults out.old))
-        (stream (K.written out.new) (K.faults out.new)) result }
+        (stream (K.written out.new) (K.faults out.new)) (code_of result) }
 {
     match fault {
-        HubFault::Refused(line) => write_line(line, REFUSED_CONF, out),
-        HubFault::FileFault => write_line(b"hub: file fault\n", FAULT, out),
-        HubFault::NoMemory => NO_MEMORY,
+        HubFault::Refused(line) => write_line(line, ExitStatus::Refused, out),
+        HubFault::FileFault => write_line(b"hub: file fault\n", ExitStatus::Fault, out),
+        HubFault::NoMemory => ExitStatus::NoMemory,
     }
 }
 
 /// `check`: the configuration at the path, and its timetables.
-fn run_check<F: Files, K: Sink>(alloc: Global, files: &mut F, path: &str, out: &mut K) -> u8
+fn run_check<F: Files, K: Sink>(alloc: Global, files: &mut F, path: &str, out: &mut K) -> ExitStatus
     ensures outcome { CheckOutcome path.now
         (file_store (F.contents files.old) (F.faults files.old) (F.last_fault files.old))
         (file_store (F.contents files.new) (F.faults files.new) (F.last_fault files.new))
         (stream (K.written out.old) (K.faults out.old))
         (stream (K.written out.new) (K.faults out.new))
-        result }
+        (code_of result) }
     ensures same { F.contents files.new ≡ F.contents files.old }
 {
     match check(alloc, files, path) {
-        Ok(lines) => write_line(&lines, DONE, out),
-        Err(HubFault::Refused(line)) => write_line(&line, REFUSED_CONF, out),
-        Err(HubFault::FileFault) => write_line(b"hub: file fault\n", FAULT, out),
-        Err(HubFault::NoMemory) => NO_MEMORY,
+        Ok(lines) => write_line(&lines, ExitStatus::Done, out),
+        Err(HubFault::Refused(line)) => write_line(&line, ExitStatus::Refused, out),
+        Err(HubFault::FileFault) => write_line(b"hub: file fault\n", ExitStatus::Fault, out),
+        Err(HubFault::NoMemory) => ExitStatus::NoMemory,
     }
 }
 
 /// `gen`: the sample of the seed, run.
-fn run_gen<K: Sink>(alloc: Global, seed: u64, trips: u32, messages: u32, out: &mut K) -> u8
+fn run_gen<K: Sink>(alloc: Global, seed: u64, trips: u32, messages: u32, out: &mut K) -> ExitStatus
     requires { MayMake trips messages }
     ensures { PrintsOutput (gen_output seed trips messages)
         (stream (K.written out.old) (K.faults out.old))
         (stream (K.written out.new) (K.faults out.new))
-        result }
+        (code_of result) }
 {
     match run_sample(alloc, seed, trips, messages) {
-        Ok(line) => write_line(&line, DONE, out),
+        Ok(line) => write_line(&line, ExitStatus::Done, out),
         Err(fault) => write_fault(&fault, out),
     }
 }
 
 /// Words that are no command.
-pub(crate) fn run_usage<K: Sink>(out: &mut K) -> u8
+pub(crate) fn run_usage<K: Sink>(out: &mut K) -> ExitStatus
     ensures { UsageOutcome (stream (K.written out.old) (K.faults out.old))
-        (stream (K.written out.new) (K.faults out.new)) result }
+        (stream (K.written out.new) (K.faults out.new)) (code_of result) }
 {
-    write_line(b"hub: usage\n", USAGE, out)
+    write_line(b"hub: usage\n", ExitStatus::Usage, out)
 }
 
 /// Writes lines, and nothing else. The status is the given one, unless the output fails.
-fn write_line<K: Sink>(line: &[u8], status: u8, out: &mut K) -> u8
-    ensures { WritesLine line.now status (stream (K.written out.old) (K.faults out.old))
-        (stream (K.written out.new) (K.faults out.new)) result }
+fn write_line<K: Sink>(line: &[u8], status: ExitStatus, out: &mut K) -> ExitStatus
+    ensures { WritesLine line.now (code_of status) (stream (K.written out.old) (K.faults out.old))
+        (stream (K.written out.new) (K.faults out.new)) (code_of result) }
 {
     match write_all(out, line) {
         Ok(()) => status,
-        Err(OutputFault) => OUTPUT_FAULT,
+        Err(OutputFault) => ExitStatus::OutputFault,
     }
 }

@@ -6,10 +6,10 @@ ghost use Rattle.hub_main.specs.Serving.{IsSharing, PrepareOutcome};
 
 use crate::boards::shared;
 use crate::offline::{run_usage, write_fault};
+use exit_status::ExitStatus;
 use hub_config_defs::HubConf;
 use hub_load::{Configured, load_configured};
 use hub_outside::{Files, Sink};
-use hub_replay::statuses::NO_MEMORY;
 use hub_words::serve_path;
 use rt_types::Text;
 use sched_types::Plans;
@@ -54,7 +54,7 @@ pub fn prepare_serve<F: Files, K: Sink>(
 {
     match serve_path(words) {
         Some(path) => prepare_at(alloc, path, files, out),
-        None => Prepared::Status(run_usage(out)),
+        None => Prepared::Status(run_usage(out).code()),
     }
 }
 
@@ -70,7 +70,7 @@ fn prepare_at<F: Files, K: Sink>(alloc: Global, path: &str, files: &mut F, out: 
 {
     match load_configured(alloc, files, path) {
         Ok(configured) => share(alloc, configured),
-        Err(fault) => Prepared::Status(write_fault(&fault, out)),
+        Err(fault) => Prepared::Status(write_fault(&fault, out).code()),
     }
 }
 
@@ -81,6 +81,6 @@ fn share(alloc: Global, configured: Configured) -> Prepared
     let Configured { conf, plans } = configured;
     match shared(alloc, plans) {
         Ok(plans) => Prepared::Ready(ServeConf { plans, conf }),
-        Err(_) => Prepared::Status(NO_MEMORY),
+        Err(_) => Prepared::Status(ExitStatus::NoMemory.code()),
     }
 }

@@ -1,8 +1,8 @@
 //! The commands on the outside of a runtime.
 
 use crate::offline::run_offline;
+use exit_status::ExitStatus;
 use hub_outside::{NoMemory, StdFiles, StdSink, StdSource, SystemClock};
-use hub_replay::statuses::NO_MEMORY;
 use rt_types::Text;
 use std::alloc::Global;
 use std::env::Args;
@@ -20,7 +20,7 @@ pub fn run_on_system<R: rt::Files + rt::Clock, I: Read + Drop, O: Write + Drop>(
     output: O,
 ) -> u8 {
     let Ok(words) = words_of(alloc, words) else {
-        return NO_MEMORY;
+        return ExitStatus::NoMemory.code();
     };
     let mut files = StdFiles::new(system);
     let mut input = StdSource::new(input);

@@ -1,6 +1,8 @@
 -- What a replay comes to, by its exit status.
 use Rattle.std.specs.Prelude.{◌≡◌, ℕ, ◌≤◌, List, [], ◌++◌, All, length, take, Option, IfSome, true, unwrap_or, ◌⊎◌}
 use Rattle.std.specs.Io.KnownBytes.{Appends, Consumes}
+use Rattle.exit_status.specs.Codes.{code_of}
+use Rattle.exit_status.specs.declared.status.ExitStatus.TheVariants as exit
 use Rattle.hub_outside.specs.Count.{Rose}
 use Rattle.hub_outside.specs.Outside.{Stream}
 use Rattle.http_serve_defs.specs.Connections.{Served, IsServed}
@@ -9,9 +11,11 @@ use Rattle.hub_replay_defs.specs.Output.{Output, run, is_open, output_of, replay
 use Rattle.hub_replay.specs.declared.steps.Ending.{Ending}
 use Rattle.hub_replay.specs.declared.steps.Ending.TheVariants.{Ended, Refused, InputFault, OutputFault, NoMemory}
 
--- done, input fault, output fault, no memory, refused
+-- the statuses of a replay
 abbrev pub IsReplayStatus : ℕ → Type 0
-IsReplayStatus status = (status ≡ 0) ⊎ (status ≡ 4) ⊎ (status ≡ 5) ⊎ (status ≡ 6) ⊎ (status ≡ 7)
+IsReplayStatus status = (status ≡ code_of exit.Done) ⊎ (status ≡ code_of exit.Fault)
+    ⊎ (status ≡ code_of exit.OutputFault) ⊎ (status ≡ code_of exit.NoMemory)
+    ⊎ (status ≡ code_of exit.NotAScript)
 
 -- the output of the script of a replay on a hub, which may have so many bytes
 abbrev pub output_of_script : Hub → List ℕ → Output
@@ -40,7 +44,8 @@ fault_output hub taken = (run hub taken).out ++ fault_line
 -- the output grew by all that is defined for the input, and the status is the defined one
 abbrev pub IsWhole : (List ℕ → Output) → ℕ → Option (List ℕ) → Option (List ℕ) → Option (List ℕ)
     → Type 0
-IsWhole defined status left written written' = (status ≡ 0) ⊎ (status ≡ 7)
+IsWhole defined status left written written' =
+    (status ≡ code_of exit.Done) ⊎ (status ≡ code_of exit.NotAScript)
     → IfSome left (λ script. Appends written written' (defined script).written
     × (status ≡ (defined script).status))
 
@@ -48,7 +53,8 @@ IsWhole defined status left written written' = (status ≡ 0) ⊎ (status ≡ 7)
 abbrev pub InputFailed : Hub → ℕ → Option (List ℕ) → Option (List ℕ) → Option (List ℕ)
     → Option (List ℕ)
     → ℕ → ℕ → Type 0
-InputFailed hub status left left' written written' faults faults' = status ≡ 4
+InputFailed hub status left left' written written' faults faults' =
+    status ≡ code_of exit.Fault
     → Rose faults faults'
     × ((taken : List ℕ) × IsUnfinished hub left left' taken
     × Appends written written' (fault_output hub taken))
@@ -65,13 +71,14 @@ IsCut hub defined left left' written written' faults faults' =
 -- the output failed
 abbrev pub OutputFailed : Hub → (List ℕ → Output) → ℕ → Option (List ℕ) → Option (List ℕ)
     → Option (List ℕ) → Option (List ℕ) → ℕ → ℕ → ℕ → ℕ → Type 0
-OutputFailed hub defined status left left' written written' input input' out out' = status ≡ 5
+OutputFailed hub defined status left left' written written' input input' out out' =
+    status ≡ code_of exit.OutputFault
     → Rose out out' × IsCut hub defined left left' written written' input input'
 
 -- memory ran out: the output grew by the front of all that is defined
 abbrev pub RanOut : (List ℕ → Output) → ℕ → Option (List ℕ) → Option (List ℕ) → Option (List ℕ)
     → Option (List ℕ) → Type 0
-RanOut defined status left left' written written' = status ≡ 6
+RanOut defined status left left' written written' = status ≡ code_of exit.NoMemory
     → (script : List ℕ) × IsScript left left' script
     × ((n : ℕ) × Appends written written' (take n (defined script).written))
 
@@ -106,18 +113,20 @@ ReplayOutcome hub input input' output output' status =
 abbrev pub Last : ℕ → List ℕ → ℕ → Option (List ℕ) → Option (List ℕ) → ℕ → ℕ → Type 0
 Last status bytes result written written' faults faults' = (faults ≤ faults')
     × ((result ≡ status) × Appends written written' bytes
-    ⊎ (result ≡ 5) × Rose faults faults' × ((n : ℕ) × Appends written written' (take n bytes)))
+    ⊎ (result ≡ code_of exit.OutputFault) × Rose faults faults'
+    × ((n : ℕ) × Appends written written' (take n bytes)))
 
 -- the last bytes of an ending
 abbrev pub Finishes : Ending → ℕ → List ℕ → Option (List ℕ) → Option (List ℕ) → ℕ → ℕ → Type 0
 Finishes Ended result said written written' faults faults' =
-    Last 0 (said ++ []) result written written' faults faults'
+    Last (code_of exit.Done) (said ++ []) result written written' faults faults'
 Finishes (Refused place) result said written written' faults faults' =
-    Last 7 (said ++ refused_line place) result written written' faults faults'
-    ⊎ Last 6 (said ++ []) result written written' faults faults'
+    Last (code_of exit.NotAScript) (said ++ refused_line place) result written written' faults
+    faults'
+    ⊎ Last (code_of exit.NoMemory) (said ++ []) result written written' faults faults'
 Finishes InputFault result said written written' faults faults' =
-    Last 4 (said ++ fault_line) result written written' faults faults'
+    Last (code_of exit.Fault) (said ++ fault_line) result written written' faults faults'
 Finishes OutputFault result said written written' faults faults' =
-    (result ≡ 5) × (faults ≤ faults') × Appends written written' []
+    (result ≡ code_of exit.OutputFault) × (faults ≤ faults') × Appends written written' []
 Finishes NoMemory result said written written' faults faults' =
-    Last 6 (said ++ []) result written written' faults faults'
+    Last (code_of exit.NoMemory) (said ++ []) result written written' faults faults'

@@ -20,7 +20,6 @@ mod ending;
 mod feeds;
 mod records;
 mod running;
-pub mod statuses;
 mod steps;
 
 pub use ending::replay;

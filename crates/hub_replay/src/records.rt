@@ -3,6 +3,7 @@ ghost use Rattle.std.specs.Prelude.{◌≡◌, ◌<◌, ◌≤◌, ◌+◌, ◌+
 ghost use Rattle.std.specs.Option.{option_map};
 ghost use Rattle.view_answers.specs.Questions.{question_seen};
 ghost use Rattle.board_text_defs.specs.Answers.{IsAsked};
+ghost use Rattle.board_text_defs.specs.Asked.{asked_seen};
 ghost use Rattle.hub_replay_defs.specs.Lines.Head.{Feed, Message, Ask};
 ghost use Rattle.hub_replay_defs.specs.Record.{answer_reply, question_word};
 ghost use Rattle.script_lines.specs.Lines.{head_seen, MayAsk};
@@ -12,6 +13,7 @@ use crate::NoMemory;
 use crate::connections::do_connection;
 use crate::feeds::ScriptHub;
 use feed_defs::LONGEST_MESSAGE;
+use rt_types::Text;
 use script_lines::{LONGEST_LINE, Line, LineFault, line_end, parse_line, reply_line};
 use std::alloc::Global;
 use view_answers::{BoardAsked, Question};
@@ -83,6 +85,34 @@ fn do_line(
     }
 }
 
+/// What a line asks of a stop, over the line's own texts.
+fn asked<'a>(
+    schedule: &'a Text,
+    stop: &'a Text,
+    at: u64,
+    span: u32,
+    limit: u32,
+    json: bool,
+) -> BoardAsked<'a>
+    ensures { asked_seen result ≡ record {
+      schedule = schedule.entry.now;
+      stop = stop.entry.now;
+      at = at;
+      span = span;
+      limit = limit;
+      json = json;
+    } }
+{
+    BoardAsked {
+        schedule: schedule.as_str(),
+        stop: stop.as_str(),
+        at,
+        span,
+        limit,
+        json,
+    }
+}
+
 /// The question that a line asks, if it asks one.
 fn question_of(line: &Line) -> Option<Question<'_>>
     ensures { option_map question_seen result ≡ question_in (head_seen line.now) }
@@ -98,28 +128,14 @@ fn question_of(line: &Line) -> Option<Question<'_>>
             span,
             limit,
             json,
-        } => Some(Question::Board(BoardAsked {
-            schedule: schedule.as_str(),
-            stop: stop.as_str(),
-            at: *moment,
-            span: *span,
-            limit: *limit,
-            json: *json,
-        })),
+        } => Some(Question::Board(asked(schedule, stop, *moment, *span, *limit, *json))),
         Line::Alerts {
             schedule,
             stop,
             moment,
             span,
             limit,
-        } => Some(Question::Alerts(BoardAsked {
-            schedule: schedule.as_str(),
-            stop: stop.as_str(),
-            at: *moment,
-            span: *span,
-            limit: *limit,
-            json: false,
-        })),
+        } => Some(Question::Alerts(asked(schedule, stop, *moment, *span, *limit, false))),
         Line::Unmatched { schedule } => Some(Question::Unmatched {
             schedule: schedule.as_str(),
         }),

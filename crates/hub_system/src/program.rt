@@ -4,6 +4,7 @@ ghost use Rattle.std.specs.Prelude.{◌≡◌, length};
 ghost use Rattle.std.specs.Arc.{arc_value};
 
 use crate::NoMemory;
+use exit_status::ExitStatus;
 use feed_port::FeedPort;
 use hub_main::{Prepared, ServeConf, prepare_serve, run_on_system};
 use hub_outside::{OpenGate, Sink, StdFiles, StdSink};
@@ -17,9 +18,6 @@ use std::net::{Net, TcpListener, TcpStream};
 use std::sync::Wait;
 use std::thread::Threads;
 use std::{env, io, rt};
-
-/// The exit status where memory is wanting.
-const WANTS_MEMORY: u8 = 6;
 
 /// The word that asks for the server.
 const SERVE: &str = "serve";
@@ -58,7 +56,7 @@ where
             serve(rt, alloc, words.as_slice(), boxed, &mut out, &mut errors)
         }
         Ok(None) => run_on_system(alloc, env::args(rt), rt, input, output),
-        Err(NoMemory) => WANTS_MEMORY,
+        Err(NoMemory) => ExitStatus::NoMemory.code(),
     }
 }
 
@@ -110,7 +108,7 @@ where
     let mut files = StdFiles::new(rt);
     match prepare_serve(alloc, words, &mut files, out) {
         Prepared::Ready(ready) => {
-            run_ready(rt, alloc, ready, boxed, out, errors).unwrap_or(WANTS_MEMORY)
+            run_ready(rt, alloc, ready, boxed, out, errors).unwrap_or(ExitStatus::NoMemory.code())
         }
         Prepared::Status(status) => status,
     }

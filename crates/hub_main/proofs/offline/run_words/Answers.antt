@@ -1,3 +1,4 @@
+use Rattle.exit_status.specs.Codes.{code_of}
 use Rattle.hub_outside.specs.Outside.{file_store, outside, stream}
 use Rattle.hub_main_defs.specs.Words.{command_of}
 use Rattle.std.proofs.Common.{◌≡◌, Some, subst}
@@ -34,7 +35,7 @@ run_gen-requires g c =
 pub returns-in-Ok-Replay-clause-input_count : goal.returns-in-Ok-Replay-clause-input_count
 returns-in-Ok-Replay-clause-input_count g c =
     replay_input start (stream (g.S.Source.left c.args.input.now) (g.S.Source.faults c.args.input.now)) (stream (g.S.Source.left c.replay.new.input) (g.S.Source.faults c.replay.new.input))
-    (stream (g.K.Sink.written c.args.out.now) (g.K.Sink.faults c.args.out.now)) (stream (g.K.Sink.written c.replay.new.out) (g.K.Sink.faults c.replay.new.out)) c.replay.result c.replay.ensures
+    (stream (g.K.Sink.written c.args.out.now) (g.K.Sink.faults c.args.out.now)) (stream (g.K.Sink.written c.replay.new.out) (g.K.Sink.faults c.replay.new.out)) (code_of c.replay.result) c.replay.ensures
 
 pub returns-in-Ok-ReplayWith-clause-input_count : goal.returns-in-Ok-ReplayWith-clause-input_count
 returns-in-Ok-ReplayWith-clause-input_count g c =
@@ -43,4 +44,4 @@ returns-in-Ok-ReplayWith-clause-input_count g c =
     (stream (g.K.Sink.written c.args.out.now) (g.K.Sink.faults c.args.out.now)))
     (outside (file_store (g.F.Files.contents c.run_replay.new.files) (g.F.Files.faults c.run_replay.new.files) (g.F.Files.last_fault c.run_replay.new.files)) (stream (g.S.Source.left c.run_replay.new.input) (g.S.Source.faults c.run_replay.new.input))
     (stream (g.K.Sink.written c.run_replay.new.out) (g.K.Sink.faults c.run_replay.new.out)))
-    c.run_replay.result c.run_replay.ensures.outcome
+    (code_of c.run_replay.result) c.run_replay.ensures.outcome
