@@ -20,31 +20,11 @@ pub(crate) enum Unwritten {
     Starved,
 }
 
-/// Answers the item at a place of its connection, and drops the view that was looked up for it.
-pub(crate) fn reply<K: Sink, O: Oracle, C: Clock>(
-    place: u16,
-    item: &Item,
-    responder: &mut Responder,
-    notes: &mut Notes,
-    sink: &mut K,
-    oracle: &mut O,
-    clock: &mut C,
-) -> Result<(), Unwritten>
-    ensures { Replies place
-        (setting (K.written sink.old) (K.faults sink.old) (C.ahead clock.old)
-        (O.plans oracle.old) (O.history oracle.old) (O.reads oracle.old) (O.steady oracle.old))
-        (setting (K.written sink.new) (K.faults sink.new) (C.ahead clock.new)
-        (O.plans oracle.new) (O.history oracle.new) (O.reads oracle.new) (O.steady oracle.new))
-        item.now (noted_in notes.old) (noted_in notes.new) result }
-{
-    let replied = reply_once(place, item, responder, notes, sink, oracle, clock);
-    oracle.release();
-    replied
-}
-
 /// Answers the item at a place of its connection: a look, a reading of the clock, and then the
-/// response, which is made whole before it is written. It is noted once it is written.
-fn reply_once<K: Sink, O: Oracle, C: Clock>(
+/// response, which is made whole before it is written, and noted once it is. The view that was looked
+/// up is let go before the first byte is written, so that a client that reads slowly, or never, keeps
+/// no view in memory.
+pub(crate) fn reply<K: Sink, O: Oracle, C: Clock>(
     place: u16,
     item: &Item,
     responder: &mut Responder,
@@ -68,7 +48,9 @@ fn reply_once<K: Sink, O: Oracle, C: Clock>(
     };
     let moment = clock.now();
     let thousandth = place == LAST_PLACE;
-    let Ok(start) = responder.respond(oracle.view(), item, thousandth, number, moment) else {
+    let made = responder.respond(oracle.view(), item, thousandth, number, moment);
+    oracle.release();
+    let Ok(start) = made else {
         return Err(Unwritten::Starved);
     };
     let Ok(()) = write_all(sink, responder.bytes_from(start)) else {

@@ -6,7 +6,7 @@ use Rattle.http_serve.specs.Notes.{Noted, noted_in}
 use Rattle.http_serve.proofs.Chains.{answers_none}
 use Rattle.http_serve.proofs.Ends.{starved_at_rest}
 use Rattle.http_serve.proofs.OneReply.{looks_and_reads, view_answers, look_starved, response_starved, response_cut, response_whole}
-use Rattle.http_serve.proofs.replying.reply_once.Goals as goal
+use Rattle.http_serve.proofs.replying.reply.Goals as goal
 
 pub returns-in_default : goal.returns-in_default
 returns-in_default g c = (none_begun, starved_at_rest, answers_none c.args.place _, c.make_room.ensures.same)
