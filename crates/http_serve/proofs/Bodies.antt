@@ -1,5 +1,5 @@
 -- A head that was put before the body of an answer makes its response.
-use Rattle.std.proofs.Common.{◌≡◌, ℕ, Bool, List, ◌++◌, length, drop, sym, ap, ◌∙◌}
+use Rattle.std.proofs.Common.{◌≡◌, ℕ, Bool, List, length, drop, sym, ap, ◌∙◌}
 use Rattle.std.specs.Prelude.{Result, Ok, Err, IfOk}
 use Rattle.std.proofs.Transfers.{drop-appended}
 use Rattle.http_defs.specs.declared.response.BodyKind.{BodyKind}

@@ -1,5 +1,5 @@
 -- The response to one item, from the look to the last byte.
-use Rattle.std.proofs.Common.{◌≡◌, ◌==◌, ℕ, ◌+◌, ◌-◌, ◌≤◌, ◌<◌, Bool, List, [], ◌∷◌, ◌++◌, length, take, Option, Ok, Err, refl, sym, ap, ◌∙◌, subst, arith, append-nil}
+use Rattle.std.proofs.Common.{◌≡◌, ◌==◌, ℕ, ◌+◌, ◌-◌, ◌≤◌, ◌<◌, Bool, List, [], ◌∷◌, ◌++◌, length, take, Option, Result, Ok, Err, refl, sym, ap, ◌∙◌, subst, arith, append-nil}
 use Rattle.std.specs.Option.{option_map}
 use Rattle.std.specs.Io.KnownBytes.{Appends}
 use Rattle.std.proofs.KnownBytes.{Appends-nil}
@@ -18,7 +18,8 @@ use Rattle.http_serve.specs.Setting.{Setting, setting, HubGoesOn}
 use Rattle.http_serve.specs.Replies.{Reply, reply_bytes, Begun}
 use Rattle.http_serve.specs.Notes.{Noted}
 use Rattle.http_serve.specs.Serves.{WasStarved}
-use Rattle.http_serve.specs.Turns.{Answers, IsCut, Replied}
+use Rattle.http_serve.specs.declared.replying.Unwritten.{Unwritten}
+use Rattle.http_serve.specs.Turns.{Answers, IsCut, Replied, Replies}
 use Rattle.http_serve.proofs.Chains.{goes_on_longer, reply_of_all}
 
 -- ---- the look
@@ -62,6 +63,19 @@ view_answers plans h v seen place moment number item thousandth bytes stood same
     ∙ ap (λ (p : Schedules). answer p item thousandth moment number (fold_of (length p.feeds) h)) kept
     ∙ ap (λ (t : Bool). answer plans item t moment number (fold_of (length plans.feeds) h)) last
     ∙ reply_of_all plans h place (record { item = item; moment = moment; number = number }) whole
+
+-- ---- the view goes
+
+-- what a response came to still holds once the oracle lets its view go
+pub released : (place : ℕ) (old : Setting) (w : Option (List ℕ)) (f : ℕ) (a : Option (List ℕ)) (p p' : Schedules) (h h' : List Entry)
+    (r r' : ℕ) (s s' : Bool) (item : Item) (before after : Noted) (result : Result Unit Unwritten)
+    → p' ≡ p → h' ≡ h → r' ≡ r → s' ≡ s → Replies place old (setting w f a p h r s) item before after result
+    → Replies place old (setting w f a p' h' r' s') item before after result
+released place old w f a p p' h h' r r' s s' item before after result plans history reads steady told =
+    subst (λ (x : Schedules). Replies place old (setting w f a x h' r' s') item before after result) (sym plans)
+    (subst (λ (x : List Entry). Replies place old (setting w f a p x r' s') item before after result) (sym history)
+    (subst (λ (x : ℕ). Replies place old (setting w f a p h x s') item before after result) (sym reads)
+    (subst (λ (x : Bool). Replies place old (setting w f a p h r x) item before after result) (sym steady) told)))
 
 -- ---- what it came to
 
