@@ -40,11 +40,13 @@ class Feed:
             request.add_unredirected_header(name, value)
         try:
             with urllib.request.urlopen(request, timeout=PATIENCE_SECONDS) as answer:
-                message = answer.read(LONGEST + 1)
+                message, missing = answer.read(LONGEST + 1), answer.length
         except (OSError, http.client.HTTPException) as error:
             return self.tell(f"{self.url}: {error}")
         if len(message) > LONGEST:
             return self.tell(f"{self.url}: more than {LONGEST} bytes")
+        if missing:
+            return self.tell(f"{self.url}: the answer was cut {missing} bytes before its end")
         self.tell("")
         if message != self.message:
             with self.changed:

@@ -223,11 +223,25 @@ def see_forms(display):
         browser.wait("document.querySelector('.rows tr')")
         is_compact = browser.value("document.body.classList.contains('compact')")
         display.check(f"form '{form}' on {width} pixels: {'compact' if is_compact else 'full'}", is_compact == compact)
+
+
+def see_two_lines(display):
+    """In the compact form each departure has two lines, also on the narrowest phone and with the longest remark."""
+    browser = display.browser
+    states = ["live", "skipped", "canceled", "added"]
+    show_scene("late", *states[1:])
+    for language in ("en", "de", "fr"):
+        for width in (320, 390):
+            display.open("ST", more=f"&limit=30&language={language}", width=width, height=844, phone=True)
+            browser.wait(f"{states}.every(state => document.querySelector(`[data-state=${{state}}]`))", 30)
+            highest = browser.value(f"Math.max(...{ROWS}.map(row => row.getBoundingClientRect().height))")
+            display.check(f"compact, {language}: on {width} pixels no departure is higher than {highest:.0f}", highest < 65)
+            display.check("and nothing is wider than the screen", browser.value(
+                "document.documentElement.scrollWidth <= innerWidth "
+                "&& [...document.querySelectorAll('.remark, .expected')].every(cell => cell.scrollWidth <= cell.clientWidth)"))
     display.open("ST", width=390, height=844, phone=True)
     browser.wait("document.querySelector('.rows tr')")
-    heights = browser.value(f"{ROWS}.map(row => row.getBoundingClientRect().height)")
-    display.check(f"compact: no departure is higher than {max(heights):.0f} pixels", max(heights) < 65)
-    display.check("compact: each tells its minutes or its clock, and not both", browser.value(
+    display.check("each tells its minutes or its clock, and not both", browser.value(
         f"{ROWS}.every(row => /^(in \\d+ min|now|was due|\\d\\d:\\d\\d)?$/.test(row.cells[4].innerText.trim()))"))
 
 
@@ -295,6 +309,7 @@ def main():
         see_wrong_clock(display)
         see_several(display)
         see_forms(display)
+        see_two_lines(display)
         see_languages(display)
         see_hub_hang(display, int(hub_process))
         see_hub_gone(display, int(hub_process))

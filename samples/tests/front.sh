@@ -23,26 +23,10 @@ free_port() {
   python3 -c 'import socket; s = socket.socket(); s.bind(("127.0.0.1", 0)); print(s.getsockname()[1])'
 }
 
-# start_nginx UPSTREAM EDIT ..: nginx with the files of samples/nginx as they are, but for ports and folders, and for
-# what sed's EDITs change in the file UPSTREAM, one_hub.conf or two_hubs.conf. It listens for TLS at `front_address`,
-# and at `plain_address` without.
-start_nginx() {
-  local upstream=$1 edits=() edit plain_port tls_port
-  shift
-  for edit in "$@"; do edits+=(-e "$edit"); done
-  tls_port=$(free_port)
-  plain_port=$(free_port)
-  front_address=127.0.0.1:$tls_port
-  plain_address=127.0.0.1:$plain_port
-  local folder=$work/nginx
+# prepare_nginx FOLDER FILE: what nginx needs in that folder of `work`, next to FILE, which is for its http { }.
+prepare_nginx() {
+  local folder=$1
   mkdir -p "$folder/cache" "$folder/temporary"
-  "$top/samples/nginx/certificate.sh" "$folder"
-  cp "$top/samples/nginx/hub_proxy.conf" "$top/samples/nginx/hub_cache.conf" "$folder/"
-  sed "${edits[@]}" "$top/samples/nginx/$upstream" > "$folder/hub_upstream.conf"
-  sed -e "s|listen 443 |listen 127.0.0.1:$tls_port |" -e "s|listen 80;|listen 127.0.0.1:$plain_port;|" \
-    -e '/listen \[::\]/d' -e "s|/etc/nginx/|$folder/|" -e "s|/var/cache/nginx/hub|$folder/cache|" \
-    -e "s|/usr/share/hub/display|$top/samples/display|" -e "s|root /usr/share/hub;|root $top/samples;|" \
-    "$top/samples/nginx/hub.conf" > "$folder/hub.conf"
   cat > "$folder/nginx.conf" <<CONF
 daemon off;
 worker_processes 2;
@@ -59,22 +43,49 @@ http {
     fastcgi_temp_path $folder/temporary/fastcgi;
     uwsgi_temp_path $folder/temporary/uwsgi;
     scgi_temp_path $folder/temporary/scgi;
-    include hub.conf;
+    include $2;
 }
 CONF
   # Workers of a master that is started by root run as another user, who must come to these folders.
   chmod 755 "$work" "$folder"
   chmod 777 "$folder/cache" "$folder/temporary"
+}
+
+# launch_nginx FOLDER: nginx with what is there, in `nginx_process`.
+launch_nginx() {
+  nginx -t -p "$1" -c "$1/nginx.conf" 2> "$1/test.log" || fail "$(cat "$1/test.log")"
+  nginx -p "$1" -c "$1/nginx.conf" 2> "$1/start.log" 7>&- &
+  nginx_process=$!
+  started+=("$nginx_process")
+}
+
+# start_nginx UPSTREAM EDIT ..: nginx with the files of samples/nginx as they are, but for ports and folders, and for
+# what sed's EDITs change in the file UPSTREAM, one_hub.conf or two_hubs.conf. It listens for TLS at `front_address`,
+# and at `plain_address` without.
+start_nginx() {
+  local upstream=$1 edits=() edit plain_port tls_port
+  shift
+  for edit in "$@"; do edits+=(-e "$edit"); done
+  tls_port=$(free_port)
+  plain_port=$(free_port)
+  front_address=127.0.0.1:$tls_port
+  plain_address=127.0.0.1:$plain_port
+  local folder=$work/nginx
+  mkdir -p "$folder"
+  "$top/samples/nginx/certificate.sh" "$folder"
+  cp "$top/samples/nginx/hub_proxy.conf" "$top/samples/nginx/hub_cache.conf" "$folder/"
+  sed "${edits[@]}" "$top/samples/nginx/$upstream" > "$folder/hub_upstream.conf"
+  sed -e "s|listen 443 |listen 127.0.0.1:$tls_port |" -e "s|listen 80;|listen 127.0.0.1:$plain_port;|" \
+    -e '/listen \[::\]/d' -e "s|/etc/nginx/|$folder/|" -e "s|/var/cache/nginx/hub|$folder/cache|" \
+    -e "s|/usr/share/hub/display|$top/samples/display|" -e "s|root /usr/share/hub;|root $top/samples;|" \
+    "$top/samples/nginx/hub.conf" > "$folder/hub.conf"
+  prepare_nginx "$folder" hub.conf
   run_nginx
 }
 
 # run_nginx: nginx with the files that start_nginx left, as they are at that moment.
 run_nginx() {
-  local folder=$work/nginx
-  nginx -t -p "$folder" -c "$folder/nginx.conf" 2> "$folder/test.log" || fail "$(cat "$folder/test.log")"
-  nginx -p "$folder" -c "$folder/nginx.conf" 2> "$folder/start.log" 7>&- &
-  nginx_process=$!
-  started+=("$nginx_process")
+  launch_nginx "$work/nginx"
   wait_for curl -ks --max-time 2 -o "$work/front" "https://$front_address/"
 }
 

@@ -1,7 +1,8 @@
 #!/usr/bin/env bash
 # Tries samples/operating/poll.py with an address that asks for a key: it says so where the key is missing, a hub takes
-# what comes with it, a redirect doesn't get the key, and an address that fails costs no connection. Ends by itself, with
-# status 0 exactly where all was as it should be. HUB names the program, where it is not ./hub. Needs curl and python3.
+# what comes with it, a redirect doesn't get the key, and an address that fails, or whose answer is cut, costs no
+# connection. Ends by itself, with status 0 exactly where all was as it should be. HUB names the program, where it is not
+# ./hub. Needs curl and python3.
 set -euo pipefail
 top=$(cd "$(dirname "$0")/../.." && pwd)
 . "$top/samples/serve/functions.sh"
@@ -10,9 +11,10 @@ needs curl python3
 cd "$top"
 build_hub
 
-# An agency: /feed gives the file `message` to who has the key, /moved leads to /open, which gives it to who has none.
+# An agency: /feed gives the file `message` to who has the key, half of it while there is a file `message.cut`, and
+# nothing where there is no message; /moved leads to /open, which gives it to who has no key.
 cat > "$work/agency.py" <<'PY'
-import http.server, sys
+import http.server, os, sys
 message, seen = sys.argv[1:]
 
 class Agency(http.server.BaseHTTPRequestHandler):
@@ -28,7 +30,7 @@ class Agency(http.server.BaseHTTPRequestHandler):
             body = file.read() if right and self.path != "/moved" else b""
         self.send_header("Content-Length", str(len(body)))
         self.end_headers()
-        self.wfile.write(body)
+        self.wfile.write(body[:len(body) // 2] if os.path.exists(message + ".cut") else body)
 
     def log_message(self, *words):
         pass
@@ -61,8 +63,11 @@ start_hub hub "$(trams_from "$poller_address")" "$(notices_from "$work/none")"
 wait_for has_accepted "$hub_address" trams
 check "with the key of a file a hub takes the feed" is "$(wc -l < "$work/with")" 1
 
-mv "$work/message" "$work/away"
-wait_for grep -q "^poll.py: http://$agency/feed: " "$work/with"
+touch "$work/message.cut"
+wait_for grep -q 'the answer was cut' "$work/with"
+check "an answer that is cut is not handed on" is "$(curl -fsS "http://$hub_address/status" | sed -n 's/^trams\t\([0-9]*\).*/\1/p')" 1
+rm "$work/message.cut" "$work/message"
+wait_for grep -q "^poll.py: http://$agency/feed: Remote end closed" "$work/with"
 samples/serve/send.py samples/serve/hub.toml message late canceled > "$work/message"
 wait_for grep -q 'the feed is back' "$work/with"
 has_two() { curl -fsS --max-time 5 "http://$hub_address/status" | grep -qP '^trams\t2\t'; }
