@@ -16,12 +16,12 @@ use Rattle.stop_index.specs.declared.reached.Reached.{Reached}
 use Rattle.stop_index.specs.declared.slot.Slot.{Slot}
 use Rattle.stop_index.specs.declared.trip_departure.TripDeparture.{TripDeparture}
 use Rattle.stop_index.specs.Index.{departure_cmp, days_are_rising}
-use Rattle.stop_index.specs.Left.{slot_at, runs_on, slots_on, slots_before, is_ahead, is_left, instant_of, IsOver}
+use Rattle.stop_index.specs.Left.{slot_at, runs_on, slots_on, others_on, others_before, is_ahead, is_left, instant_of, IsOver}
 use Rattle.stop_index.specs.First.{IsFirst, earlier_of, until_of}
 use Rattle.order.proofs.Counts.{one_not, count-cons, count-map, count-filter, count_never, count_range_none}
 use Rattle.stop_index.proofs.Instants.{wrapped, is_le_z, le_is, is_lt_z, not_lt_z}
 use Rattle.stop_index.proofs.Ahead.{not_ahead, not_left}
-use Rattle.stop_index.proofs.DaySlots.{first_found}
+use Rattle.stop_index.proofs.Others.{none_other, other_found}
 use Rattle.stop_index.proofs.Firsts.{first_joined, earlier_none}
 
 -- ---- numbers one after another
@@ -35,6 +35,20 @@ range_split a (suc m) n =
     let size : suc m + n ≡ suc (m + n) = omega arith in
     let start : a + 1 + m ≡ a + suc m = omega arith in
     ap (range_with_len a) size ∙ ap (λ ks. a ∷ ks) (range_split (a + 1) m n) ∙ ap (λ k. a ∷ (range_with_len (a + 1) m ++ range_with_len k n)) start
+
+-- what comes of numbers up to one, and of those after these
+pub flat_split : {X : Type 0} (f : ℕ → List X) (day more n : ℕ) → day + more ≡ n → flat_map f (range_with_len 0 n) ≡ flat_map f (range_with_len 0 day) ++ flat_map f (range_with_len day more)
+flat_split f day more n size =
+    let start : 0 + day ≡ day = omega arith in
+    ap (λ k. flat_map f (range_with_len 0 k)) (sym size)
+    ∙ ap (flat_map f) (range_split 0 day more ∙ ap (λ k. range_with_len 0 day ++ range_with_len k more) start)
+    ∙ flat_map-append f (range_with_len 0 day) (range_with_len day more)
+
+pub flat_more : {X : Type 0} (f : ℕ → List X) (day : ℕ) → flat_map f (range_with_len 0 (day + 1)) ≡ flat_map f (range_with_len 0 day) ++ f day
+flat_more f day =
+    ap (flat_map f) (range_more 0 day day (omega arith))
+    ∙ flat_map-append f (range_with_len 0 day) (day ∷ [])
+    ∙ ap (λ xs. flat_map f (range_with_len 0 day) ++ xs) (append-nil (f day))
 
 -- ---- rising days
 
@@ -99,27 +113,13 @@ module _ (t : Timetable) where
       ∙ count_never (λ d. p (slot_at (base_of t day) day d)) (filter (runs_on t day) departures) never
 
   -- no departure is left of days that begin later
-  pub none_late : (reached : Reached) (end : ℤ) (departures : List TripDeparture) (day more : ℕ) → days_are_rising t ≡ true → day + more ≤ length t.bases → end ≤ℤ base_of t day
-      → count_by (is_left reached end) (flat_map (slots_on t departures) (range_with_len day more)) ≡ 0
-  none_late reached end departures day more rise within late =
-      count_range_none (is_left reached end) (slots_on t departures) day more
-      (λ k h l. none_on (is_left reached end) departures k
+  pub none_late : (reached : Reached) (end : ℤ) (departures : List TripDeparture) (apart day more : ℕ) → days_are_rising t ≡ true → day + more ≤ length t.bases → end ≤ℤ base_of t day
+      → count_by (is_left reached end) (flat_map (others_on t departures apart) (range_with_len day more)) ≡ 0
+  none_late reached end departures apart day more rise within late =
+      count_range_none (is_left reached end) (others_on t departures apart) day more
+      (λ k h l. none_other (is_left reached end) t departures apart k (none_on (is_left reached end) departures k
       (λ d. let up : base_of t day ≤ℤ base_of t k = rising rise day k h (omega arith) in
-      not_left reached end (slot_at (base_of t k) k d) (omega (arith, ints))))
-
-  -- those of some days, and of the days after these
-  pub slots_split : (departures : List TripDeparture) (day more n : ℕ) → day + more ≡ n → slots_before t departures n ≡ slots_before t departures day ++ flat_map (slots_on t departures) (range_with_len day more)
-  slots_split departures day more n size =
-      let start : 0 + day ≡ day = omega arith in
-      ap (slots_before t departures) (sym size)
-      ∙ ap (flat_map (slots_on t departures)) (range_split 0 day more ∙ ap (λ k. range_with_len 0 day ++ range_with_len k more) start)
-      ∙ flat_map-append (slots_on t departures) (range_with_len 0 day) (range_with_len day more)
-
-  pub slots_more : (departures : List TripDeparture) (day : ℕ) → slots_before t departures (day + 1) ≡ slots_before t departures day ++ slots_on t departures day
-  slots_more departures day =
-      ap (flat_map (slots_on t departures)) (range_more 0 day day (omega arith))
-      ∙ flat_map-append (slots_on t departures) (range_with_len 0 day) (day ∷ [])
-      ∙ ap (λ ss. slots_before t departures day ++ ss) (append-nil (slots_on t departures day))
+      not_left reached end (slot_at (base_of t k) k d) (omega (arith, ints)))))
 
   -- ---- days that are over
 
@@ -149,28 +149,28 @@ module _ (t : Timetable) where
     none = count_range_none (is_ahead reached) (slots_on t departures) 0 day (λ k h l. over_on reached longest k (ends k (omega arith)) departures short);
   }
 
--- ---- the first that is left, day by day
+-- ---- the first that is left of all days but one, day by day
 
-module _ (t : Timetable) (reached : Reached) (end : ℤ) (departures : List TripDeparture) (day : ℕ) (best : Option Slot) (u : ℤ) (until : u ≡ until_of best end) where
+module _ (t : Timetable) (reached : Reached) (end : ℤ) (departures : List TripDeparture) (apart day : ℕ) (best : Option Slot) (u : ℤ) (until : u ≡ until_of best end) where
   -- one day more
-  pub first_more : (found r : Option Slot) → IsSorted departure_cmp departures → IsFirst (is_left reached end) (slots_before t departures day) best
-      → found ≡ slice_get (filter (is_left reached u) (slots_on t departures day)) 0 → r ≡ earlier_of best found → IsFirst (is_left reached end) (slots_before t departures (day + 1)) r
+  pub first_more : (found r : Option Slot) → IsSorted departure_cmp departures → IsFirst (is_left reached end) (others_before t departures apart day) best
+      → found ≡ slice_get (filter (is_left reached u) (others_on t departures apart day)) 0 → r ≡ earlier_of best found → IsFirst (is_left reached end) (others_before t departures apart (day + 1)) r
   first_more found r sorted so_far is earlier =
-      let here : IsFirst (is_left reached (until_of best end)) (slots_on t departures day) found =
-      subst (λ z. IsFirst (is_left reached z) (slots_on t departures day) found) until (first_found t day (is_left reached u) departures found sorted is) in
-      let joined = first_joined reached end (slots_before t departures day) (slots_on t departures day) best found so_far here in
-      subst (λ (ss : List Slot). IsFirst (is_left reached end) ss r) (sym (slots_more t departures day))
-      (subst (λ (o : Option Slot). IsFirst (is_left reached end) (slots_before t departures day ++ slots_on t departures day) o) (sym earlier) joined)
+      let here : IsFirst (is_left reached (until_of best end)) (others_on t departures apart day) found =
+      subst (λ z. IsFirst (is_left reached z) (others_on t departures apart day) found) until (other_found (is_left reached u) t departures apart day found sorted is) in
+      let joined = first_joined reached end (others_before t departures apart day) (others_on t departures apart day) best found so_far here in
+      subst (λ (ss : List Slot). IsFirst (is_left reached end) ss r) (sym (flat_more (others_on t departures apart) day))
+      (subst (λ (o : Option Slot). IsFirst (is_left reached end) (others_before t departures apart day ++ others_on t departures apart day) o) (sym earlier) joined)
 
   -- none of the days from this one on has one
-  pub first_of_all : (n : ℕ) → n ≡ length t.bases → day ≤ n → days_are_rising t ≡ true → u ≤ℤ base_of t day → IsFirst (is_left reached end) (slots_before t departures day) best → IsFirst (is_left reached end) (slots_before t departures n) best
+  pub first_of_all : (n : ℕ) → n ≡ length t.bases → day ≤ n → days_are_rising t ≡ true → u ≤ℤ base_of t day → IsFirst (is_left reached end) (others_before t departures apart day) best → IsFirst (is_left reached end) (others_before t departures apart n) best
   first_of_all n all within rise late so_far =
       let size : day + (n - day) ≡ n = omega arith in
-      let none : IsFirst (is_left reached (until_of best end)) (flat_map (slots_on t departures) (range_with_len day (n - day))) None =
-      subst (λ z. count_by (is_left reached z) (flat_map (slots_on t departures) (range_with_len day (n - day))) ≡ 0) until (none_late t reached u departures day (n - day) rise (omega (arith, all)) late) in
-      let joined = first_joined reached end (slots_before t departures day) (flat_map (slots_on t departures) (range_with_len day (n - day))) best None so_far none in
-      subst (λ (ss : List Slot). IsFirst (is_left reached end) ss best) (sym (slots_split t departures day (n - day) n size))
-      (subst (λ (o : Option Slot). IsFirst (is_left reached end) (slots_before t departures day ++ flat_map (slots_on t departures) (range_with_len day (n - day))) o) (earlier_none best) joined)
+      let none : IsFirst (is_left reached (until_of best end)) (flat_map (others_on t departures apart) (range_with_len day (n - day))) None =
+      subst (λ z. count_by (is_left reached z) (flat_map (others_on t departures apart) (range_with_len day (n - day))) ≡ 0) until (none_late t reached u departures apart day (n - day) rise (omega (arith, all)) late) in
+      let joined = first_joined reached end (others_before t departures apart day) (flat_map (others_on t departures apart) (range_with_len day (n - day))) best None so_far none in
+      subst (λ (ss : List Slot). IsFirst (is_left reached end) ss best) (sym (flat_split (others_on t departures apart) day (n - day) n size))
+      (subst (λ (o : Option Slot). IsFirst (is_left reached end) (others_before t departures apart day ++ flat_map (others_on t departures apart) (range_with_len day (n - day))) o) (earlier_none best) joined)
 
 -- ---- a pass over the days
 

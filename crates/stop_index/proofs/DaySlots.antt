@@ -1,30 +1,31 @@
 -- The departures of a stop on one day: in order, each once, and the first that is left.
-use Rattle.std.proofs.Common.{◌≡◌, ℕ, ◌+◌, ◌-◌, ◌<◌, ◌≤◌, Bool, true, false, not, ◌&&◌, cond, nat_eq, Option, Some, List, [], ◌∷◌, length, map, filter, get_or, take, drop, slice_get, count_by, ℤ, ◌≤ℤ◌, ◌<ℤ◌, int_lt, All, refl, sym, ap, subst, ◌∙◌, arith}
-use Rattle.std.specs.List.{range_with_len}
+use Rattle.std.proofs.Common.{◌≡◌, ℕ, ◌+◌, ◌-◌, ◌<◌, ◌≤◌, Bool, true, false, not, ◌&&◌, cond, nat_eq, Option, Some, None, List, [], ◌∷◌, length, map, filter, get_or, take, drop, slice_get, count_by, nat_lt, ℤ, ◌≤ℤ◌, ◌<ℤ◌, All, refl, sym, ap, subst, ◌∙◌, arith}
+use Rattle.std.specs.List.{list_any, range_with_len}
 use Rattle.std.specs.List.Sorted.{IsPartitionedBy, IsPartitionPoint, IsSorted}
 use Rattle.std.specs.Ordering.{is_gt, is_lt}
-use Rattle.std.proofs.lemmas.Bool.{and_parts, and_from, and_left, both_ways, eq-eqb, not-true}
+use Rattle.std.proofs.lemmas.Bool.{and_parts, and_from, both_ways, eq-eqb, le-ltb, not-true}
 use Rattle.std.proofs.lemmas.Int.{ints}
-use Rattle.std.proofs.lemmas.List.{drop_more}
-use Rattle.std.proofs.lemmas.List.Elements.{filter_passes, All-same}
+use Rattle.std.proofs.lemmas.List.{drop_more, nil_from_length}
+use Rattle.std.proofs.lemmas.List.Sums.{length-filter}
 use Rattle.std.proofs.lemmas.Cmp.{tied_itself}
 use Rattle.std.proofs.lemmas.List.Sorted.{ranks_by, sorted_far}
 use Rattle.std.proofs.lemmas.Option.{get_or_from_slice_get}
 use Rattle.order.proofs.Laws.{IsLeast, IsRising, rising_from_sorted}
-use Rattle.sched_types.specs.Timetable.{Timetable, is_run, base_of}
+use Rattle.sched_types.specs.Timetable.{Timetable, is_run, base_of, places_of, days_of_trip}
 use Rattle.sched_types.proofs.DepartureOrder.{filter_between}
 use Rattle.stop_index.specs.declared.reached.Reached.{Reached}
 use Rattle.stop_index.specs.declared.slot.Slot.{Slot}
 use Rattle.stop_index.specs.declared.trip_departure.TripDeparture.{TripDeparture}
 use Rattle.stop_index.specs.Slots.{slot_cmp}
 use Rattle.stop_index.specs.Index.{departure_cmp}
-use Rattle.stop_index.specs.Left.{slot_at, runs_on, slots_on, slots_before, is_ahead, is_left, is_from}
-use Rattle.stop_index.specs.First.{IsFirst}
+use Rattle.stop_index.specs.Left.{slot_at, runs_on, slots_from, slots_on, slots_before, is_ahead, is_before, is_left, is_from}
+use Rattle.stop_index.specs.First.{IsFirst, soonest}
 use Rattle.order.proofs.Counts.{count_fewer, count-map, count-filter, count_never, once_flat, range_once}
-use Rattle.order.proofs.Ordered.{is_equal, above_is, rising_filter, rising_drop}
-use Rattle.stop_index.proofs.Instants.{slot_total, departure_total, same_slot, seconds_up, on_day}
-use Rattle.stop_index.proofs.Ahead.{ahead_up, left_from, not_left}
+use Rattle.order.proofs.Ordered.{is_equal, above_is, rising_drop, rising_filter, sorted_from_rising}
+use Rattle.stop_index.proofs.Instants.{slot_total, departure_total, same_slot, seconds_up, on_day, lt_is, lt_not}
+use Rattle.stop_index.proofs.Ahead.{ahead_up}
 use Rattle.stop_index.proofs.Firsts.{is_same, first_of_rising}
+use Rattle.stop_index.proofs.Kept.{filter_both, kept_map}
 
 -- ---- in order
 
@@ -89,7 +90,7 @@ module _ (t : Timetable) (day : ℕ) where
     by_test true rest = (ap is_gt (on_day (base_of t day) day x y) ∙ least.0, rest)
     by_test false rest = rest
 
-  rising_slots : (xs : List TripDeparture) → IsRising departure_total xs → IsRising slot_total (slots_on t xs day)
+  pub rising_slots : (xs : List TripDeparture) → IsRising departure_total xs → IsRising slot_total (slots_on t xs day)
   rising_slots [] up = tt
   rising_slots (x ∷ xs) up = by_test (runs_on t day x) (rising_slots xs up.1) where
     by_test : (b : Bool) → IsRising slot_total (slots_on t xs day) → IsRising slot_total (map slot (cond b (x ∷ filter (runs_on t day) xs) (filter (runs_on t day) xs)))
@@ -102,91 +103,96 @@ module _ (t : Timetable) (day : ℕ) where
       subst (λ o. IsFirst p (slots_on t departures day) o) (sym is)
       (first_of_rising p (slots_on t departures day) (rising_slots departures (rising_of departures sorted)))
 
--- ---- going over those that are still to come
+-- those that are still to come are in order
+pub sorted_ahead : (reached : Reached) (base : ℤ) (day : ℕ) (departures list : List TripDeparture) → list ≡ filter (ahead reached base day) departures → IsSorted departure_cmp departures → IsSorted departure_cmp list
+sorted_ahead reached base day departures list is sorted =
+    sorted_from_rising departure_total list
+    (subst (λ (xs : List TripDeparture). IsRising departure_total xs) (sym is) (rising_filter departure_total (ahead reached base day) departures (rising_of departures sorted)))
 
-module _ (t : Timetable) (day : ℕ) (reached : Reached) (end : ℤ) where
-  abbrev slot_on : TripDeparture → Slot
-  slot_on = slot_at (base_of t day) day
+-- ---- the runs of a day, by their departures
 
-  abbrev pub left_of : List TripDeparture → List Slot
-  left_of xs = filter (is_left reached end) (slots_on t xs day)
+module _ (t : Timetable) (base : ℤ) (day : ℕ) where
+  abbrev run_of : TripDeparture → Slot
+  run_of = slot_at base day
 
-  -- those that are not ahead may be left out
-  pub left_ahead_are : (xs : List TripDeparture) → left_of (filter (ahead reached (base_of t day) day) xs) ≡ left_of xs
-  left_ahead_are [] = refl
-  left_ahead_are (x ∷ xs) = by_ahead (filter (ahead reached (base_of t day) day) xs) (is_ahead reached (slot_on x)) refl (left_ahead_are xs) where
-    by_run : (rest : List TripDeparture) (c : Bool) → left_of rest ≡ left_of xs
-        → filter (is_left reached end) (map slot_on (cond c (x ∷ filter (runs_on t day) rest) (filter (runs_on t day) rest)))
-        ≡ filter (is_left reached end) (map slot_on (cond c (x ∷ filter (runs_on t day) xs) (filter (runs_on t day) xs)))
-    by_run rest true same = ap (λ ss. cond (is_left reached end (slot_on x)) (slot_on x ∷ ss) ss) same
-    by_run rest false same = same
+  -- what doesn't run adds none, and what runs is the first
+  from_idle : (x : TripDeparture) (xs : List TripDeparture) → runs_on t day x ≡ false → slots_from t base day (x ∷ xs) ≡ slots_from t base day xs
+  from_idle x xs idle = ap (λ b. map run_of (cond b (x ∷ filter (runs_on t day) xs) (filter (runs_on t day) xs))) idle
 
-    none_more : (c : Bool) → is_ahead reached (slot_on x) ≡ false → left_of xs ≡ filter (is_left reached end) (map slot_on (cond c (x ∷ filter (runs_on t day) xs) (filter (runs_on t day) xs)))
-    none_more true fails =
-        sym (ap (λ b. cond b (slot_on x ∷ left_of xs) (left_of xs)) (and_left (is_ahead reached (slot_on x)) (int_lt (slot_on x).at end) fails))
-    none_more false fails = refl
+  from_here : (x : TripDeparture) (xs : List TripDeparture) → runs_on t day x ≡ true → slots_from t base day (x ∷ xs) ≡ run_of x ∷ slots_from t base day xs
+  from_here x xs runs = ap (λ b. map run_of (cond b (x ∷ filter (runs_on t day) xs) (filter (runs_on t day) xs))) runs
 
-    by_ahead : (rest : List TripDeparture) (b : Bool) → is_ahead reached (slot_on x) ≡ b → left_of rest ≡ left_of xs → left_of (cond b (x ∷ rest) rest) ≡ left_of (x ∷ xs)
-    by_ahead rest true e same = by_run rest (runs_on t day x) same
-    by_ahead rest false e same = same ∙ none_more (runs_on t day x) e
+  -- none leaves early from one on that doesn't
+  none_later : (end : ℤ) (xs : List TripDeparture) (x : TripDeparture) → end ≤ℤ (run_of x).at → IsLeast departure_total x xs → filter (is_before end) (slots_from t base day xs) ≡ []
+  none_later end [] x late least = refl
+  none_later end (y ∷ ys) x late least = by_run (runs_on t day y) (none_later end ys x late least.1) where
+    fails : is_before end (run_of y) ≡ false
+    fails = let later : x.seconds ≤ y.seconds = seconds_up x y least.0 in lt_not (run_of y).at end (omega (arith, ints))
 
-  -- what doesn't run adds none
-  pub left_idle : (x : TripDeparture) (xs : List TripDeparture) → runs_on t day x ≡ false → left_of (x ∷ xs) ≡ left_of xs
-  left_idle x xs idle = ap (λ b. filter (is_left reached end) (map slot_on (cond b (x ∷ filter (runs_on t day) xs) (filter (runs_on t day) xs)))) idle
-
-  -- what runs and is left is the first
-  pub left_here : (x : TripDeparture) (xs : List TripDeparture) → runs_on t day x ≡ true → is_left reached end (slot_on x) ≡ true → left_of (x ∷ xs) ≡ slot_on x ∷ left_of xs
-  left_here x xs runs is =
-      ap (λ b. filter (is_left reached end) (map slot_on (cond b (x ∷ filter (runs_on t day) xs) (filter (runs_on t day) xs)))) runs
-      ∙ ap (λ b. cond b (slot_on x ∷ left_of xs) (left_of xs)) is
-
-  -- nothing is left from one on that leaves no earlier than the end
-  none_later : (xs : List TripDeparture) (x : TripDeparture) → end ≤ℤ (slot_on x).at → IsLeast departure_total x xs → left_of xs ≡ []
-  none_later [] x late least = refl
-  none_later (y ∷ ys) x late least = by_run (runs_on t day y) (none_later ys x late least.1) where
-    fails : is_left reached end (slot_on y) ≡ false
-    fails = let later : x.seconds ≤ y.seconds = seconds_up x y least.0 in not_left reached end (slot_on y) (omega (arith, ints))
-
-    by_run : (c : Bool) → left_of ys ≡ [] → filter (is_left reached end) (map slot_on (cond c (y ∷ filter (runs_on t day) ys) (filter (runs_on t day) ys))) ≡ []
-    by_run true rest = ap (λ b. cond b (slot_on y ∷ left_of ys) (left_of ys)) fails ∙ rest
+    by_run : (c : Bool) → filter (is_before end) (slots_from t base day ys) ≡ [] → filter (is_before end) (map run_of (cond c (y ∷ filter (runs_on t day) ys) (filter (runs_on t day) ys))) ≡ []
+    by_run true rest = ap (λ b. cond b (run_of y ∷ filter (is_before end) (slots_from t base day ys)) (filter (is_before end) (slots_from t base day ys))) fails ∙ rest
     by_run false rest = rest
 
-  pub left_past : (x : TripDeparture) (xs : List TripDeparture) → end ≤ℤ (slot_on x).at → IsRising departure_total (x ∷ xs) → left_of (x ∷ xs) ≡ []
-  left_past x xs late up = none_later (x ∷ xs) x late (ap is_gt (tied_itself departure_total x), up.0)
+  -- ---- at one of a list of departures
 
-  -- ---- at one of a list of those that are still to come
-
-  module _ (list : List TripDeparture) (i : ℕ) (d : TripDeparture) (found : Slot) (h : i < length list) (is : found ≡ slot_on (get_or list i d)) where
+  module _ (list : List TripDeparture) (i : ℕ) (d : TripDeparture) (found : Slot) (h : i < length list) (is : found ≡ run_of (get_or list i d)) where
     own_run : runs_on t day (get_or list i d) ≡ is_run t found.run
     own_run = ap (λ (s : Slot). is_run t s.run) (sym is)
 
-    pub left_next : is_run t found.run ≡ false → left_of (drop (i + 1) list) ≡ left_of (drop i list)
-    left_next idle = sym (ap left_of (drop_more list i d h) ∙ left_idle (get_or list i d) (drop (i + 1) list) (own_run ∙ idle))
+    pub run_next : is_run t found.run ≡ false → slots_from t base day (drop (i + 1) list) ≡ slots_from t base day (drop i list)
+    run_next idle = sym (ap (slots_from t base day) (drop_more list i d h) ∙ from_idle (get_or list i d) (drop (i + 1) list) (own_run ∙ idle))
 
-    pub left_found : is_run t found.run ≡ true → is_ahead reached found ≡ true → found.at <ℤ end → left_of (drop i list) ≡ found ∷ left_of (drop (i + 1) list)
-    left_found runs to_come before =
-        ap left_of (drop_more list i d h)
-        ∙ left_here (get_or list i d) (drop (i + 1) list) (own_run ∙ runs) (ap (is_left reached end) (sym is) ∙ left_from reached end found to_come before)
-        ∙ ap (λ s. s ∷ left_of (drop (i + 1) list)) (sym is)
+    pub run_found : is_run t found.run ≡ true → slots_from t base day (drop i list) ≡ found ∷ slots_from t base day (drop (i + 1) list)
+    run_found runs =
+        ap (slots_from t base day) (drop_more list i d h)
+        ∙ from_here (get_or list i d) (drop (i + 1) list) (own_run ∙ runs)
+        ∙ ap (λ s. s ∷ slots_from t base day (drop (i + 1) list)) (sym is)
 
-    pub left_over : IsRising departure_total (drop i list) → end ≤ℤ found.at → left_of (drop i list) ≡ []
-    left_over up late =
-        let later : end ≤ℤ (slot_on (get_or list i d)).at = subst (λ (s : Slot). end ≤ℤ s.at) is late in
-        ap left_of (drop_more list i d h)
-        ∙ left_past (get_or list i d) (drop (i + 1) list) later (subst (λ (xs : List TripDeparture). IsRising departure_total xs) (drop_more list i d h) up)
+    pub run_late : (end : ℤ) → IsSorted departure_cmp list → end ≤ℤ found.at → filter (is_before end) (slots_from t base day (drop i list)) ≡ []
+    run_late end sorted late =
+        let later : end ≤ℤ (run_of (get_or list i d)).at = subst (λ (s : Slot). end ≤ℤ s.at) is late in
+        let up = subst (λ (xs : List TripDeparture). IsRising departure_total xs) (drop_more list i d h) (rising_drop departure_total i list (rising_of list sorted)) in
+        ap (λ xs. filter (is_before end) (slots_from t base day xs)) (drop_more list i d h)
+        ∙ none_later end (get_or list i d ∷ drop (i + 1) list) (get_or list i d) later (ap is_gt (tied_itself departure_total (get_or list i d)), up.0)
 
--- those that are ahead, by any name of the base
-module _ (t : Timetable) (day : ℕ) (reached : Reached) (end : ℤ) (departures list : List TripDeparture) (base : ℤ) (same : base ≡ base_of t day) (is : list ≡ filter (ahead reached base day) departures) where
-  pub left_begins : left_of t day reached end list ≡ left_of t day reached end departures
-  left_begins = ap (left_of t day reached end) (is ∙ ap (λ b. filter (ahead reached b day) departures) same) ∙ left_ahead_are t day reached end departures
+-- the rest of a list in order is in order
+pub sorted_drop : (list : List TripDeparture) (i : ℕ) → IsSorted departure_cmp list → IsSorted departure_cmp (drop i list)
+sorted_drop list i sorted = sorted_from_rising departure_total (drop i list) (rising_drop departure_total i list (rising_of list sorted))
 
-  pub all_ahead : (i : ℕ) (d : TripDeparture) → i < length list → is_ahead reached (slot_at base day (get_or list i d)) ≡ true
-  all_ahead i d h = All-same (λ x. ahead reached base day x ≡ true) list (filter (ahead reached base day) departures) is (filter_passes (ahead reached base day) departures) i d h
+-- the soonest of a list is one that is found early, and where none is there is none
+pub soonest_is : (slots rest : List Slot) (x : Slot) (end : ℤ) → slots ≡ x ∷ rest → x.at <ℤ end → slice_get (filter (is_before end) slots) 0 ≡ Some x
+soonest_is slots rest x end is early =
+    ap (λ ss. slice_get (filter (is_before end) ss) 0) is
+    ∙ ap (λ b. slice_get (cond b (x ∷ filter (is_before end) rest) (filter (is_before end) rest)) 0) (lt_is x.at end early)
 
-  pub all_rise : IsSorted departure_cmp departures → (i : ℕ) → IsRising departure_total (drop i list)
-  all_rise sorted i =
-      rising_drop departure_total i list
-      (subst (λ (xs : List TripDeparture). IsRising departure_total xs) (sym is) (rising_filter departure_total (ahead reached base day) departures (rising_of departures sorted)))
+pub soonest_none : (t : Timetable) (base : ℤ) (day : ℕ) (end : ℤ) (departures rest : List TripDeparture) → slots_from t base day rest ≡ slots_from t base day departures
+    → filter (is_before end) (slots_from t base day rest) ≡ [] → None ≡ soonest t base day end departures
+soonest_none t base day end departures rest same none =
+    sym (ap (λ ss. slice_get ss 0) none) ∙ ap (λ ss. slice_get (filter (is_before end) ss) 0) same
+
+-- ---- those of a day that come after what was reached
+
+module _ (t : Timetable) (departures : List TripDeparture) (reached : Reached) (day : ℕ) (base : ℤ) where
+  -- the runs of those departures that are ahead are those that are ahead
+  pub ahead_runs : (list : List TripDeparture) → list ≡ filter (ahead reached base day) departures → base ≡ base_of t day → slots_from t base day list ≡ filter (is_ahead reached) (slots_on t departures day)
+  ahead_runs list is same =
+      ap (slots_from t base day) is
+      ∙ kept_map (slot_at base day) (runs_on t day) (is_ahead reached) departures
+      ∙ ap (λ b. filter (is_ahead reached) (slots_from t b day departures)) same
+
+  -- and the soonest of them is the first that is left
+  pub soonest_left : (end : ℤ) (list : List TripDeparture) → slots_from t base day list ≡ filter (is_ahead reached) (slots_on t departures day)
+      → soonest t base day end list ≡ slice_get (filter (is_left reached end) (slots_on t departures day)) 0
+  soonest_left end list runs =
+      ap (λ ss. slice_get (filter (is_before end) ss) 0) runs
+      ∙ ap (λ ss. slice_get ss 0) (filter_both (is_before end) (is_ahead reached) (slots_on t departures day))
+
+-- none runs past the window
+pub none_past : (t : Timetable) (departures : List TripDeparture) (day : ℕ) → length t.bases ≤ day → slots_on t departures day ≡ []
+none_past t departures day past =
+    let never : nat_lt day (length t.bases) ≡ false = le-ltb day (length t.bases) past in
+    ap (map (slot_at (base_of t day) day)) (nil_from_length (filter (runs_on t day) departures)
+    (length-filter (runs_on t day) departures ∙ count_never (runs_on t day) departures (λ d. ap (λ b. b && nat_lt 1 (length (places_of t d.trip)) && list_any (λ k. nat_eq k day) (days_of_trip t (slice_get t.trips d.trip))) never)))
 
 -- ---- each departure once
 
@@ -204,8 +210,8 @@ module _ (t : Timetable) (departures : List TripDeparture) (once : (trip place :
           absurd (both_ways (nat_eq day x.run.day) other (eq-eqb day x.run.day (sym (ap (λ (s : Slot). s.run.day) (is_of day d e)))))
       by_test d false e = refl
 
-  own_day : (day : ℕ) → count_by (is_same x) (slots_on t departures day) ≤ 1
-  own_day day =
+  pub own_once : (day : ℕ) → count_by (is_same x) (slots_on t departures day) ≤ 1
+  own_once day =
       omega (
         arith,
         count-map (is_same x) (slot_at (base_of t day) day) (filter (runs_on t day) departures),
@@ -222,4 +228,4 @@ module _ (t : Timetable) (departures : List TripDeparture) (once : (trip place :
           (eq-eqb d.place x.place (sym (ap (λ (s : Slot). s.place) same)))
 
   pub once_before : (days : ℕ) → count_by (is_same x) (slots_before t departures days) ≤ 1
-  once_before days = once_flat (is_same x) (λ day. nat_eq day x.run.day) (slots_on t departures) other_day own_day (range_with_len 0 days) (range_once x.run.day 0 days)
+  once_before days = once_flat (is_same x) (λ day. nat_eq day x.run.day) (slots_on t departures) other_day own_once (range_with_len 0 days) (range_once x.run.day 0 days)

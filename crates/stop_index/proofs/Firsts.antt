@@ -1,5 +1,5 @@
 -- The first of some departures: of a rising list, of two lists, and what is left after it.
-use Rattle.std.proofs.Common.{◌≡◌, ◌+◌, ◌<◌, ◌≤◌, Bool, true, false, ◌&&◌, cond, Option, Some, None, List, [], ◌∷◌, ◌++◌, filter, slice_get, count_by, ℤ, pos, ◌+ℤ◌, ◌≤ℤ◌, ◌<ℤ◌, int_lt, zero-add, refl, sym, ap, ◌∙◌, Less, Equal, Greater, arith}
+use Rattle.std.proofs.Common.{◌≡◌, ◌+◌, ◌<◌, ◌≤◌, Bool, true, false, ◌&&◌, cond, Option, Some, None, List, [], ◌∷◌, ◌++◌, filter, slice_get, count_by, ℤ, pos, ◌+ℤ◌, ◌≤ℤ◌, ◌<ℤ◌, int_lt, zero-add, refl, sym, ap, subst, ◌∙◌, Less, Equal, Greater, arith}
 use Rattle.std.specs.Prelude.{if◌then◌else◌, IfSome}
 use Rattle.std.specs.Ordering.{is_eq, is_gt, is_lt}
 use Rattle.std.specs.declared.cmp.Ordering.{Ordering}
@@ -61,9 +61,14 @@ module _ (p : Slot → Bool) where
     by_test true e rest = first_here y ys e up.0
     by_test false e rest = first_skip y ys (slice_get (filter p ys) 0) e rest
 
-  -- those that come after none that passes
-  pub first_fewer : (q : Slot → Bool) (xs : List Slot) → ((x : Slot) → p x ≡ true → q x ≡ true) → count_by q xs ≡ 0 → IsFirst p xs None
-  first_fewer q xs fewer none = none_fewer q p fewer xs none
+-- of the same items, each as often, the same is the first
+pub first_same : (p : Slot → Bool) (xs ys : List Slot) (r : Option Slot) → SameItems xs ys → IsFirst p xs r → IsFirst p ys r
+first_same p xs ys None same none = sym (same.counts p) ∙ none
+first_same p xs ys (Some x) same is = record {
+  passing = is.passing;
+  among = subst (λ n. 0 < n) (same.counts (is_same x)) is.among;
+  first = sym (same.counts (λ y. p y && is_above x y)) ∙ is.first;
+}
 
 -- ---- of two lists
 

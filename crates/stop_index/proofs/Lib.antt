@@ -3,6 +3,9 @@ mod Ahead
 pub mod Firsts
 mod DaySlots
 mod DayLemmas
+mod Kept
+mod Others
+mod Going
 mod NextLeft
 mod SameSlots
 mod GatherLemmas

@@ -1,5 +1,5 @@
 -- What an iterator over the departures of a stop has left.
-use Rattle.std.specs.Prelude.{◌≡◌, ℕ, ◌≤◌, Bool, ◌&&◌, ◌==◌, List, length, map, filter, count_by, ℤ, pos, ◌+ℤ◌, int_le, int_lt}
+use Rattle.std.specs.Prelude.{◌≡◌, ℕ, ◌≤◌, Bool, ◌&&◌, ◌==◌, if◌then◌else◌, List, [], length, map, filter, count_by, ℤ, pos, ◌+ℤ◌, int_le, int_lt}
 use Rattle.std.specs.List.{flat_map, range_with_len}
 use Rattle.std.specs.List.Sorted.{IsSorted}
 use Rattle.std.specs.Ordering.{is_lt}
@@ -24,13 +24,24 @@ slot_at base day departure = record {
 abbrev pub runs_on : Timetable → ℕ → TripDeparture → Bool
 runs_on t day departure = is_run t (record { trip = departure.trip; day = day })
 
+-- the runs of a day whose times are counted from base, by their departures
+abbrev pub slots_from : Timetable → ℤ → ℕ → List TripDeparture → List Slot
+slots_from t base day departures = map (slot_at base day) (filter (runs_on t day) departures)
+
 -- those of a day, and of all days before one
 abbrev pub slots_on : Timetable → List TripDeparture → ℕ → List Slot
-slots_on t departures day =
-    map (slot_at (base_of t day) day) (filter (runs_on t day) departures)
+slots_on t departures day = slots_from t (base_of t day) day departures
 
 abbrev pub slots_before : Timetable → List TripDeparture → ℕ → List Slot
 slots_before t departures day = flat_map (slots_on t departures) (range_with_len 0 day)
+
+-- the same without those of one day
+abbrev pub others_on : Timetable → List TripDeparture → ℕ → ℕ → List Slot
+others_on t departures apart day = if day == apart then [] else slots_on t departures day
+
+abbrev pub others_before : Timetable → List TripDeparture → ℕ → ℕ → List Slot
+others_before t departures apart day =
+    flat_map (others_on t departures apart) (range_with_len 0 day)
 
 -- a departure comes after what was reached
 abbrev pub is_ahead : Reached → Slot → Bool
@@ -42,9 +53,13 @@ abbrev pub instant_of : Reached → ℤ
 instant_of (Instant start) = start
 instant_of (Departure last) = last.at
 
+-- a departure leaves before an instant
+abbrev pub is_before : ℤ → Slot → Bool
+is_before end slot = int_lt slot.at end
+
 -- a departure is left
 abbrev pub is_left : Reached → ℤ → Slot → Bool
-is_left reached end slot = is_ahead reached slot && int_lt slot.at end
+is_left reached end slot = is_ahead reached slot && is_before end slot
 
 -- all that are left, in order
 unfoldable pub slots_left : Timetable → List TripDeparture → Reached → ℤ → List Slot

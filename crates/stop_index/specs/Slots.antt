@@ -1,13 +1,13 @@
 -- The departures of a timetable's runs at a stop, between two instants.
-use Rattle.std.specs.Prelude.{ℕ, ◌-◌, Bool, ◌&&◌, ◌==◌, List, length, map, take, filter, ℤ, pos, ◌+ℤ◌, int_le, int_lt}
-use Rattle.std.specs.List.{enumerate_from, flat_map, range_with_len}
+use Rattle.std.specs.Prelude.{ℕ, Bool, ◌&&◌, ◌==◌, List, map, filter, ℤ, pos, ◌+ℤ◌, int_le, int_lt}
+use Rattle.std.specs.List.{flat_map}
 use Rattle.std.specs.Ordering.{int_cmp, nat_cmp, ordering_then}
 use Rattle.std.specs.declared.cmp.Ordering.{Ordering}
 use Rattle.order.specs.Order.{ordered}
 use Rattle.sched_types.specs.declared.rows.Place.{Place}
 use Rattle.sched_types.specs.declared.rows.Run.{Run}
 use Rattle.sched_types.specs.Runs.{all_runs, departures_of}
-use Rattle.sched_types.specs.Timetable.{Timetable, places_of, is_run, base_of}
+use Rattle.sched_types.specs.Timetable.{Timetable, base_of}
 use Rattle.stop_index.specs.declared.slot.Slot.{Slot}
 
 -- a numbered place is at that very stop

@@ -5,10 +5,9 @@ ghost use Rattle.std.specs.Iterator.{YieldsFirst, item_count};
 ghost use Rattle.stop_index.specs.Left.{slots_left, AreDepartures};
 ghost use Rattle.stop_index.specs.Index.{days_are_rising};
 
-use crate::days::first_day_left;
 use crate::reached::Reached;
-use crate::search::first_left;
 use crate::slot::Slot;
+use crate::stand::{Stand, first_here, stand_at};
 use crate::trip_departure::TripDeparture;
 use sched_types::Plan;
 use std::marker::Model;
@@ -21,11 +20,9 @@ pub struct Between<'a> {
     /// The departures of the stop, on whatever day.
     departures: &'a [TripDeparture],
     days_rise: bool,
-    /// On no day before this one is a departure left.
-    first_day: u32,
-    reached: Reached,
     /// The instant before which they leave, in seconds of the Unix epoch.
     end: i64,
+    stand: Stand<'a>,
 }
 
 impl<'a> Model for Between<'a> {
@@ -35,10 +32,14 @@ impl<'a> Model for Between<'a> {
     ghost Value = { List Slot };
 
     ghost use Rattle.stop_index.specs.Left.{slots_left, IsReady};
+    ghost use Rattle.stop_index.specs.Stand.{Stands};
 
-    ghost view = { λ b. slots_left b.plan.now b.departures.now b.reached b.end };
+    ghost view = { λ b. slots_left b.plan.now b.departures.now b.stand.reached b.end };
 
-    ghost invariant = { λ b. IsReady b.plan.now b.departures.now b.days_rise b.reached b.first_day };
+    ghost invariant = { λ b.
+        IsReady b.plan.now b.departures.now b.days_rise b.stand.reached b.stand.first_day
+        × Stands b.plan.now b.departures.now b.stand.reached b.end
+        b.stand.day b.stand.base b.stand.ahead.now b.stand.other };
 }
 
 impl<'a> Between<'a> {
@@ -54,13 +55,14 @@ impl<'a> Between<'a> {
         requires rise { days_rise ≡ days_are_rising plan.now }
         ensures { result ≡ slots_left plan.entry.now departures.entry.now (Reached.Instant start) end }
     {
+        let reached = Reached::Instant(start);
+        let stand = stand_at(plan, departures, days_rise, 0, plan.days(), reached, end);
         Between {
             plan,
             departures,
             days_rise,
-            first_day: 0,
-            reached: Reached::Instant(start),
             end,
+            stand,
         }
     }
 }
@@ -74,18 +76,22 @@ impl<'a> Iterator for Between<'a> {
 
     fn next(&mut self) -> Option<Slot> {
         let plan = self.plan;
-        let departures = self.departures;
-        let rise = self.days_rise;
-        self.first_day = first_day_left(plan, departures, rise, self.first_day, &self.reached);
-        let slot = first_left(
+        let end = self.end;
+        if let Some((slot, rest)) = first_here(plan, &self.stand, end) {
+            self.stand.ahead = rest;
+            self.stand.reached = Reached::Departure(slot);
+            return Some(slot);
+        }
+        let slot = self.stand.other?;
+        self.stand = stand_at(
             plan,
-            departures,
-            rise,
-            self.first_day,
-            &self.reached,
-            self.end,
-        )?;
-        self.reached = Reached::Departure(slot);
+            self.departures,
+            self.days_rise,
+            self.stand.first_day,
+            slot.run.day,
+            Reached::Departure(slot),
+            end,
+        );
         Some(slot)
     }
 }

@@ -8,10 +8,11 @@
 //! that are built of one timetable are equal.
 //!
 //! The index keeps each stop's departures by time of day, on whatever day they run: 12 bytes for each, and
-//! 4 for each stop, however many days the window has. The iterator goes by search from the departure that
-//! it handed out last to the next on each day whose times may reach so far, and hands out the first of
-//! those. A day that lies before or after costs nothing, as long as no day's times are counted from an
-//! earlier instant than those of the day before; where one is, each day is looked at.
+//! 4 for each stop, however many days the window has. The iterator stands at a day, next to the first departure
+//! of all other days: as long as that one is not the next, it goes on through the departures of its day.
+//! When it is, the iterator goes to that day, and by a search on each day whose times may reach so far it
+//! finds the first of those. A day that lies before or after costs nothing, as long as no day's times are
+//! counted from an earlier instant than those of the day before; where one is, each day is looked at.
 //!
 //! It stands on `sched_types` for the timetable and on `order` for lists in order.
 #![tactic(auto)]
@@ -24,6 +25,7 @@ mod index;
 mod reached;
 mod search;
 mod slot;
+mod stand;
 mod trip_departure;
 
 pub use between::Between;

@@ -1,11 +1,11 @@
 //! The first of the departures that are left.
 
-ghost use Rattle.std.specs.Prelude.{◌≡◌, ◌<◌, ◌<ℤ◌, filter, length, slice_get, IfSome};
+ghost use Rattle.std.specs.Prelude.{◌≡◌, ◌∷◌, ◌<◌, ◌<ℤ◌, filter, length, slice_get, option_map, IfSome};
 ghost use Rattle.std.specs.List.Sorted.{IsSorted};
 ghost use Rattle.sched_types.specs.Timetable.{IsSmall};
 ghost use Rattle.stop_index.specs.Index.{departure_cmp};
-ghost use Rattle.stop_index.specs.Left.{is_ahead, is_left, slot_at, slots_on, slots_before, IsReady};
-ghost use Rattle.stop_index.specs.First.{IsFirst, earlier_of, until_of};
+ghost use Rattle.stop_index.specs.Left.{is_ahead, is_left, slot_at, slots_from, slots_on, others_on, others_before, IsReady};
+ghost use Rattle.stop_index.specs.First.{IsFirst, earlier_of, soonest, until_of};
 
 use crate::days::begin_after;
 use crate::reached::Reached;
@@ -14,7 +14,7 @@ use crate::trip_departure::{TripDeparture, slot_at};
 use sched_types::Plan;
 
 /// Those departures that are still to come on a day whose times are counted from `base`.
-fn ahead_on<'a>(
+pub(crate) fn ahead_on<'a>(
     departures: &'a [TripDeparture],
     base: i64,
     day: u32,
@@ -29,6 +29,33 @@ fn ahead_on<'a>(
         base, day, *departure,
     )));
     &departures[first..]
+}
+
+/// The first departure of a run of the day, and those after it; none if it doesn't leave before `end`.
+pub(crate) fn first_run<'a>(
+    plan: &Plan,
+    departures: &'a [TripDeparture],
+    base: i64,
+    day: u32,
+    end: i64,
+) -> Option<(Slot, &'a [TripDeparture])>
+    requires sorted { IsSorted departure_cmp departures.now }
+    requires small { IsSmall base }
+    ensures first { option_map (λ found. found.0) result ≡ soonest plan.now base day end departures.now }
+    ensures rest { IfSome result (λ found. slots_from plan.now base day departures.now
+        ≡ found.0 ∷ slots_from plan.now base day found.1.now) }
+    ensures in_order { IfSome result (λ found. IsSorted departure_cmp found.1.now) }
+{
+    for (i, departure) in departures.iter().enumerate() {
+        let slot = slot_at(base, day, *departure);
+        if slot.at >= end {
+            return None;
+        }
+        if plan.runs(slot.run) {
+            return Some((slot, &departures[i + 1..]));
+        }
+    }
+    None
 }
 
 /// The first departure of a run that is left on a day, before `end`.
@@ -46,16 +73,31 @@ fn first_on(
 {
     let base = plan.base(day);
     let ahead = ahead_on(departures, base, day, reached);
-    for departure in ahead {
-        let slot = slot_at(base, day, *departure);
-        if slot.at >= end {
-            return None;
-        }
-        if plan.runs(slot.run) {
-            return Some(slot);
-        }
+    match first_run(plan, ahead, base, day, end) {
+        Some((slot, _)) => Some(slot),
+        None => None,
     }
-    None
+}
+
+/// The same, and none on the day that is set apart.
+fn first_on_other(
+    plan: &Plan,
+    departures: &[TripDeparture],
+    apart: u32,
+    day: u32,
+    reached: &Reached,
+    end: i64,
+) -> Option<Slot>
+    requires sorted { IsSorted departure_cmp departures.now }
+    requires day { day < length plan.now.bases }
+    ensures { result
+        ≡ slice_get (filter (is_left reached.now end) (others_on plan.now departures.now apart day)) 0 }
+{
+    if day == apart {
+        None
+    } else {
+        first_on(plan, departures, day, reached, end)
+    }
 }
 
 /// The earlier of two departures, if there are such.
@@ -77,7 +119,7 @@ fn earlier(best: Option<Slot>, found: Option<Slot>) -> Option<Slot>
 
 /// Before which instant a departure has to leave to be the first of all: one that leaves after the best so
 /// far is none.
-fn until(best: &Option<Slot>, end: i64) -> i64
+pub(crate) fn until(best: &Option<Slot>, end: i64) -> i64
     requires { IfSome best.now (λ slot. slot.at <ℤ end) }
     ensures { result ≡ until_of best.now end }
 {
@@ -87,18 +129,19 @@ fn until(best: &Option<Slot>, end: i64) -> i64
     }
 }
 
-/// The first departure that is left on any day.
-pub(crate) fn first_left(
+/// The first departure that is left on any day but the one that is set apart.
+pub(crate) fn first_of_others(
     plan: &Plan,
     departures: &[TripDeparture],
     days_rise: bool,
     first_day: u32,
+    apart: u32,
     reached: &Reached,
     end: i64,
 ) -> Option<Slot>
     requires { IsReady plan.now departures.now days_rise reached.now first_day }
     ensures { IsFirst (is_left reached.now end)
-        (slots_before plan.now departures.now (length plan.now.bases)) result }
+        (others_before plan.now departures.now apart (length plan.now.bases)) result }
 {
     let mut best = None;
     for day in first_day..plan.days() {
@@ -106,7 +149,10 @@ pub(crate) fn first_left(
         if begin_after(plan, days_rise, day, until) {
             break;
         }
-        best = earlier(best, first_on(plan, departures, day, reached, until));
+        best = earlier(
+            best,
+            first_on_other(plan, departures, apart, day, reached, until),
+        );
     }
     best
 }
