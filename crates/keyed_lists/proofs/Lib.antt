@@ -3,3 +3,5 @@ pub mod Tables
 pub mod Entries
 pub mod Once
 pub mod Said
+pub mod InOrder
+pub mod Turned

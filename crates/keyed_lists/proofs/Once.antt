@@ -145,7 +145,7 @@ module _ {K X : Type 0} {cmp : K → K → Ordering} (o : IsTotalOrder cmp) (exa
   rising_items [] up keyed = tt
   rising_items (e ∷ es) up keyed = (least_of e es keyed.0 (sorted_behind o e es up) keyed.1, rising_items es (second_so _ _ up) keyed.1)
 
-  tied_is : (z x : X) → ties (λ a b. is_lt (by_keys a b)) z x ≡ has (key z) x
+  pub tied_is : (z x : X) → ties (λ a b. is_lt (by_keys a b)) z x ≡ has (key z) x
   tied_is z x = ap (λ r. not (is_lt (by_keys z x)) && not (is_lt r)) (o.antisymm (key x) (key z)) ∙ neither_is (by_keys z x)
 
   pub once_ordered : (xs : List X) → ((k : K) → count_by (has k) xs ≤ 1) → map (λ e. e.1) (by_key cmp key xs) ≡ ordered by_keys xs

@@ -11,6 +11,7 @@
 #![tactic(auto)]
 
 mod changes;
+mod listed;
 
 pub use changes::changed;
 pub use std::alloc::AllocError as NoMemory;

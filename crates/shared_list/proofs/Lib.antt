@@ -3,6 +3,7 @@ pub mod Places
 pub mod Each
 pub mod Homes
 pub mod PartLemmas
+mod Pieces
 pub mod ListLemmas
 pub mod TextKeys
 pub mod ChangeLaws

@@ -62,7 +62,7 @@ module _ {P X : Type 0} (items : P → List X) where
   part_at (s ∷ shares) zero share h is = ap (λ x. items x.value) is
   part_at (s ∷ shares) (suc i) share h is = part_at shares i share (omega arith) is
 
-  join_parts : (front back whole : List (Share P)) → front ++ back ≡ whole → items_in items front ++ items_in items back ≡ items_in items whole
+  pub join_parts : (front back whole : List (Share P)) → front ++ back ≡ whole → items_in items front ++ items_in items back ≡ items_in items whole
   join_parts front back whole is =
       sym (flat_map-append (λ part. part) (parts_of items front) (parts_of items back))
       ∙ ap (flat_map (λ part. part)) (sym (map-append (λ s. items s.value) front back))

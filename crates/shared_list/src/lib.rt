@@ -31,6 +31,7 @@ mod list;
 mod node;
 mod part;
 mod shared;
+mod sorted;
 mod split;
 
 pub use change::Change;

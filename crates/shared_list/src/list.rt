@@ -4,7 +4,7 @@ ghost use Rattle.std.specs.Prelude.{◌≡◌, ◌+◌, ◌-◌, [], length, map
 ghost use Rattle.std.specs.FinMap.{put, find, is_sorted};
 ghost use Rattle.std.specs.Option.{option_copied};
 ghost use Rattle.shared_list.specs.Changes.{after_change, after_changes};
-ghost use Rattle.shared_list.specs.Order.{entries, entries_from, without};
+ghost use Rattle.shared_list.specs.Order.{entries, entries_from, without, Rises};
 
 use crate::NoMemory;
 use crate::change::Change;
@@ -12,6 +12,7 @@ use crate::iter::Iter;
 use crate::keyed::{KeyFor, Keyed};
 use crate::node::Node;
 use crate::shared::{item_in, put_shared, share, take_out_shared};
+use crate::sorted::nodes_of;
 use crate::split::Arrival;
 use std::alloc::Global;
 use std::marker::Model;
@@ -56,6 +57,17 @@ impl<T: Keyed> SharedList<T> {
             nodes: Vec::new(alloc),
             len: 0,
         }
+    }
+
+    /// The list of items whose keys strictly rise, or out of memory. It is made in one pass without a
+    /// comparison, and its leaves are full.
+    pub fn of_sorted(alloc: Global, items: Vec<T>) -> Result<Self, NoMemory>
+        requires { Rises T.key_cmp T.key_of items.items }
+        ensures { IfOk result (λ list. list ≡ entries T.key_of items.items) }
+    {
+        let len = items.len();
+        let nodes = nodes_of(alloc, items)?;
+        Ok(SharedList { nodes, len })
     }
 
     /// The same list, with all its nodes shared, or want of memory.

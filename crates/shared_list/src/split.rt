@@ -15,7 +15,7 @@ pub(crate) struct Arrival<T> {
 }
 
 /// The most items of a leaf, and the most parts of a node.
-const MOST: usize = 32;
+pub(crate) const MOST: usize = 32;
 
 /// How many of them stay where there are more than that, and the newest is not the last.
 const KEPT: usize = 16;

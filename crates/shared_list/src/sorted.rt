@@ -1,0 +1,74 @@
+//! Nodes made of items that are in order already.
+
+ghost use Rattle.std.specs.Prelude.{◌≡◌, ◌<◌, length, IfOk};
+ghost use Rattle.std.specs.List.{AllByRecursion, flat_map};
+ghost use Rattle.shared_list.specs.Parts.{items_in, leaf_items, node_items};
+ghost use Rattle.shared_list.specs.Parts.{AreSound, IsFilled, IsPlain};
+
+use crate::NoMemory;
+use crate::node::Node;
+use crate::split::MOST;
+use std::alloc::Global;
+use std::sync::Arc;
+
+/// Cuts items into pieces in their order, none of them empty. All but the first are full.
+fn pieces_of<X: Drop>(alloc: Global, items: Vec<X>) -> Result<Vec<Vec<X>>, NoMemory>
+    ensures items { IfOk result (λ pieces.
+        flat_map (λ piece. piece.items) pieces.items ≡ items.items) }
+    ensures filled { IfOk result (λ pieces.
+        AllByRecursion (λ piece. 0 < length piece.items) pieces.items) }
+{
+    let mut left = items;
+    let mut pieces = Vec::with_capacity(alloc, left.len() / MOST + 1)?;
+    // The last piece comes first, since a vector gives its end away at no cost to what is left.
+    'pieces: while !left.is_empty() {
+        let at = left.len().saturating_sub(MOST);
+        pieces.push(left.split_off(at)?)?;
+    }
+    pieces.reverse();
+    Ok(pieces)
+}
+
+/// Leaves of such pieces.
+fn leaves_of<T: Drop>(alloc: Global, pieces: Vec<Vec<T>>) -> Result<Vec<Arc<Vec<T>>>, NoMemory>
+    requires { AllByRecursion (λ piece. 0 < length piece.items) pieces.items }
+    ensures items { IfOk result (λ leaves. items_in leaf_items leaves.items
+        ≡ flat_map (λ piece. piece.items) pieces.items) }
+    ensures sound { IfOk result (λ leaves. AreSound leaf_items IsPlain leaves.items) }
+{
+    let mut leaves = Vec::with_capacity(alloc, pieces.len())?;
+    for piece in pieces {
+        leaves.push(Arc::new(alloc, piece)?)?;
+    }
+    Ok(leaves)
+}
+
+/// Nodes of pieces of leaves.
+fn nodes_over<T: Drop>(
+    alloc: Global,
+    pieces: Vec<Vec<Arc<Vec<T>>>>,
+) -> Result<Vec<Arc<Node<Vec<T>>>>, NoMemory>
+    requires filled { AllByRecursion (λ piece. 0 < length piece.items) pieces.items }
+    requires sound { AreSound leaf_items IsPlain (flat_map (λ piece. piece.items) pieces.items) }
+    ensures items { IfOk result (λ nodes. items_in node_items nodes.items
+        ≡ items_in leaf_items (flat_map (λ piece. piece.items) pieces.items)) }
+    ensures sound { IfOk result (λ nodes. AreSound node_items IsFilled nodes.items) }
+{
+    let mut nodes = Vec::with_capacity(alloc, pieces.len())?;
+    for parts in pieces {
+        nodes.push(Arc::new(alloc, Node { parts })?)?;
+    }
+    Ok(nodes)
+}
+
+/// Nodes that have just these items, as full as can be.
+pub(crate) fn nodes_of<T: Drop>(
+    alloc: Global,
+    items: Vec<T>,
+) -> Result<Vec<Arc<Node<Vec<T>>>>, NoMemory>
+    ensures items { IfOk result (λ nodes. items_in node_items nodes.items ≡ items.items) }
+    ensures sound { IfOk result (λ nodes. AreSound node_items IsFilled nodes.items) }
+{
+    let leaves = leaves_of(alloc, pieces_of(alloc, items)?)?;
+    nodes_over(alloc, pieces_of(alloc, leaves)?)
+}
