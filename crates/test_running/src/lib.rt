@@ -18,6 +18,8 @@ mod ingesting;
 #[cfg(test)]
 mod looking;
 #[cfg(test)]
+mod polling;
+#[cfg(test)]
 mod ports;
 #[cfg(test)]
 mod sharing;

@@ -1,0 +1,11 @@
+pub mod FoundLemmas
+pub mod LineLaws
+pub mod HeadLaws
+pub mod ReplyLaws
+pub mod HeadReading
+pub mod MessageReading
+pub mod ReplyReading
+pub mod Exchanged
+pub mod Aheads
+pub mod Moved
+pub mod ReplyExamples

@@ -1,0 +1,231 @@
+//! Polling ports, over links in memory, with ample memory.
+
+ghost use Rattle.std.specs.Prelude.{◌≤◌, IfOk};
+ghost use Rattle.feed_defs.specs.History.{longest_message};
+ghost use Rattle.hub_outside.specs.Buffer.{room_of};
+
+use feed_port::{FeedPort, LONGEST_MESSAGE, NoMemory, PortAnswer};
+use hub_outside::{Buf, MemoryDoor, MemoryLink, MemorySink, MemorySource};
+use poll_port::PollPort;
+use std::alloc::Global;
+use std::test::Fail;
+
+/// A reply with the bytes `fed` as its message.
+const FED: &[u8] = b"HTTP/1.1 200 OK\r\nContent-Length: 3\r\n\r\nfed";
+
+/// A buffer with room for a message.
+fn buffer(alloc: Global) -> Result<Buf, NoMemory>
+    ensures { IfOk result (λ into. longest_message ≤ room_of into) }
+{
+    let mut into = Buf::new(alloc);
+    into.reserve(LONGEST_MESSAGE)?;
+    Ok(into)
+}
+
+/// A copy of the bytes.
+fn copy(alloc: Global, bytes: &[u8]) -> Result<Vec<u8>, NoMemory> {
+    let mut same = Vec::new(alloc);
+    same.extend_from_slice(bytes)?;
+    Ok(same)
+}
+
+/// A link on which these bytes come, the first of them in pieces.
+fn link(alloc: Global, bytes: &[u8]) -> Result<MemoryLink, NoMemory> {
+    let pieces = vec![in alloc; 1, 1, 7, 1]?;
+    Ok(MemoryLink {
+        input: MemorySource::new(copy(alloc, bytes)?, pieces, Vec::new(alloc)),
+        output: MemorySink::new(alloc, Vec::new(alloc), Vec::new(alloc)),
+    })
+}
+
+/// A port over these links, without end of its polls.
+fn port(alloc: Global, links: Vec<MemoryLink>, tries: u32) -> Result<PollPort<MemoryDoor>, NoMemory>
+    requires { 1 ≤ tries }
+{
+    let door = MemoryDoor::new(alloc, links, Vec::new(alloc))?;
+    PollPort::new(alloc, door, "agency:80", "/feed", 0, tries)
+}
+
+/// Whether the next ask hands in that message.
+fn hands_in<P: FeedPort>(port: &mut P, into: &mut Buf, message: &[u8]) -> bool
+    requires { longest_message ≤ room_of into.old }
+    ensures { longest_message ≤ room_of into.new }
+{
+    port.next(into) == PortAnswer::Message && into.as_slice() == message
+}
+
+/// Whether the next ask comes to that.
+fn comes_to<P: FeedPort>(port: &mut P, into: &mut Buf, answer: PortAnswer) -> bool
+    requires { longest_message ≤ room_of into.old }
+    ensures { longest_message ≤ room_of into.new }
+{
+    port.next(into) == answer
+}
+
+/// A message, a 404, and a message that goes to the end of its connection.
+fn three_links(alloc: Global) -> Result<Vec<MemoryLink>, NoMemory> {
+    let first = link(alloc, FED)?;
+    let second = link(alloc, b"HTTP/1.0 404 Not Found\r\n\r\n")?;
+    let third = link(alloc, b"HTTP/1.0 200 OK\n\nnew")?;
+    Ok(vec![in alloc; first, second, third]?)
+}
+
+/// Whether a port with two tries passes over the 404.
+fn two_tries(alloc: Global) -> Result<bool, NoMemory> {
+    let mut into = buffer(alloc)?;
+    let mut port = port(alloc, three_links(alloc)?, 2)?;
+    let first = hands_in(&mut port, &mut into, b"fed");
+    let second = hands_in(&mut port, &mut into, b"new");
+    Ok(first && second && comes_to(&mut port, &mut into, PortAnswer::End))
+}
+
+#[test]
+fn a_bad_reply_is_passed_over(rt: HostRuntime) -> Result<(), Fail> {
+    assert!(rt; two_tries(rt.alloc())?);
+    Ok(())
+}
+
+/// Whether a port with one try fails at the 404, and goes on behind it.
+fn one_try(alloc: Global) -> Result<bool, NoMemory> {
+    let mut into = buffer(alloc)?;
+    let mut port = port(alloc, three_links(alloc)?, 1)?;
+    let first = hands_in(&mut port, &mut into, b"fed");
+    let failed = comes_to(&mut port, &mut into, PortAnswer::Failed);
+    let second = hands_in(&mut port, &mut into, b"new");
+    Ok(first && failed && second && comes_to(&mut port, &mut into, PortAnswer::End))
+}
+
+#[test]
+fn a_bad_reply_fails_without_a_further_try(rt: HostRuntime) -> Result<(), Fail> {
+    assert!(rt; one_try(rt.alloc())?);
+    Ok(())
+}
+
+/// Whether a port over one link with these bytes comes to that.
+fn answers(
+    alloc: Global,
+    into: &mut Buf,
+    bytes: &[u8],
+    answer: PortAnswer,
+) -> Result<bool, NoMemory>
+    requires { longest_message ≤ room_of into.old }
+    ensures { longest_message ≤ room_of into.new }
+{
+    let links = vec![in alloc; link(alloc, bytes)?]?;
+    let mut port = port(alloc, links, 1)?;
+    Ok(comes_to(&mut port, into, answer))
+}
+
+/// Whether a port over each of these comes to that.
+fn all_answer(alloc: Global, replies: &[&[u8]], answer: PortAnswer) -> Result<bool, NoMemory> {
+    let mut into = buffer(alloc)?;
+    for bytes in replies {
+        if !answers(alloc, &mut into, bytes, answer)? {
+            return Ok(false);
+        }
+    }
+    Ok(true)
+}
+
+/// Replies that are no good ones.
+const BAD: [&[u8]; 9] = [
+    b"",
+    b"HTTP/1.1 200 OK\r\nContent-Length: 3\r\n\r\nfe",
+    b"HTTP/1.1 404 Not Found\r\nContent-Length: 3\r\n\r\nfed",
+    b"HTTP/1.1 200 OK\r\nTransfer-Encoding: chunked\r\n\r\n3\r\nfed\r\n0\r\n\r\n",
+    b"HTTP/1.1 200 OK\r\nContent-Length: 3\r\ncontent-length: 3\r\n\r\nfed",
+    b"HTTP/1.1 200 OK\r\nContent-Length: 00000000003\r\n\r\nfed",
+    b"HTTP/1.1 200 OK\r\nContent-Length: +3\r\n\r\nfed",
+    b"HTTP/1.1 200 OK\r\nContent-Length: 3\r\n",
+    b"HTTP/2 200\r\n\r\nfed",
+];
+
+#[test]
+fn no_good_replies_fail(rt: HostRuntime) -> Result<(), Fail> {
+    assert!(rt; all_answer(rt.alloc(), &BAD, PortAnswer::Failed)?);
+    Ok(())
+}
+
+/// Replies that have a message.
+const GOOD: [&[u8]; 4] = [
+    FED,
+    b"\r\nHTTP/1.0 200\ncONTENT-lENGTH: \t0000000003 \n\nfed and more",
+    b"HTTP/1.1 200 OK\r\nContent-Length: 0\r\n\r\n",
+    b"HTTP/1.1 200 OK\r\n\r\n",
+];
+
+#[test]
+fn good_replies_have_messages(rt: HostRuntime) -> Result<(), Fail> {
+    assert!(rt; all_answer(rt.alloc(), &GOOD, PortAnswer::Message)?);
+    Ok(())
+}
+
+/// What a hub answers to `/feed/plain`, and where its message begins.
+const COMBINED: &[u8] =
+    b"HTTP/1.1 200 OK\r\nContent-Type: application/x-protobuf\r\nContent-Length: 11\r\nX-Hub-Sequence: 0\r\nX-Hub-Moment: 7\r\nConnection: keep-alive\r\n\r\n\x0a\x09\x0a\x032.0\x10\x00\x18\x00";
+
+/// Whether the combined feed of a hub is a message, and no cut of it is one.
+fn combined(alloc: Global) -> Result<bool, NoMemory> {
+    let mut into = buffer(alloc)?;
+    for end in 0..COMBINED.len() {
+        if !answers(alloc, &mut into, &COMBINED[..end], PortAnswer::Failed)? {
+            return Ok(false);
+        }
+    }
+    let mut port = port(alloc, vec![in alloc; link(alloc, COMBINED)?]?, 1)?;
+    Ok(hands_in(&mut port, &mut into, b"\x0a\x09\x0a\x032.0\x10\x00\x18\x00"))
+}
+
+#[test]
+fn the_feed_of_a_hub_is_a_message(rt: HostRuntime) -> Result<(), Fail> {
+    assert!(rt; combined(rt.alloc())?);
+    Ok(())
+}
+
+/// A reply without a length, whose message has one byte more than the longest.
+fn endless(alloc: Global) -> Result<Vec<u8>, NoMemory> {
+    let mut bytes = copy(alloc, b"HTTP/1.0 200 OK\r\n\r\n")?;
+    let length = bytes.len() + LONGEST_MESSAGE + 1;
+    bytes.resize(length, 7)?;
+    Ok(bytes)
+}
+
+/// Whether such a reply is too long, and the same without its last byte a message.
+fn longest(alloc: Global) -> Result<bool, NoMemory> {
+    let mut into = buffer(alloc)?;
+    let mut bytes = endless(alloc)?;
+    let over = PortAnswer::TooLong(LONGEST_MESSAGE as u64 + 1);
+    let above = answers(alloc, &mut into, bytes.as_slice(), over)?;
+    bytes.pop();
+    let whole = answers(alloc, &mut into, bytes.as_slice(), PortAnswer::Message)?;
+    Ok(above && whole && into.len() == LONGEST_MESSAGE)
+}
+
+#[test]
+fn a_message_without_length_has_a_limit(rt: HostRuntime) -> Result<(), Fail> {
+    assert!(rt; longest(rt.alloc())?);
+    Ok(())
+}
+
+/// Whether a port takes no more links than it may, and fails where the last of them fails it.
+fn two_polls(alloc: Global) -> Result<bool, NoMemory> {
+    let mut into = buffer(alloc)?;
+    let door = MemoryDoor::new(alloc, three_links(alloc)?, Vec::new(alloc))?;
+    let mut port = PollPort::new(alloc, door, "agency", "/feed", 2, 1)?;
+    let first = hands_in(&mut port, &mut into, b"fed");
+    let failed = comes_to(&mut port, &mut into, PortAnswer::Failed);
+    Ok(first && failed && comes_to(&mut port, &mut into, PortAnswer::End))
+}
+
+#[test]
+fn polls_have_an_end(rt: HostRuntime) -> Result<(), Fail> {
+    assert!(rt; two_polls(rt.alloc())?);
+    Ok(())
+}
+
+#[test]
+fn a_length_above_the_limit_is_told(rt: HostRuntime) -> Result<(), Fail> {
+    let replies: [&[u8]; 1] = [b"HTTP/1.1 200 OK\r\nContent-Length: 16777218\r\n\r\nfe"];
+    assert!(rt; all_answer(rt.alloc(), &replies, PortAnswer::TooLong(16_777_218))?);
+    Ok(())
+}
