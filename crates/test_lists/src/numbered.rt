@@ -5,7 +5,8 @@ ghost use Rattle.std.specs.FinMap.{slice_cmp-IsAntisymmetric, nat_cmp-IsAntisymm
 ghost use Rattle.std.specs.Ordering.{nat_cmp};
 
 use copying::Copied;
-use shared_list::{KeyFor, Keyed, NoMemory, SharedList};
+use keyed_lists::changed;
+use shared_list::{Change, KeyFor, Keyed, NoMemory, SharedList};
 use std::alloc::Global;
 use std::cmp::Ordering;
 use std::test::Fail;
@@ -51,6 +52,12 @@ impl<'a> KeyFor<Numbered> for &'a str {
     }
 }
 
+/// That number under that name.
+fn item_of(alloc: Global, name: &str, number: u32) -> Result<Numbered, NoMemory> {
+    let name = ShortText::new(alloc, name)?;
+    Ok(Numbered { name, number })
+}
+
 /// The list with that name and number.
 fn with(
     alloc: Global,
@@ -58,8 +65,7 @@ fn with(
     name: &str,
     number: u32,
 ) -> Result<SharedList<Numbered>, NoMemory> {
-    let name = ShortText::new(alloc, name)?;
-    Ok(list.with(Numbered { name, number })?.list)
+    Ok(list.with(item_of(alloc, name, number)?)?.list)
 }
 
 /// The sum of the numbers, each times its place from 1.
@@ -205,5 +211,51 @@ fn many(alloc: Global) -> Result<bool, NoMemory> {
 #[test]
 fn many_items_stand_in_order(rt: HostRuntime) -> Result<(), Fail> {
     assert!(rt; many(rt.alloc())?);
+    Ok(())
+}
+
+/// The numbers at the first places, each under its key.
+fn items_at(alloc: Global, places: u32) -> Result<Vec<Numbered>, NoMemory> {
+    let mut items = Vec::new(alloc);
+    for place in 0..places {
+        let number = jumping(place);
+        items.push(item_of(alloc, key_of(alloc, number)?.as_str(), number)?)?;
+    }
+    Ok(items)
+}
+
+/// The list that has those items put in.
+fn list_of(alloc: Global, items: Vec<Numbered>) -> Result<SharedList<Numbered>, NoMemory> {
+    let mut changes: Vec<Change<Numbered, &str>> = Vec::new(alloc);
+    for item in items {
+        changes.push(Change::Put(item))?;
+    }
+    changed(&SharedList::empty(alloc), changes)
+}
+
+/// Whether a list that is made at once, of items in whatever order, is the one that has them put in: of so many
+/// that it has several nodes, of one leaf, and of none; and with two items of one key, of which the last stays.
+fn at_once(alloc: Global) -> Result<bool, NoMemory> {
+    let all = list_of(alloc, items_at(alloc, NUMBERS)?)?;
+    let back = without_numbers(alloc, all.share()?, 0, 2000)?;
+    let one = list_of(alloc, items_at(alloc, 1)?)?;
+    let mut twice = items_at(alloc, 1)?;
+    twice.push(item_of(alloc, "b", 7)?)?;
+    twice.push(item_of(alloc, "a", 5)?)?;
+    twice.push(item_of(alloc, "b", 9)?)?;
+    Ok(
+        weighed(&all) == 419_067_408
+            && all.len() == 3001
+            && found_in(alloc, &all)? == 3001
+            && weighed(&back) == 1_337_336_000
+            && one.len() == 1
+            && list_of(alloc, items_at(alloc, 0)?)?.len() == 0
+            && from_name(&list_of(alloc, twice)?, "a", &[5, 9]),
+    )
+}
+
+#[test]
+fn a_list_is_made_at_once(rt: HostRuntime) -> Result<(), Fail> {
+    assert!(rt; at_once(rt.alloc())?);
     Ok(())
 }
