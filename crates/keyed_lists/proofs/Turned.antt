@@ -6,7 +6,6 @@ use Rattle.std.specs.Ordering.{eq_by_cmp}
 use Rattle.std.specs.declared.cmp.Ordering.{Ordering}
 use Rattle.std.proofs.lemmas.List.{drop_all, drop_more}
 use Rattle.order.proofs.Counts.{count-cons, one_is}
-use Rattle.shared_list.specs.declared.change.Change.{Change}
 use Rattle.shared_list.specs.declared.change.Change.TheVariants.{Put, Remove}
 use Rattle.keyed_lists.specs.Keyed.{stands_first, turned, unlike}
 use Rattle.keyed_lists.proofs.Effects.{IsApart, effect, effect-append, puts_again, puts_apart, removes_apart}

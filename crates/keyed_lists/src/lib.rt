@@ -5,7 +5,9 @@
 //! key afterwards: `Effects` has the effect of changes at a key, also of changes in segments each of which owns its keys
 //! (`all_changed`) and of items that several things give (`find_given`); `Tables` has lists of what the entries of a
 //! table give (`find_of_entries`); `Entries` what is true of each entry; `Once` that a key is held once, and so what
-//! an order of the items is. [`changed`] is the call: a list after changes, where the given one stays as it is.
+//! an order of the items is; `InOrder` that items in order, or put there by a stable sort, make their list at once;
+//! `Turned` what goes and what comes of a thing's items where those that stay at their places are left out. [`changed`]
+//! is the call: a list after changes, where the given one stays as it is.
 //!
 //! It stands on `shared_list` and `order`. The overlay of a feed is made of such lists.
 #![tactic(auto)]

@@ -4,6 +4,8 @@ pub mod Mentioned
 pub mod Choosing
 pub mod RunNow
 pub mod Untouched
+pub mod OneOfRun
+pub mod SameRows
 pub mod Lived
 pub mod Steps
 pub mod Alone

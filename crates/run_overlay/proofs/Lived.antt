@@ -1,6 +1,6 @@
 -- The lists of runs with an update, and of their departures: what they have at a key, and that turning the touched runs
 -- makes the lists of the new table of those of the old one.
-use Rattle.std.proofs.Common.{◌≡◌, ℕ, List, [], ◌∷◌, ◌++◌, Bool, true, false, cond, Option, Some, None, map, refl, sym, ap, subst, ◌∙◌}
+use Rattle.std.proofs.Common.{◌≡◌, ℕ, List, [], ◌∷◌, Bool, true, false, cond, Option, Some, None, map, refl, sym, ap, subst, ◌∙◌}
 use Rattle.std.specs.Prelude.{◌⊎◌, IfSome, T}
 use Rattle.std.specs.FinMap.{find, is_sorted}
 use Rattle.std.specs.List.{AllByRecursion, filter_map, flat_map, list_any}
@@ -9,7 +9,7 @@ use Rattle.std.specs.Ordering.{eq_by_cmp}
 use Rattle.std.proofs.lemmas.Cmp.{eq_by_cmp_equiv}
 use Rattle.std.proofs.lemmas.List.Folds.{flat_map-map}
 use Rattle.shared_list.specs.declared.change.Change.{Change}
-use Rattle.shared_list.specs.declared.change.Change.TheVariants.{Put, Remove}
+use Rattle.shared_list.specs.declared.change.Change.TheVariants.{Put}
 use Rattle.sched_types.specs.declared.rows.Place.{Place}
 use Rattle.sched_types.specs.declared.rows.Run.{Run}
 use Rattle.sched_types.specs.Timetable.{Timetable, is_run}
@@ -19,16 +19,19 @@ use Rattle.board_defs.specs.Rows.{Shown, may_board, shown_at}
 use Rattle.run_overlay.specs.declared.live_run.LiveRun.{LiveRun}
 use Rattle.run_overlay.specs.declared.row.LiveRow.{LiveRow}
 use Rattle.run_overlay.specs.declared.row.RowKey.{RowKey}
-use Rattle.keyed_lists.specs.Keyed.{by_key, changed}
+use Rattle.keyed_lists.specs.Keyed.{by_key, changed, turned}
 use Rattle.run_overlay.specs.Keys.{live_run_key, row_cmp, row_key, run_cmp}
 use Rattle.run_overlay.specs.Kept.{live_of, live_run, run_by}
 use Rattle.run_overlay.specs.Live.{live_place, live_row, live_rows, rows_by, sign_of}
 use Rattle.run_overlay.specs.Orders.{rows_exact, rows_total, runs_exact, runs_total}
 use Rattle.run_overlay.specs.Sought.{is_same_run}
-use Rattle.run_overlay.specs.Turning.{live_after, row_changes, rows_kept, run_change, turn_of}
+use Rattle.run_overlay.specs.Turning.{live_after, row_changes, rows_kept, run_change, same_row, turn_of}
 use Rattle.run_overlay.proofs.AllRuns.{any_run}
+use Rattle.run_overlay.proofs.OneOfRun.{once_in_run}
+use Rattle.run_overlay.proofs.SameRows.{same_row_so}
 use Rattle.run_overlay.proofs.Choosing.{chosen_runs, run_same, run_tied}
-use Rattle.keyed_lists.proofs.Effects.{IsApart, IsGiver, IsSegment, all_changed, effect, effect-append, find_given, flat_same, puts_apart, removes_apart, sorted_by_key, turned}
+use Rattle.keyed_lists.proofs.Effects.{IsApart, IsGiver, IsSegment, all_changed, effect, find_given, flat_same, sorted_by_key}
+use Rattle.keyed_lists.proofs.Turned.{IsOnce, once_so, turned_apart, turned_settles}
 use Rattle.keyed_lists.proofs.Entries.{all_from}
 use Rattle.keyed_lists.proofs.Tables.{all_each, all_of, filter_map_flat, tie_same, tie_self}
 
@@ -201,28 +204,27 @@ module _ (t : Timetable) (old new : List Update) (runs : List Run) (same : (run 
 
   -- departures
   abbrev row_segment : Run → List (Change LiveRow RowKey)
-  row_segment run = map (λ row. Remove (row_key row)) (rows_at_run t old run) ++ map Put (rows_at_run t new run)
+  row_segment run = turned same_row row_key (rows_at_run t old run) (rows_at_run t new run)
 
   by_turn : (run : Run) → row_changes (live_of t old).runs (turn_of t new run) ≡ row_segment run
-  by_turn run =
-      ap (λ xs. map (λ row. Remove (row_key row)) xs ++ map Put (rows_kept (live_run t new run)))
-      (ap rows_kept (find_run t old run) ∙ kept_rows t old run)
-      ∙ ap (λ xs. map (λ row. Remove (row_key row)) (rows_at_run t old run) ++ map Put xs) (kept_rows t new run)
+  by_turn run = λ i. turned same_row row_key ((ap rows_kept (find_run t old run) ∙ kept_rows t old run) i) (kept_rows t new run i)
 
   apart_rows : (k : RowKey) (run : Run) (updates : List Update) → is_same_run (run_in_row k) run ≡ false → AllByRecursion (IsApart row_cmp row_key k) (live_rows t updates run)
   apart_rows k run updates other =
       all_each (IsOfRun run) (IsApart row_cmp row_key k) (other_rows k run (tie_is_same (run_in_row k) run ∙ other))
       (live_rows t updates run) (live_of_run t updates run)
 
+  once_at : (k : RowKey) (run : Run) (updates : List Update) → IsOnce row_cmp row_key same_row same_row_so k (live_rows t updates run)
+  once_at k run updates = once_so row_cmp row_key same_row same_row_so k (live_rows t updates run) (once_in_run t updates k run)
+
   row_segments : (k : RowKey) (run : Run) → IsSegment row_cmp row_key k row_segment (is_same_run (run_in_row k)) (row_at_key t new k) (λ found. (found ≡ row_at_key t old k) ⊎ (found ≡ row_at_key t new k)) run
   row_segments k run = record {
     apart = λ other found.
-        effect-append row_cmp row_key k (map (λ row. Remove (row_key row)) (rows_at_run t old run)) (map Put (rows_at_run t new run)) found
-        ∙ ap (effect row_cmp row_key k (map Put (rows_at_run t new run))) (removes_apart row_cmp row_key k (rows_at_run t old run) (apart_rows k run old other) found)
-        ∙ puts_apart row_cmp row_key k (rows_at_run t new run) (apart_rows k run new other) found;
+        turned_apart row_cmp row_key same_row same_row_so k (rows_at_run t old run) (rows_at_run t new run) (apart_rows k run old other) (apart_rows k run new other) found;
     own = λ own found fine.
         subst (λ x. effect row_cmp row_key k (row_segment x) found ≡ row_at_key t new k) (same_as (run_in_row k) run own)
-        (turned row_cmp row_key k (rows_at_run t old (run_in_row k)) (rows_at_run t new (run_in_row k)) found fine);
+        (turned_settles row_cmp row_key same_row same_row_so k (rows_at_run t old (run_in_row k)) (rows_at_run t new (run_in_row k))
+        (once_at k (run_in_row k) old) (once_at k (run_in_row k) new) found fine);
   }
 
   same_rows : (k : RowKey) → list_any (is_same_run (run_in_row k)) runs ≡ false → row_at_key t new k ≡ row_at_key t old k

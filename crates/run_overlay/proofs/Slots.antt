@@ -1,26 +1,23 @@
 -- The departures at a stop that are kept are those that are defined, each once and in order.
-use Rattle.std.proofs.Common.{◌≡◌, ℕ, ◌-◌, ◌≤◌, List, [], ◌∷◌, Bool, true, false, ◌&&◌, cond, not, nat_eq, Option, Some, None, map, filter, count_by, ℤ, int_le, int_lt, refl, sym, ap, subst, ◌∙◌, Less, Equal, Greater, arith}
-use Rattle.std.specs.Prelude.{T, length, take}
+use Rattle.std.proofs.Common.{◌≡◌, ℕ, ◌≤◌, List, [], ◌∷◌, Bool, true, false, ◌&&◌, cond, not, nat_eq, Option, Some, None, map, filter, count_by, ℤ, int_le, int_lt, refl, sym, ap, subst, ◌∙◌, Less, Equal, Greater, arith}
+use Rattle.std.specs.Prelude.{T}
 use Rattle.std.specs.FinMap.{int_cmp-IsAntisymmetric, is_sorted, nat_cmp-IsAntisymmetric}
 use Rattle.std.specs.FinMap.Entries.{is_sorted-where_key}
 use Rattle.std.specs.Iterator.{YieldsFirst}
 use Rattle.std.specs.List.{AllByRecursion, flat_map}
-use Rattle.std.specs.Option.{option_map}
-use Rattle.std.specs.Ordering.{eq_by_cmp, int_cmp, is_lt, nat_cmp, ordering_then}
+use Rattle.std.specs.Ordering.{int_cmp, is_lt, nat_cmp, ordering_then}
 use Rattle.std.specs.declared.cmp.Ordering.{Ordering}
-use Rattle.std.proofs.lemmas.Bool.{and_parts, eq-eqb, eqb-true}
+use Rattle.std.proofs.lemmas.Bool.{and_parts, eqb-true}
 use Rattle.std.proofs.lemmas.Bool.Decides.{nat_tests}
 use Rattle.std.proofs.lemmas.Cmp.{nat_cmp_total, tied_itself}
 use Rattle.std.proofs.lemmas.Int.{ints}
 use Rattle.order.specs.Order.{ordered}
-use Rattle.order.proofs.Counts.{numbered, numbers_once, once_flat}
+use Rattle.order.proofs.Counts.{once_flat}
 use Rattle.order.proofs.OrderedMap.{map_ordered}
-use Rattle.sched_types.specs.declared.rows.Place.{Place}
 use Rattle.sched_types.specs.declared.rows.Run.{Run}
-use Rattle.sched_types.specs.Timetable.{Timetable, places_of}
-use Rattle.board_defs.specs.Choice.{Update, chosen}
-use Rattle.sched_types.specs.Runs.{all_runs, departures_of}
-use Rattle.board_defs.specs.Rows.{Shown, may_board, shown_at}
+use Rattle.sched_types.specs.Timetable.{Timetable}
+use Rattle.board_defs.specs.Choice.{Update}
+use Rattle.sched_types.specs.Runs.{all_runs}
 use Rattle.shared_list.specs.Order.{entries, entries_from}
 use Rattle.shared_list.proofs.Middle.{second_so, sorted_behind}
 use Rattle.feed_defs.specs.History.{Change as EntityChange}
@@ -29,51 +26,20 @@ use Rattle.run_overlay.specs.declared.row.RowKey.{RowKey}
 use Rattle.run_overlay.specs.declared.slot.LiveSlot.{LiveSlot}
 use Rattle.run_overlay.specs.Keys.{row_cmp, row_key}
 use Rattle.run_overlay.specs.Kept.{FeedOverlay, live_of, overlay_of, slots_in}
-use Rattle.run_overlay.specs.Live.{is_at, is_between, live_between, live_place, live_row, live_rows, rows_by, sign_of, slot_cmp}
+use Rattle.run_overlay.specs.Live.{is_at, is_between, live_between, live_rows, slot_cmp}
 use Rattle.run_overlay.specs.Orders.{rows_exact, rows_total}
 use Rattle.run_overlay.specs.Sought.{AreAhead, is_ahead, slots_ahead}
 use Rattle.run_overlay.specs.Updates.{updates_of}
 use Rattle.run_overlay.proofs.AllRuns.{is_this, run_once}
+use Rattle.run_overlay.proofs.OneOfRun.{has_row, once_in_run}
 use Rattle.keyed_lists.proofs.Entries.{HasItsKey, all_passing}
 use Rattle.run_overlay.proofs.Lived.{IsOfRun, live_of_run, other_rows, run_in_row, tie_is_same}
-use Rattle.keyed_lists.proofs.Once.{count_given, filter_of_map, filter_ordered, filter_twice, keys_total, none_counted, once_ordered}
-use Rattle.keyed_lists.proofs.Tables.{all_each, all_of, tie_same}
+use Rattle.keyed_lists.proofs.Once.{filter_of_map, filter_ordered, filter_twice, keys_total, none_counted, once_ordered}
+use Rattle.keyed_lists.proofs.Tables.{all_each, all_of}
 
 -- ---- at most one departure has a key
 
-abbrev has_row : RowKey → LiveRow → Bool
-has_row k row = eq_by_cmp row_cmp k (row_key row)
-
 module _ (t : Timetable) (updates : List Update) where
-  -- a departure from a place has its number
-  place_by_shown : (run : Run) (numbered : ℕ × Place) (shown : Option Shown) (row : LiveRow) → option_map (λ s. live_row t run numbered (sign_of s)) shown ≡ Some row → row.slot.place ≡ numbered.0
-  place_by_shown run numbered None row at = cc
-  place_by_shown run numbered (Some s) row at = let is : live_row t run numbered (sign_of s) ≡ row = cc in sym (ap (λ (r : LiveRow). r.slot.place) is)
-
-  place_of_row : (run : Run) (u : Update) (numbered : ℕ × Place) (row : LiveRow) → live_place t run u numbered ≡ Some row → row.slot.place ≡ numbered.0
-  place_of_row run u numbered row at = by_boarding (may_board numbered.1) at where
-    by_boarding : (b : Bool) → cond b (option_map (λ s. live_row t run numbered (sign_of s)) (shown_at t run (Some u) numbered.0)) None ≡ Some row → row.slot.place ≡ numbered.0
-    by_boarding true at = place_by_shown run numbered (shown_at t run (Some u) numbered.0) row at
-    by_boarding false at = cc
-
-  numbered_so : (k : RowKey) (run : Run) (u : Update) (place : ℕ × Place) (row : LiveRow) → live_place t run u place ≡ Some row → has_row k row ≡ true → numbered k.place place ≡ true
-  numbered_so k run u place row at tie =
-      eq-eqb place.0 k.place (sym (ap (λ (x : RowKey). x.place) (tie_same rows_total rows_exact k (row_key row) tie) ∙ place_of_row run u place row at))
-
-  once_by : (k : RowKey) (run : Run) (best : Option Update) → count_by (has_row k) (rows_by t run best) ≤ 1
-  once_by k run None = omega arith
-  once_by k run (Some u) =
-      let places = places_of t run.trip in
-      omega (
-        arith,
-        count_given (live_place t run u) (has_row k) (numbered k.place) (numbered_so k run u) (departures_of t run.trip),
-        numbers_once k.place 0 (take (length places - 1) places),
-      )
-
-  once_in_run : (k : RowKey) (run : Run) → count_by (has_row k) (live_rows t updates run) ≤ 1
-  unfolding live_rows
-  once_in_run k run = once_by k run (chosen t updates run)
-
   none_in_others : (k : RowKey) (run : Run) → is_this t (run_in_row k) run ≡ false → count_by (has_row k) (live_rows t updates run) ≡ 0
   none_in_others k run other =
       none_counted (has_row k) (live_rows t updates run)
@@ -84,7 +50,7 @@ module _ (t : Timetable) (updates : List Update) where
 
   pub row_once : (k : RowKey) → count_by (has_row k) all_rows ≤ 1
   row_once k =
-      once_flat (has_row k) (is_this t (run_in_row k)) (live_rows t updates) (none_in_others k) (once_in_run k) (all_runs t) (run_once t (run_in_row k))
+      once_flat (has_row k) (is_this t (run_in_row k)) (live_rows t updates) (none_in_others k) (once_in_run t updates k) (all_runs t) (run_once t (run_in_row k))
 
   -- ---- in order
 

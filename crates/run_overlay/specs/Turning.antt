@@ -1,8 +1,9 @@
 -- What becomes of runs, and of their departures.
-use Rattle.std.specs.Prelude.{Bool, ◌&&◌, ◌==◌, if◌then◌else◌, ℕ, Option, Some, None, List, [], ◌++◌, map, filter, slice_get}
+use Rattle.std.specs.Prelude.{Bool, true, false, ◌&&◌, ◌==◌, if◌then◌else◌, ℕ, ℤ, Option, Some, None, List, [], map, filter, slice_get}
 use Rattle.std.specs.List.{filter_map, flat_map}
 use Rattle.std.specs.Option.{option_map}
 use Rattle.std.specs.FinMap.{find}
+use Rattle.std.specs.Ordering.{int_eq}
 use Rattle.rt_types.specs.declared.enums.TripRelation.{TripRelation}
 use Rattle.rt_types.specs.declared.trip_update.TripUpdate.{TripUpdate}
 use Rattle.shared_list.specs.declared.change.Change.{Change}
@@ -21,7 +22,10 @@ use Rattle.run_overlay.specs.declared.live_run.LiveRun.{LiveRun}
 use Rattle.run_overlay.specs.declared.row.LiveRow.{LiveRow}
 use Rattle.run_overlay.specs.declared.row.RowKey.{RowKey}
 use Rattle.run_overlay.specs.declared.turns.Turn.{Turn}
-use Rattle.keyed_lists.specs.Keyed.{changed}
+use Rattle.run_overlay.specs.declared.slot.LiveSlot.{LiveSlot}
+use Rattle.run_overlay.specs.declared.slot.SlotState.{SlotState}
+use Rattle.run_overlay.specs.declared.slot.SlotState.TheVariants as told
+use Rattle.keyed_lists.specs.Keyed.{changed, turned}
 use Rattle.run_overlay.specs.Keys.{CandidateKey, row_cmp, row_key, run_cmp, live_run_key}
 use Rattle.run_overlay.specs.Kept.{LiveKept, live_run}
 use Rattle.run_overlay.specs.Live.{live_row, sign_of}
@@ -72,11 +76,32 @@ abbrev pub rows_kept : Option LiveRun → List LiveRow
 rows_kept None = []
 rows_kept (Some live) = live.rows
 
--- those that it had go, and those that it has come
+-- the same is known of two departures
+abbrev pub same_state : SlotState → SlotState → Bool
+same_state told.Scheduled told.Scheduled = true
+same_state told.Live told.Live = true
+same_state told.Skipped told.Skipped = true
+same_state told.Canceled told.Canceled = true
+same_state a b = false
+
+abbrev pub same_delay : Option ℤ → Option ℤ → Bool
+same_delay None None = true
+same_delay (Some a) (Some b) = int_eq a b
+same_delay None (Some b) = false
+same_delay (Some a) None = false
+
+abbrev pub same_slot : LiveSlot → LiveSlot → Bool
+same_slot a b =
+    int_eq a.at b.at && ((a.run.trip == b.run.trip) && (a.run.day == b.run.day)) && (a.place == b.place)
+    && same_state a.state b.state && same_delay a.delay b.delay
+
+abbrev pub same_row : LiveRow → LiveRow → Bool
+same_row a b = (a.stop == b.stop) && same_slot a.slot b.slot
+
+-- Those that it had go, and those that it has come. What stays as it was at its place does neither.
 abbrev pub row_changes : List (Run × LiveRun) → Turn → List (Change LiveRow RowKey)
 row_changes runs turn =
-    map (λ row. Remove (row_key row)) (rows_kept (find run_cmp turn.run runs))
-    ++ map Put (rows_kept turn.now)
+    turned same_row row_key (rows_kept (find run_cmp turn.run runs)) (rows_kept turn.now)
 
 abbrev pub live_after : Timetable → List Update → List Run → LiveKept → LiveKept
 live_after t updates runs kept =

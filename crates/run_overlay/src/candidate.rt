@@ -34,10 +34,10 @@ pub(crate) struct FirstOf {
 }
 
 /// By the one, then by the next, then by the last.
-fn in_turn(run: Ordering, stamp: Ordering, id: Ordering) -> Ordering
-    ensures { result ≡ ordering_then run (ordering_then stamp id) }
+pub(crate) fn in_turn(first: Ordering, second: Ordering, third: Ordering) -> Ordering
+    ensures { result ≡ ordering_then first (ordering_then second third) }
 {
-    run.then(stamp.then(id))
+    first.then(second.then(third))
 }
 
 impl Copied for Candidate {

@@ -18,8 +18,8 @@
 //!
 //! An overlay is made of ordered lists (`shared_list`), of which two overlays share what a message does not touch: the
 //! runs that updates are about, by the ids of their entities; the same by run, the update that counts first; the entities
-//! with updates of added trips; the runs with an update, each with its departures, which the next change takes out again;
-//! and all departures, by stop and expected instant.
+//! with updates of added trips; the runs with an update, each with its departures, of which the next change takes out
+//! those that don't stay as they are; and all departures, by stop and expected instant.
 //!
 //! It stands on `trip_match` and `delay_rule` for the meaning of updates, on `entity_table` for what a feed holds, and on
 //! the definitions of `board_defs`.

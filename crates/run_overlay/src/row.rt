@@ -2,8 +2,11 @@
 
 ghost use Rattle.std.specs.Prelude.{◌≡◌};
 ghost use Rattle.run_overlay.specs.Keys as rule;
+ghost use Rattle.run_overlay.specs.Live.{slot_cmp};
+ghost use Rattle.run_overlay.specs.Turning.{same_row};
 
 use crate::NoMemory;
+use crate::candidate::in_turn;
 use crate::slot::LiveSlot;
 use copying::Copied;
 use shared_list::{KeyFor, Keyed};
@@ -39,6 +42,40 @@ fn key_of(row: &LiveRow) -> RowKey
     }
 }
 
+/// By the expected instant, the trip, the day and the place. Most departures of a stop differ in the first.
+fn slot_order(a: &LiveSlot, b: &LiveSlot) -> Ordering
+    ensures { result ≡ slot_cmp a.now b.now }
+{
+    match a.at.cmp(&b.at) {
+        Ordering::Less => Ordering::Less,
+        Ordering::Greater => Ordering::Greater,
+        Ordering::Equal => in_turn(
+            a.run.trip.cmp(&b.run.trip),
+            a.run.day.cmp(&b.run.day),
+            a.place.cmp(&b.place),
+        ),
+    }
+}
+
+/// By the stop, and then as `slot_order` says. No key is made for it, since lists compare departures more often than they
+/// do anything else.
+fn row_order(a: &LiveRow, b: &LiveRow) -> Ordering
+    ensures { result ≡ rule.row_cmp (rule.row_key a.now) (rule.row_key b.now) }
+{
+    match a.stop.cmp(&b.stop) {
+        Ordering::Less => Ordering::Less,
+        Ordering::Greater => Ordering::Greater,
+        Ordering::Equal => slot_order(&a.slot, &b.slot),
+    }
+}
+
+/// Whether two departures are the same in all that is known of them.
+pub(crate) fn is_same(a: &LiveRow, b: &LiveRow) -> bool
+    ensures { result ≡ same_row a.now b.now }
+{
+    a == b
+}
+
 impl Copied for LiveRow {
     fn copy(&self) -> Result<Self, NoMemory> {
         Ok(*self)
@@ -56,7 +93,7 @@ impl Keyed for LiveRow {
     ghost key_cmp = { row_cmp };
 
     fn order(&self, other: &Self) -> Ordering {
-        key_of(self).cmp(&key_of(other))
+        row_order(self, other)
     }
 
     ghost total = { rows_total };

@@ -1,5 +1,5 @@
 -- A stable sort leaves the list of the items as it is, and where their keys rise they are that list.
-use Rattle.std.proofs.Common.{ap, sym, ◌∙◌, rules}
+use Rattle.std.proofs.Common.{sym, ◌∙◌, rules}
 use Rattle.std.specs.Ordering.{is_lt}
 use Rattle.std.proofs.lemmas.List.Sorted.{answers_always, ranks_by}
 use Rattle.keyed_lists.proofs.InOrder.{by_key_rising, by_key_stable}

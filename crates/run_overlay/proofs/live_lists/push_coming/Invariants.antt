@@ -1,9 +1,12 @@
--- The departures that were gone over come.
-use Rattle.std.proofs.Common.{◌≡◌, ◌++◌, map, take}
+-- What comes of the departures that were gone over, and of those that are left, is all that comes.
+use Rattle.std.proofs.Common.{◌≡◌, ◌++◌, drop, map}
 use Rattle.shared_list.specs.declared.change.Change.TheVariants.{Put}
-use Rattle.keyed_lists.specs.Keyed.{naming_keys}
+use Rattle.keyed_lists.specs.Keyed.{naming_keys, unlike}
 use Rattle.run_overlay.specs.Sought.{row_at}
+use Rattle.run_overlay.specs.Turning.{same_row}
 use Rattle.run_overlay.proofs.live_lists.push_coming.Given as goal
 
 abbrev pub invariant-loop-row : goal.invariant-loop-row
-invariant-loop-row l = naming_keys row_at l.out.items ≡ naming_keys row_at l.initial.out.items ++ map Put (take l.row-index l.rows)
+invariant-loop-row l =
+    naming_keys row_at l.out.items ++ map Put (unlike same_row (drop l.row-index l.rows) l.others)
+    ≡ naming_keys row_at l.initial.out.items ++ map Put (unlike same_row l.rows l.fn.others)

@@ -1,10 +1,13 @@
--- The departures that were gone over go.
-use Rattle.std.proofs.Common.{◌≡◌, ◌++◌, map, take}
+-- What goes of the departures that were gone over, and of those that are left, is all that goes.
+use Rattle.std.proofs.Common.{◌≡◌, ◌++◌, drop, map}
 use Rattle.shared_list.specs.declared.change.Change.TheVariants.{Remove}
-use Rattle.keyed_lists.specs.Keyed.{naming_keys}
+use Rattle.keyed_lists.specs.Keyed.{naming_keys, unlike}
 use Rattle.run_overlay.specs.Keys.{row_key}
 use Rattle.run_overlay.specs.Sought.{row_at}
+use Rattle.run_overlay.specs.Turning.{same_row}
 use Rattle.run_overlay.proofs.live_lists.push_going.Given as goal
 
 abbrev pub invariant-loop-row : goal.invariant-loop-row
-invariant-loop-row l = naming_keys row_at l.out.items ≡ naming_keys row_at l.initial.out.items ++ map (λ row. Remove (row_key row)) (take l.row-index l.rows)
+invariant-loop-row l =
+    naming_keys row_at l.out.items ++ map (λ row. Remove (row_key row)) (unlike same_row (drop l.row-index l.rows) l.others)
+    ≡ naming_keys row_at l.initial.out.items ++ map (λ row. Remove (row_key row)) (unlike same_row l.rows l.fn.others)
