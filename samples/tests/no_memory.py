@@ -67,6 +67,9 @@ FIVE = run(1, run(1, b"2.0") + number(2, 0) + number(3, 5))
 LIFT = FIVE + run(2, run(1, b"w") + run(5, run(1, number(1, 1743314000) + number(2, 1743315000)) + run(5, run(5, b"S3"))
                                          + run(10, run(1, run(1, b"Lift out")))))
 SIX = run(1, run(1, b"2.0") + number(2, 0) + number(3, 6))
+# Messages that are refused, each for another cause.
+FAULTS = (b"", b"\x0a\x00", b"\x0a\x03\x0a\x01\xff", b"\x0a\x05\x0a\x032.0", FIVE + b"\x0c", FIVE + b"\x4b",
+          FIVE + b"\x00", FIVE + b"\xff" * 10, FIVE + run(2, number(3, 1)))
 ASK = b"GET /board/city/S3?limit=1 HTTP/1.1\r\nHost: h\r\n\r\n"
 
 
@@ -95,6 +98,7 @@ def inputs(folder):
     city = ("replay", "samples/city.toml")
     yield "eleven bytes", ("replay",), (TOP / "samples/first.script").read_bytes()
     yield "groups, 64 and 65 deep", ("replay",), b"F a\n" + deep + b"E\n"
+    yield "messages at fault", ("replay",), b"F a\n" + b"".join(offer(b"a", it) for it in FAULTS) + b"E\n"
     yield "a delayed board", city, (TOP / "samples/late.script").read_bytes()
     yield "a timetable with byte order marks", ("check", marked_city(folder)), b""
     yield "alerts", city, offer(b"a", LIFT) + alerts
