@@ -13,7 +13,7 @@ use hub_serve::run_serve;
 use rt_types::Text;
 use std::alloc::Global;
 use std::env::{Args, Env};
-use std::io::{Read, Write};
+use std::io::{ErrorKind, Read, Write};
 use std::net::{Net, TcpListener, TcpStream};
 use std::sync::Wait;
 use std::thread::Threads;
@@ -60,14 +60,16 @@ where
     }
 }
 
-/// The words after the program's name, where the first of them is `serve`. Words that the system doesn't
-/// give, or of which one is not UTF-8, are none of them.
+/// The words after the program's name, where the first of them is `serve`. Words of which one is not
+/// UTF-8 are none of them. Where the system doesn't give the words, memory ran out.
 pub fn words_of_serve(
     alloc: Global,
     words: io::Result<Args>,
 ) -> Result<Option<Vec<Text>>, NoMemory> {
-    let Ok(words) = words else {
-        return Ok(None);
+    let words = match words {
+        Ok(words) => words,
+        Err(error) if error.kind() == ErrorKind::InvalidData => return Ok(None),
+        Err(_) => return Err(NoMemory),
     };
     let mut texts = Vec::new(alloc);
     for word in words.skip(1) {

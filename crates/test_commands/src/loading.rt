@@ -33,17 +33,14 @@ const FILES: [(&str, &str); 7] = [
     ),
 ];
 
-/// The configuration and the files of the timetable but the one of that path. The calls of these
-/// numbers fail.
-fn city_without(alloc: Global, path: &str, failing: Vec<u64>) -> Result<MemoryFiles, AllocError> {
+/// The configuration and the files of the timetable. The calls of these numbers fail.
+fn city(alloc: Global, failing: Vec<u64>) -> Result<MemoryFiles, AllocError> {
     let mut files = Vec::new(alloc);
     for (name, text) in FILES {
-        if name != path {
-            files.push(MemoryFile {
-                path: String::from_str(alloc, name)?,
-                bytes: Vec::from_slice(alloc, text.as_bytes())?,
-            })?;
-        }
+        files.push(MemoryFile {
+            path: String::from_str(alloc, name)?,
+            bytes: Vec::from_slice(alloc, text.as_bytes())?,
+        })?;
     }
     Ok(MemoryFiles::new(files, failing))
 }
@@ -81,35 +78,11 @@ fn loads(alloc: Global, mut files: MemoryFiles, plans: &str, feeds: &str) -> Res
     }
 }
 
-/// Whether loading is refused with that line.
-fn is_refused(alloc: Global, mut files: MemoryFiles, line: &str) -> bool {
-    match load_plans(alloc, &mut files, "city.toml") {
-        Err(HubFault::Refused(told)) => told.as_slice() == line.as_bytes(),
-        _ => false,
-    }
-}
-
 #[test]
 fn the_city_and_its_feeds(rt: HostRuntime) -> Result<(), Fail> {
     let alloc = rt.alloc();
-    let files = city_without(alloc, "", Vec::new(alloc))?;
+    let files = city(alloc, Vec::new(alloc))?;
     assert!(rt; loads(alloc, files, "city c: 5\n", "a 0\nb 0\n")?);
-    Ok(())
-}
-
-/// Files that are absent, and the line then.
-const ABSENT: [(&str, &str); 2] = [
-    ("city.toml", "hub: config absent\n"),
-    ("city/trips.txt", "hub: load city missing trips.txt\n"),
-];
-
-#[test]
-fn files_that_are_absent(rt: HostRuntime) -> Result<(), Fail> {
-    let alloc = rt.alloc();
-    for (path, line) in ABSENT {
-        let files = city_without(alloc, path, Vec::new(alloc))?;
-        assert!(rt; is_refused(alloc, files, line));
-    }
     Ok(())
 }
 
@@ -117,7 +90,7 @@ fn files_that_are_absent(rt: HostRuntime) -> Result<(), Fail> {
 fn a_file_that_cannot_be_read(rt: HostRuntime) -> Result<(), Fail> {
     let alloc = rt.alloc();
     for call in 1..8 {
-        let mut files = city_without(alloc, "", vec![in alloc; call]?)?;
+        let mut files = city(alloc, vec![in alloc; call]?)?;
         let answer = load_plans(alloc, &mut files, "city.toml");
         assert!(rt; matches!(answer, Err(HubFault::FileFault)));
     }

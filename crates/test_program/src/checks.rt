@@ -1,5 +1,5 @@
 //! Checks of the small city and of changed copies of it.
-use crate::city::{CITY, CITY_CONF, STOP_TIMES, STOPS, TRIPS, city, city_with, file, turned};
+use crate::city::{CITY, CITY_CONF, city, city_with, file, turned};
 use crate::runs::{ends, run};
 use hub_outside::{MemoryFile, MemoryFiles, MemorySource};
 use std::alloc::Global;
@@ -16,17 +16,6 @@ fn checks(alloc: Global, files: Vec<MemoryFile>, status: u8, told: &str) -> Resu
 /// The same of the timetable with one file in place of its own.
 fn changed(alloc: Global, path: &str, bytes: &[u8], status: u8, told: &str) -> Result<bool, Fail> {
     checks(alloc, city_with(alloc, path, bytes)?, status, told)
-}
-
-/// The files of the city without the one of that path.
-fn without(alloc: Global, path: &str) -> Result<Vec<MemoryFile>, Fail> {
-    let mut kept = Vec::new(alloc);
-    for (name, text) in CITY {
-        if name != path {
-            kept.push(file(alloc, name, text.as_bytes())?)?;
-        }
-    }
-    Ok(kept)
 }
 
 /// Files of the timetable with a byte order mark, swapped columns, a column more, and rows cut
@@ -89,31 +78,6 @@ fn other_timetables(rt: HostRuntime) -> Result<(), Fail> {
     Ok(())
 }
 
-#[test]
-fn a_city_without_calendar(rt: HostRuntime) -> Result<(), Fail> {
-    let alloc = rt.alloc();
-    let files = without(alloc, "city/calendar.txt")?;
-    assert!(rt; checks(alloc, files, 0, CITY_LINE)?);
-    Ok(())
-}
-
-/// Files that are absent, and what is said then.
-const ABSENT: [(&str, &str); 3] = [
-    ("city.toml", "hub: config absent\n"),
-    ("city/trips.txt", "hub: load city missing trips.txt\n"),
-    ("city/agency.txt", "hub: load city missing agency.txt\n"),
-];
-
-#[test]
-fn files_that_are_absent(rt: HostRuntime) -> Result<(), Fail> {
-    let alloc = rt.alloc();
-    for (path, told) in ABSENT {
-        let files = without(alloc, path)?;
-        assert!(rt; checks(alloc, files, 3, told)?);
-    }
-    Ok(())
-}
-
 /// Words, and how many files they read until one is there that may not be read.
 const UNREADABLE: [(&[&str], u64); 4] = [
     (&["check", "city.toml"], 1),
@@ -148,101 +112,124 @@ fn a_file_that_cannot_be_read(rt: HostRuntime) -> Result<(), Fail> {
     Ok(())
 }
 
-/// A file with one text in it turned into another, and what is said then.
+/// A change of the city's files, and what is said then.
+#[derive(Drop)]
 struct Change {
     path: &'static str,
-    file: &'static str,
-    from: &'static str,
-    to: &'static str,
+    turn: Turn,
     told: &'static str,
 }
 
-const CHANGES: [Change; 9] = [
+/// What becomes of a file.
+#[derive(Clone, Copy)]
+enum Turn {
+    /// It is absent.
+    Absent,
+    /// The first of these texts in it is turned into these bytes.
+    Into(&'static str, &'static [u8]),
+}
+
+const CHANGES: [Change; 13] = [
     Change {
         path: "city.toml",
-        file: CITY_CONF,
-        from: "[[schedule]]",
-        to: "readers = 0\n[[schedule]]",
+        turn: Turn::Absent,
+        told: "hub: config absent\n",
+    },
+    Change {
+        path: "city.toml",
+        turn: Turn::Into("[[schedule]]", b"readers = 0\n[[schedule]]"),
         told: "hub: config top 0 readers bad\n",
     },
     Change {
         path: "city.toml",
-        file: CITY_CONF,
-        from: "[[schedule]]",
-        to: "=",
+        turn: Turn::Into("[[schedule]]", b"="),
         told: "hub: config toml\n",
     },
     Change {
         path: "city.toml",
-        file: CITY_CONF,
-        from: "CET-1CEST,M3.5.0,M10.5.0/3",
-        to: "",
+        turn: Turn::Into("CET-1CEST,M3.5.0,M10.5.0/3", b""),
         told: "hub: load city zone\n",
     },
     Change {
+        path: "city/agency.txt",
+        turn: Turn::Absent,
+        told: "hub: load city missing agency.txt\n",
+    },
+    Change {
+        path: "city/trips.txt",
+        turn: Turn::Absent,
+        told: "hub: load city missing trips.txt\n",
+    },
+    Change {
         path: "city/stop_times.txt",
-        file: STOP_TIMES,
-        from: "stop_sequence",
-        to: "place",
+        turn: Turn::Into("stop_sequence", b"place"),
         told: "hub: load city column stop_times.txt stop_sequence\n",
     },
     Change {
         path: "city/stop_times.txt",
-        file: STOP_TIMES,
-        from: "T1,08:00:00",
-        to: "T1,08:61:00",
+        turn: Turn::Into("T1,08:00:00", b"T1,08:61:00"),
         told: "hub: load city value stop_times.txt 2 arrival_time\n",
     },
     Change {
         path: "city/trips.txt",
-        file: TRIPS,
-        from: "R7,WK,T1",
-        to: "R8,WK,T1",
+        turn: Turn::Into("R7,WK,T1", b"R8,WK,T1"),
         told: "hub: load city reference trips.txt 2 route_id\n",
     },
     Change {
         path: "city/stops.txt",
-        file: STOPS,
-        from: "S4,Hill,,\n",
-        to: "S4,Hill,,\nST,Market,1,\n",
+        turn: Turn::Into("S4,Hill,,\n", b"S4,Hill,,\nST,Market,1,\n"),
         told: "hub: load city duplicate stops.txt 7\n",
     },
     Change {
         path: "city/stops.txt",
-        file: STOPS,
-        from: "Market A,0,ST",
-        to: "Market A,0,SX",
+        turn: Turn::Into("Market A,0,ST", b"Market A,0,SX"),
         told: "hub: load city reference stops.txt 3 parent_station\n",
     },
     Change {
+        path: "city/stops.txt",
+        turn: Turn::Into("Market B", b"Market \xff"),
+        told: "hub: load city text stops.txt 4 stop_name\n",
+    },
+    Change {
         path: "city/stop_times.txt",
-        file: STOP_TIMES,
-        from: "08:20:00,08:21:00,S2,5",
-        to: "08:20:00,08:19:00,S2,5",
+        turn: Turn::Into("08:20:00,08:21:00,S2,5", b"08:20:00,08:19:00,S2,5"),
         told: "hub: load city times 2\n",
     },
 ];
 
-/// Whether a change is refused with its line.
-fn refuses(alloc: Global, change: &Change) -> Result<bool, Fail> {
-    let other = turned(alloc, change.file, change.from, change.to)?;
-    changed(alloc, change.path, other.as_bytes(), 3, change.told)
+/// The files of the city after that change.
+fn changed_city(alloc: Global, change: &Change) -> Result<Vec<MemoryFile>, Fail> {
+    let mut files = Vec::new(alloc);
+    for (path, text) in CITY {
+        if path != change.path {
+            files.push(file(alloc, path, text.as_bytes())?)?;
+        } else if let Turn::Into(from, to) = change.turn {
+            let bytes = turned(alloc, text, from, to)?;
+            files.push(file(alloc, path, &bytes)?)?;
+        }
+    }
+    Ok(files)
 }
 
 #[test]
 fn changed_copies_of_the_city(rt: HostRuntime) -> Result<(), Fail> {
     for change in &CHANGES {
-        assert!(rt; refuses(rt.alloc(), change)?);
+        let told = change.told;
+        let files = changed_city(rt.alloc(), change)?;
+        assert!(rt; checks(rt.alloc(), files, 3, told)?, "{told}");
     }
     Ok(())
 }
 
 #[test]
-fn a_name_that_is_no_text(rt: HostRuntime) -> Result<(), Fail> {
-    let stops =
-        b"stop_id,stop_name,location_type,parent_station\nST,Market,1,\nS1,Market A,0,ST\nS2,Market \xff,0,ST\n";
-    let told = "hub: load city text stops.txt 4 stop_name\n";
-    assert!(rt; changed(rt.alloc(), "city/stops.txt", stops, 3, told)?);
+fn a_city_without_calendar(rt: HostRuntime) -> Result<(), Fail> {
+    let alloc = rt.alloc();
+    let change = Change {
+        path: "city/calendar.txt",
+        turn: Turn::Absent,
+        told: CITY_LINE,
+    };
+    assert!(rt; checks(alloc, changed_city(alloc, &change)?, 0, change.told)?);
     Ok(())
 }
 

@@ -9,15 +9,15 @@ pub(crate) const CITY_CONF: &str =
 
 const AGENCY: &str = "agency_id,agency_name\nA,City\n";
 
-pub(crate) const STOPS: &str =
+const STOPS: &str =
     "stop_id,stop_name,location_type,parent_station\nST,Market,1,\nS1,Market A,0,ST\nS2,Market B,0,ST\nS3,Harbour,,\nS4,Hill,,\n";
 
 const ROUTES: &str = "route_id,agency_id,route_short_name,route_type\nR7,A,7,3\n";
 
-pub(crate) const TRIPS: &str =
+const TRIPS: &str =
     "route_id,service_id,trip_id,trip_headsign,direction_id\nR7,WK,T1,Hill,0\nR7,WK,T2,Hill,0\nR7,WK,N1,Hill,0\n";
 
-pub(crate) const STOP_TIMES: &str =
+const STOP_TIMES: &str =
     "trip_id,arrival_time,departure_time,stop_id,stop_sequence,pickup_type\nT1,08:00:00,08:00:00,S1,1,\nT1,,,S3,2,\nT1,08:20:00,08:21:00,S2,5,\nT1,08:30:00,08:30:00,S4,9,\nT2,08:21:00,08:21:00,S2,1,0\nT2,8:40:00,8:40:00,S4,2,0\nN1,25:10:00,25:10:00,S1,1,\nN1,25:40:00,25:40:00,S4,2,\n";
 
 const CALENDAR: &str =
@@ -69,10 +69,13 @@ pub(crate) fn plays(alloc: Global, script: &[u8], told: &str) -> Result<bool, Fa
     ends(alloc, &words, city(alloc)?, script, 0, told.as_bytes())
 }
 
-/// A text with its first `from` turned into `to`.
-pub(crate) fn turned(alloc: Global, text: &str, from: &str, to: &str) -> Result<String, Fail> {
-    match text.split_once(from) {
-        Some((before, after)) => Ok(format!(in alloc; "{before}{to}{after}")?),
-        None => Ok(String::from_str(alloc, text)?),
-    }
+/// The bytes of a text with its first `from` turned into `to`.
+pub(crate) fn turned(alloc: Global, text: &str, from: &str, to: &[u8]) -> Result<Vec<u8>, Fail> {
+    let Some((before, after)) = text.split_once(from) else {
+        return Ok(text.as_bytes().to_vec(alloc)?);
+    };
+    let mut bytes = before.as_bytes().to_vec(alloc)?;
+    bytes.extend_from_slice(to)?;
+    bytes.extend_from_slice(after.as_bytes())?;
+    Ok(bytes)
 }

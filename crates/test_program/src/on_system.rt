@@ -43,8 +43,8 @@ fn scripts_are_replayed_on_files(rt: HostRuntime) -> Result<(), Fail> {
     let line = format!(in alloc; "folder = \"{city}\"")?;
     for (name, text) in CITY {
         let path = format!(in alloc; "{folder}/{name}")?;
-        let text = turned(alloc, text, "folder = \"city\"", line.as_str())?;
-        fs::write(&rt, path.as_str(), text.as_str())?;
+        let bytes = turned(alloc, text, "folder = \"city\"", line.as_bytes())?;
+        fs::write(&rt, path.as_str(), &bytes)?;
     }
     let conf = fresh_path(&rt, "/city.toml")?;
     let mut all_done = true;

@@ -74,20 +74,6 @@ fn faults(rt: HostRuntime) -> Result<(), Fail> {
 }
 
 #[test]
-fn nothing_offered(rt: HostRuntime) -> Result<(), Fail> {
-    let told = b"feed 11\n\n\t\n\x032.0\x10\x00\x18\x00\n";
-    assert!(rt; replays(rt.alloc(), b"F a\nO plain\nE\n", 0, told)?);
-    Ok(())
-}
-
-#[test]
-fn another_version(rt: HostRuntime) -> Result<(), Fail> {
-    let script = b"F a\nM a 11\n\n\t\n\x033.0\x10\x00\x18\x05\nE\n";
-    assert!(rt; replays(rt.alloc(), script, 0, b"refused version 3.0\n")?);
-    Ok(())
-}
-
-#[test]
 fn no_record(rt: HostRuntime) -> Result<(), Fail> {
     assert!(rt; replays(rt.alloc(), b"X\n", 7, b"hub: script refused at 0\n")?);
     assert!(rt; replays(rt.alloc(), b"F a\n", 7, b"hub: script refused at 4\n")?);

@@ -2,6 +2,8 @@
 
 use hub_system::{NoMemory, words_of_serve};
 use std::alloc::Global;
+use std::io;
+use std::io::ErrorKind;
 use std::test::Fail;
 
 /// How many words the server is given of these.
@@ -20,5 +22,15 @@ fn the_server_is_asked_for_by_its_word(rt: HostRuntime) -> Result<(), Fail> {
     assert_eq!(rt; served(alloc, &["hub", "serve", "hub.toml"])?, Some(2));
     assert_eq!(rt; served(alloc, &["hub", "check", "serve"])?, None);
     assert_eq!(rt; served(alloc, &["serve"])?, None);
+    Ok(())
+}
+
+#[test]
+fn words_that_are_not_given_are_no_usage(rt: HostRuntime) -> Result<(), Fail> {
+    let alloc = rt.alloc();
+    let foreign = words_of_serve(alloc, Err(io::Error::from(ErrorKind::InvalidData)))?;
+    assert!(rt; foreign.is_none());
+    let starved = words_of_serve(alloc, Err(io::Error::from(ErrorKind::OutOfMemory)));
+    assert!(rt; starved.is_err());
     Ok(())
 }

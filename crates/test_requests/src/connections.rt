@@ -228,6 +228,18 @@ fn each_write_fails_in_turn(rt: HostRuntime) -> Result<(), Fail> {
     Ok(())
 }
 
+#[test]
+fn a_write_fails_after_a_whole_response(rt: HostRuntime) -> Result<(), Fail> {
+    let alloc = rt.alloc();
+    let mut source = MemorySource::new(asks(alloc, 3)?, Vec::new(alloc), Vec::new(alloc));
+    let mut sink = MemorySink::new(alloc, Vec::new(alloc), vec![in alloc; 2]?);
+    let session = serve(alloc, &mut source, &mut sink)?;
+    assert_eq!(rt; session.end, End::WriteFault);
+    assert_eq!(rt; session.numbers.len(), 1);
+    assert!(rt; sink.bytes() == FEED);
+    Ok(())
+}
+
 /// A source that compares, at each read, how many bytes its sink has got with those of all responses
 /// so far.
 #[derive(Drop)]

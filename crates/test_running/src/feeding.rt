@@ -8,7 +8,7 @@ ghost use Rattle.hub_outside.specs.Buffer.{room_of};
 ghost use Rattle.feed_port.specs.Ports.{Answers, GoesOnToTell, HasPortCause};
 
 use board_parts::Oracle;
-use feed_port::{FeedPort, MemoryPort, PortAnswer};
+use feed_port::{FeedPort, LONGEST_MESSAGE, MemoryPort, PortAnswer};
 use hub_outside::Buf;
 use hub_shared::{FeedSeat, Hub, IngestReport, Opened, PortEnd, close_hub, ingest_all, open_hub};
 use sample_city::{FIVE, UPDATE, one_feed, port};
@@ -64,36 +64,41 @@ fn end_of_one<R: Wait>(rt: &R, hub: Hub, seat: FeedSeat) -> Option<u64>
     Some(number)
 }
 
-/// The same of a hub that is opened, with a port of these messages.
-fn run_of<R: Wait>(
+/// The same of a hub that is opened.
+fn run_over<R: Wait, P: FeedPort>(
     rt: &R,
     alloc: Global,
-    messages: &[&[u8]],
-    failing: &[u64],
+    port: &mut P,
 ) -> Option<(([u64; 5], PortEnd), u64)> {
-    let mut port = port(alloc, messages, failing).ok()?;
     let Ok(opened) = open_hub(rt, alloc, one_feed(alloc).ok()?, 1) else {
         return None;
     };
     let Opened { hub, seats, passes } = opened;
     drop(passes);
-    run(rt, alloc, hub, seats, &mut port)
+    run(rt, alloc, hub, seats, port)
 }
 
 #[test]
 fn a_second_message_of_a_stamp_is_refused(rt: HostRuntime) -> Result<(), Fail> {
-    let told = run_of(&rt, rt.alloc(), &[&FIVE, &FIVE, &UPDATE], &[]);
+    let mut port = port(rt.alloc(), &[&FIVE, &FIVE, &UPDATE], &[])?;
     assert_eq!(rt;
-        told,
+        run_over(&rt, rt.alloc(), &mut port),
         Some((([2, 1, 0, 0, 1_743_314_000], PortEnd::Ended), 2))
     );
     Ok(())
 }
 
+/// Its next ask hands in the message that the failed one left.
 #[test]
 fn a_port_that_fails_is_asked_no_more(rt: HostRuntime) -> Result<(), Fail> {
-    let told = run_of(&rt, rt.alloc(), &[&FIVE, &UPDATE, &FIVE], &[2]);
+    let alloc = rt.alloc();
+    let mut port = port(alloc, &[&FIVE, &UPDATE, &FIVE], &[2])?;
+    let told = run_over(&rt, alloc, &mut port);
     assert_eq!(rt; told, Some((([1, 0, 0, 0, 5], PortEnd::PortFault), 1)));
+    let mut into = Buf::new(alloc);
+    into.reserve(LONGEST_MESSAGE)?;
+    assert_eq!(rt; port.next(&mut into), PortAnswer::Message);
+    assert_eq!(rt; into.as_slice(), UPDATE.as_slice());
     Ok(())
 }
 

@@ -90,8 +90,34 @@ fn a_stream_is_cut_into_messages(rt: HostRuntime) -> Result<(), Fail> {
     let alloc = rt.alloc();
     assert!(rt; two_messages(alloc)?);
     assert!(rt; ends_behind(alloc, b"\x01\0\0\x01one", PortAnswer::TooLong(16_777_217))?);
-    assert!(rt; ends_behind(alloc, b"\0\0\0\x04one", PortAnswer::Failed)?);
-    assert!(rt; ends_behind(alloc, b"\0\0\0", PortAnswer::Failed)?);
+    Ok(())
+}
+
+/// Four bytes of a length, and a message of that length.
+const FRAMED: &[u8] = b"\0\0\0\x0b\x0a\x09\x0a\x032.0\x10\x00\x18\x05";
+
+/// Whether a stream of these bytes in two pieces, the first of so many bytes, hands the message in.
+fn is_whole(alloc: Global, first: u32) -> Result<bool, NoMemory> {
+    let mut into = buffer(alloc)?;
+    let pieces = vec![in alloc; first]?;
+    let source = MemorySource::new(copy(alloc, FRAMED)?, pieces, Vec::new(alloc));
+    let mut port = StreamPort::new(source);
+    let message = hands_in(&mut port, &mut into, &FRAMED[4..]);
+    Ok(message && comes_to(&mut port, &mut into, PortAnswer::End))
+}
+
+/// Wherever the bytes are cut into two pieces, and wherever they end within the message.
+#[test]
+fn a_stream_is_cut_at_each_byte(rt: HostRuntime) -> Result<(), Fail> {
+    let alloc = rt.alloc();
+    for at in 1..15_u32 {
+        assert!(rt; is_whole(alloc, at)?, "in two pieces at {at}");
+        let front = &FRAMED[..at as usize];
+        assert!(rt;
+            ends_behind(alloc, front, PortAnswer::Failed)?,
+            "ended at {at}"
+        );
+    }
     Ok(())
 }
 
