@@ -1,5 +1,5 @@
 //! Tests of the parts of a running hub, over their public contracts alone: ended histories, permits, locks with a key,
-//! jobs of places, ports, snapshots, and the hub that ingesters and readers share.
+//! jobs of places, snapshots, and the hub that ingesters and readers share.
 //!
 //! Each test is proved safe, and then run. Those of snapshots and of the shared hub run threads beside one another, and
 //! what their threads tell is the same whatever the schedule was.
@@ -17,10 +17,6 @@ mod histories;
 mod ingesting;
 #[cfg(test)]
 mod looking;
-#[cfg(test)]
-mod polling;
-#[cfg(test)]
-mod ports;
 #[cfg(test)]
 mod sharing;
 #[cfg(test)]

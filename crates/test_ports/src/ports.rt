@@ -1,48 +1,11 @@
 //! Ports, one ask after another, with ample memory.
 
-ghost use Rattle.std.specs.Prelude.{◌≤◌, IfOk};
-ghost use Rattle.feed_defs.specs.History.{longest_message};
-ghost use Rattle.hub_outside.specs.Buffer.{room_of};
-
-use feed_port::{
-    FeedPort, LONGEST_MESSAGE, MemoryPort, NoMemory, PortAnswer, SpoolPort, StreamPort,
-};
-use hub_outside::{Buf, MemoryFile, MemoryFiles, MemorySource};
+use crate::given::{buffer, comes_to, copy, hands_in};
+use feed_port::{MemoryPort, NoMemory, PortAnswer, SpoolPort, StreamPort};
+use hub_outside::{MemoryFile, MemoryFiles, MemorySource};
 use rt_types::Text;
 use std::alloc::Global;
 use std::test::Fail;
-
-/// A buffer with room for a message.
-fn buffer(alloc: Global) -> Result<Buf, NoMemory>
-    ensures { IfOk result (λ into. longest_message ≤ room_of into) }
-{
-    let mut into = Buf::new(alloc);
-    into.reserve(LONGEST_MESSAGE)?;
-    Ok(into)
-}
-
-/// A copy of the bytes.
-fn copy(alloc: Global, bytes: &[u8]) -> Result<Vec<u8>, NoMemory> {
-    let mut same = Vec::new(alloc);
-    same.extend_from_slice(bytes)?;
-    Ok(same)
-}
-
-/// Whether the next ask hands in that message.
-fn hands_in<P: FeedPort>(port: &mut P, into: &mut Buf, message: &[u8]) -> bool
-    requires { longest_message ≤ room_of into.old }
-    ensures { longest_message ≤ room_of into.new }
-{
-    port.next(into) == PortAnswer::Message && into.as_slice() == message
-}
-
-/// Whether the next ask comes to that.
-fn comes_to<P: FeedPort>(port: &mut P, into: &mut Buf, answer: PortAnswer) -> bool
-    requires { longest_message ≤ room_of into.old }
-    ensures { longest_message ≤ room_of into.new }
-{
-    port.next(into) == answer
-}
 
 /// Whether a port of two messages, whose second ask fails, hands in both.
 fn memory(alloc: Global) -> Result<bool, NoMemory> {

@@ -1,10 +1,11 @@
 //! Polling ports, over links in memory, with ample memory.
 
-ghost use Rattle.std.specs.Prelude.{◌≤◌, IfOk};
+ghost use Rattle.std.specs.Prelude.{◌≤◌};
 ghost use Rattle.feed_defs.specs.History.{longest_message};
 ghost use Rattle.hub_outside.specs.Buffer.{room_of};
 
-use feed_port::{FeedPort, LONGEST_MESSAGE, NoMemory, PortAnswer};
+use crate::given::{buffer, comes_to, copy, hands_in};
+use feed_port::{LONGEST_MESSAGE, NoMemory, PortAnswer};
 use hub_outside::{Buf, MemoryDoor, MemoryLink, MemorySink, MemorySource};
 use poll_port::PollPort;
 use std::alloc::Global;
@@ -12,22 +13,6 @@ use std::test::Fail;
 
 /// A reply with the bytes `fed` as its message.
 const FED: &[u8] = b"HTTP/1.1 200 OK\r\nContent-Length: 3\r\n\r\nfed";
-
-/// A buffer with room for a message.
-fn buffer(alloc: Global) -> Result<Buf, NoMemory>
-    ensures { IfOk result (λ into. longest_message ≤ room_of into) }
-{
-    let mut into = Buf::new(alloc);
-    into.reserve(LONGEST_MESSAGE)?;
-    Ok(into)
-}
-
-/// A copy of the bytes.
-fn copy(alloc: Global, bytes: &[u8]) -> Result<Vec<u8>, NoMemory> {
-    let mut same = Vec::new(alloc);
-    same.extend_from_slice(bytes)?;
-    Ok(same)
-}
 
 /// A link on which these bytes come, the first of them in pieces.
 fn link(alloc: Global, bytes: &[u8]) -> Result<MemoryLink, NoMemory> {
@@ -44,22 +29,6 @@ fn port(alloc: Global, links: Vec<MemoryLink>, tries: u32) -> Result<PollPort<Me
 {
     let door = MemoryDoor::new(alloc, links, Vec::new(alloc))?;
     PollPort::new(alloc, door, "agency:80", "/feed", 0, tries)
-}
-
-/// Whether the next ask hands in that message.
-fn hands_in<P: FeedPort>(port: &mut P, into: &mut Buf, message: &[u8]) -> bool
-    requires { longest_message ≤ room_of into.old }
-    ensures { longest_message ≤ room_of into.new }
-{
-    port.next(into) == PortAnswer::Message && into.as_slice() == message
-}
-
-/// Whether the next ask comes to that.
-fn comes_to<P: FeedPort>(port: &mut P, into: &mut Buf, answer: PortAnswer) -> bool
-    requires { longest_message ≤ room_of into.old }
-    ensures { longest_message ≤ room_of into.new }
-{
-    port.next(into) == answer
 }
 
 /// A message, a 404, and a message that goes to the end of its connection.
