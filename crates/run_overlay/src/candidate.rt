@@ -1,7 +1,8 @@
 //! Updates about runs, by their runs, those of one run as they count.
 
 ghost use Rattle.std.specs.Prelude.{◌≡◌};
-ghost use Rattle.std.specs.Ordering.{ordering_then};
+ghost use Rattle.std.specs.Cmp.Lexicographic.{slice_cmp};
+ghost use Rattle.std.specs.Ordering.{nat_cmp, ordering_then};
 
 use crate::NoMemory;
 use crate::mention::Mention;
@@ -33,11 +34,15 @@ pub(crate) struct FirstOf {
     pub(crate) run: Run,
 }
 
-/// By the one, then by the next, then by the last.
-pub(crate) fn in_turn(first: Ordering, second: Ordering, third: Ordering) -> Ordering
-    ensures { result ≡ ordering_then first (ordering_then second third) }
+/// By how the stamps of two updates stand, and then by their ids. Ids are compared only where that is needed.
+fn by_weight(stamps: Ordering, id: &str, other: &str) -> Ordering
+    ensures { result ≡ ordering_then stamps (slice_cmp nat_cmp id.now other.now) }
 {
-    first.then(second.then(third))
+    match stamps {
+        Ordering::Less => Ordering::Less,
+        Ordering::Greater => Ordering::Greater,
+        Ordering::Equal => id.cmp(other),
+    }
 }
 
 impl Copied for Candidate {
@@ -61,11 +66,15 @@ impl Keyed for Candidate {
     ghost key_cmp = { candidate_cmp };
 
     fn order(&self, other: &Self) -> Ordering {
-        in_turn(
-            self.mention.run.cmp(&other.mention.run),
-            other.mention.stamp.cmp(&self.mention.stamp),
-            other.id.order(self.id.as_str()),
-        )
+        match self.mention.run.cmp(&other.mention.run) {
+            Ordering::Less => Ordering::Less,
+            Ordering::Greater => Ordering::Greater,
+            Ordering::Equal => by_weight(
+                other.mention.stamp.cmp(&self.mention.stamp),
+                other.id.as_str(),
+                self.id.as_str(),
+            ),
+        }
     }
 
     ghost total = { candidates_total };
@@ -79,11 +88,15 @@ impl<'a> KeyFor<Candidate> for CandidateAt<'a> {
     ghost sought = { λ c. (c.mention.run, Some (c.mention.stamp, c.id.now)) };
 
     fn order_of(&self, candidate: &Candidate) -> Ordering {
-        in_turn(
-            candidate.mention.run.cmp(&self.mention.run),
-            self.mention.stamp.cmp(&candidate.mention.stamp),
-            self.id.cmp(candidate.id.as_str()),
-        )
+        match candidate.mention.run.cmp(&self.mention.run) {
+            Ordering::Less => Ordering::Less,
+            Ordering::Greater => Ordering::Greater,
+            Ordering::Equal => by_weight(
+                self.mention.stamp.cmp(&candidate.mention.stamp),
+                self.id,
+                candidate.id.as_str(),
+            ),
+        }
     }
 }
 

@@ -1,12 +1,12 @@
 //! Departures in the order of their stops.
 
 ghost use Rattle.std.specs.Prelude.{◌≡◌};
+ghost use Rattle.std.specs.Ordering.{ordering_then};
 ghost use Rattle.run_overlay.specs.Keys as rule;
 ghost use Rattle.run_overlay.specs.Live.{slot_cmp};
 ghost use Rattle.run_overlay.specs.Turning.{same_row};
 
 use crate::NoMemory;
-use crate::candidate::in_turn;
 use crate::slot::LiveSlot;
 use copying::Copied;
 use shared_list::{KeyFor, Keyed};
@@ -40,6 +40,13 @@ fn key_of(row: &LiveRow) -> RowKey
         day: row.slot.run.day,
         place: row.slot.place,
     }
+}
+
+/// By the one, then by the next, then by the last.
+fn in_turn(first: Ordering, second: Ordering, third: Ordering) -> Ordering
+    ensures { result ≡ ordering_then first (ordering_then second third) }
+{
+    first.then(second.then(third))
 }
 
 /// By the expected instant, the trip, the day and the place. Most departures of a stop differ in the first.
