@@ -5,11 +5,11 @@ ghost use Rattle.std.specs.Io.{StartsWith};
 ghost use Rattle.std.specs.List.{flat_map};
 ghost use Rattle.board_text_defs.specs.Lines.{line_of_fields};
 ghost use Rattle.board_text_defs.specs.BoardText.{board_text, board_columns, row_line};
-ghost use Rattle.board_text.specs.Fields.{worded};
+ghost use Rattle.board_text.specs.Fields.{texts_of, worded, IsPlain};
 
 use crate::NoMemory;
 use crate::cells::number_text;
-use crate::lines::push_line;
+use crate::lines::{push_line, push_plain};
 use crate::words::word_of;
 use board_defs::Row;
 use itoa::Buffer;
@@ -97,7 +97,8 @@ fn push_row(row: &Row, out: &mut Vec<u8>) -> Result<(), NoMemory>
     )
 }
 
-/// Appends the line of a row, whose numbers are spelled already.
+/// Appends the line of a row, whose numbers are spelled already. Words of our own and numbers have no control
+/// characters and are not looked through.
 fn push_cells<'a>(
     expected: &'a str,
     scheduled: &'a str,
@@ -105,17 +106,25 @@ fn push_cells<'a>(
     row: &'a Row,
     out: &mut Vec<u8>,
 ) -> Result<(), NoMemory>
+    requires expected { IsPlain expected.now }
+    requires scheduled { IsPlain scheduled.now }
+    requires delay { IsPlain delay.now }
     ensures written { OnOk result (out.new.items ≡ out.old.items
         ++ line_of_fields (expected.now ∷ scheduled.now ∷ delay.now ∷ worded row.now)) }
     ensures begins { StartsWith out.new.items out.old.items }
 {
     let state: &'a str = word_of(row.state);
+    push_plain(&[expected, scheduled, delay, state], out)?;
+    push_texts(row, out)
+}
+
+/// Appends the texts of a row, as a line.
+fn push_texts(row: &Row, out: &mut Vec<u8>) -> Result<(), NoMemory>
+    ensures written { OnOk result (out.new.items ≡ out.old.items ++ line_of_fields (texts_of row.now)) }
+    ensures begins { StartsWith out.new.items out.old.items }
+{
     push_line(
         &[
-            expected,
-            scheduled,
-            delay,
-            state,
             row.route.as_str(),
             row.headsign.as_str(),
             row.trip.as_str(),

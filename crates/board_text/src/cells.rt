@@ -3,13 +3,15 @@
 ghost use Rattle.std.specs.Prelude.{◌≡◌};
 ghost use Rattle.board_text_defs.specs.Alerts as rule;
 ghost use Rattle.board_text_defs.specs.Lines.{number_or_dash};
+ghost use Rattle.board_text.specs.Fields.{IsPlain};
 
 use itoa::Buffer;
 use sched_types::NamedFeed;
 
 /// The number in decimal digits, or `-` where it is absent.
 pub(crate) fn number_text(number: Option<i64>, buffer: &mut Buffer) -> &str
-    ensures { result.now ≡ number_or_dash number }
+    ensures text { result.now ≡ number_or_dash number }
+    ensures plain { IsPlain result.now }
 {
     match number {
         Some(number) => buffer.format(number),

@@ -6,7 +6,7 @@ ghost use Rattle.std.specs.Io.{StartsWith};
 ghost use Rattle.std.specs.List.{flat_map, list_any};
 ghost use Rattle.text_defs.specs.Cleaned.{cleaned_text};
 ghost use Rattle.board_text_defs.specs.Lines.{between_tabs, line_of_fields};
-ghost use Rattle.board_text.specs.Fields.{after_tab};
+ghost use Rattle.board_text.specs.Fields.{after_tab, before_tab};
 
 use crate::NoMemory;
 use texts::push_cleaned;
@@ -70,4 +70,17 @@ fn has_control(field: &[u8]) -> bool
     ensures { result ≡ list_any is_ascii_control field.now }
 {
     field.iter().any(|byte| byte.is_ascii_control())
+}
+
+/// Appends fields as they are, each with a tab behind it.
+pub(crate) fn push_plain(fields: &[&str], out: &mut Vec<u8>) -> Result<(), NoMemory>
+    ensures written { OnOk result (out.new.items
+        ≡ out.old.items ++ flat_map before_tab (map (λ field. field.now) fields.now)) }
+    ensures begins { StartsWith out.new.items out.old.items }
+{
+    for field in fields {
+        out.extend_from_slice(field.as_bytes())?;
+        out.push(b'\t')?;
+    }
+    Ok(())
 }
