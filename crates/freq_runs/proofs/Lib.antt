@@ -1,0 +1,6 @@
+mod Ranges
+mod Digits
+mod Places
+mod Known
+mod RowByRow
+mod Examples

@@ -1,0 +1,3 @@
+pub mod Trips
+pub mod Faults
+pub mod Known
