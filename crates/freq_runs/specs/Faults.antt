@@ -35,7 +35,8 @@ comes_again before (id ∷ ids) = has_id before id || comes_again (before ++ id 
 unfoldable pub fault_of : List (List ℕ) → List Derived → List Derived → ℕ → Option DeriveFault
 fault_of taken before trips row =
     if nat_lt most_places (places_in before + places_in trips) then Some TooMany
-    else (if comes_again (taken ++ ids_of before) (ids_of trips) then Some (Duplicate row) else None)
+    else (if comes_again (taken ++ ids_of before) (ids_of trips)
+    then Some (Duplicate row) else None)
 
 -- the first fault of rows, where `before` were derived of the rows before them
 unfoldable pub first_fault : List Pattern → List (List ℕ) → List Derived → List Frequency

@@ -10,7 +10,8 @@ use Rattle.std.specs.declared.string.String.{String}
 use Rattle.freq_runs.specs.Faults.{has_id}
 
 -- just these ids are keys of the map
-pub record AreKeys {V : Type 0} (map : BTreeMap (Bor (List ℕ)) V) (ids : List (List ℕ)) : Type 0 where
+pub record AreKeys {V : Type 0} (map : BTreeMap (Bor (List ℕ)) V) (ids : List (List ℕ))
+    : Type 0 where
   pub found : (id : List ℕ) → is_some (get_by (λ key. slice_cmp nat_cmp id key.now) map)
       ≡ has_id ids id
 

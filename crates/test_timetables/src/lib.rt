@@ -1,8 +1,10 @@
 //! Tests of timetables: of the rows of their files, their zones and days, their look-ups, the loading of
-//! folders, the departures of a stop, which trip an update means, and what it tells of each place.
+//! folders, trips by headway, the departures of a stop, which trip an update means, and what it tells of
+//! each place.
 //!
-//! They call `gtfs_rows`, `service_day`, `sched_types`, `sched_load_defs`, `sched_load`, `stop_index`,
-//! `trip_match` and `delay_rule` by their public contracts. Every test is proved safe, and then it is run.
+//! They call `gtfs_rows`, `service_day`, `sched_types`, `freq_runs`, `sched_load_defs`, `sched_load`,
+//! `stop_index`, `trip_match` and `delay_rule` by their public contracts. Every test is proved safe, and
+//! then it is run.
 #![tactic(auto)]
 
 #[cfg(test)]
@@ -19,6 +21,8 @@ mod file_names;
 mod folders;
 #[cfg(test)]
 mod forms;
+#[cfg(test)]
+mod frequencies;
 #[cfg(test)]
 mod matching;
 #[cfg(test)]
