@@ -75,7 +75,11 @@ fn no_rows_derive_no_trips(rt: HostRuntime) -> Result<(), Fail> {
 fn an_id_may_come_once(rt: HostRuntime) -> Result<(), Fail> {
     let taken = shown(rt.alloc(), "T2@09:30:00", &[row(2, 34_260, 1800)])?;
     assert_eq!(rt; taken.as_str(), "Err(Duplicate { row: 2 })");
-    let again = shown(rt.alloc(), "T2", &[row(2, 34_260, 1800), row(3, 34_260, 1800)])?;
+    let again = shown(
+        rt.alloc(),
+        "T2",
+        &[row(2, 34_260, 1800), row(3, 34_260, 1800)],
+    )?;
     assert_eq!(rt; again.as_str(), "Err(Duplicate { row: 3 })");
     Ok(())
 }
