@@ -9,6 +9,7 @@ ghost use Rattle.run_departures.specs.Departures.{as_row, IsThere};
 use crate::NoMemory;
 use board_defs::Row;
 use board_parts::{route_name, stop_id};
+use itoa::Buffer;
 use rt_types::Text;
 use run_departures::Departure;
 use sched_types::Plan;
@@ -43,8 +44,8 @@ fn trip_id(plan: &Plan, trip: u32) -> &str
 fn decimal_text(alloc: Global, number: u32) -> Result<Text, NoMemory>
     ensures { IfOk result (λ text. text ≡ decimal number) }
 {
-    let text = format!(in alloc; "{number}")?;
-    Text::new(alloc, text.as_str())
+    let mut buffer = Buffer::new();
+    Text::new(alloc, buffer.format(number))
 }
 
 /// The date of a day, in eight digits; or want of memory.
