@@ -20,6 +20,7 @@ fn main(rt: HostRuntime) -> ExitCode {
             SystemPort::Nothing(port) => Ok(Box::new(alloc, port)?),
             SystemPort::Spool(port) => Ok(Box::new(alloc, port)?),
             SystemPort::Stream(port) => Ok(Box::new(alloc, port)?),
+            SystemPort::Poll(port) => Ok(Box::new(alloc, port)?),
         }
     };
     ExitCode::from(run_program(&rt, &boxed, rt.stdin(), io::writer(&rt), rt.stderr()))

@@ -11,7 +11,9 @@ ghost use Rattle.hub_config.specs.Seen.{absent_seen};
 ghost use Rattle.hub_config.specs.Answer.{PassesUnless};
 
 use crate::rule::{Absent, keys, rule_for};
-use crate::value::{number_of, tables_of, text_of, value_at};
+use crate::value::{
+    is_poll_place, is_polled, number_of, port_of, tables_of, text_at, text_of, value_at,
+};
 use hub_config_defs::{ConfFault, ConfWhy, FeedConf, Holds, Key, ScheduleConf, TableName};
 use rt_types::Text;
 use std::alloc::Global;
@@ -89,6 +91,19 @@ impl Absent {
     }
 }
 
+/// Whether a table says of a feed that it is polled, and no place for that.
+fn is_unfit_place(key: Key, table: &Table) -> bool
+    ensures { result ≡ faults.is_unfit_place key (table_view table.now) }
+{
+    match key {
+        Key::Place => {
+            is_polled(port_of(text_at(table, Key::Kind)))
+                && !is_poll_place(text_at(table, Key::Place))
+        }
+        _ => false,
+    }
+}
+
 /// What is wrong with a key of a table.
 #[tactic(auto, unfolding(hub_config_defs::specs::Faults::key_fault))]
 fn key_fault(
@@ -99,6 +114,9 @@ fn key_fault(
 ) -> Option<ConfWhy>
     ensures { result ≡ faults.key_fault key (table_view table.now) schedules.now feeds.now }
 {
+    if is_unfit_place(key, table) {
+        return Some(ConfWhy::Bad);
+    }
     let rule = rule_for(key);
     match value_at(table, rule.name) {
         Some(value) => value_fault(rule.holds, value, schedules, feeds),

@@ -100,6 +100,9 @@ fn feed_of(alloc: Global, table: &Table, schedules: &[ScheduleConf]) -> Result<F
         kind: port_of(text_at(table, Key::Kind)).unwrap_or(PortKind::Nothing),
         place: Text::new(alloc, text_at(table, Key::Place))?,
         max_age: u64::from(number_at(table, Key::MaxAge)),
+        every: u64::from(number_at(table, Key::Every)),
+        polls: u64::from(number_at(table, Key::Polls)),
+        tries: number_at(table, Key::Tries),
     })
 }
 

@@ -69,6 +69,9 @@ pub fn rule_for(key: Key) -> Rule
         Key::Kind => Rule::new("kind", Holds::Port, Absent::Text("none")),
         Key::Place => Rule::new("place", Holds::AnyText, Absent::Text("")),
         Key::MaxAge => Rule::new("max_age", Holds::Number(0, 31_622_400), Absent::Number(0)),
+        Key::Every => Rule::new("every", Holds::Number(1, 86_400), Absent::Number(10)),
+        Key::Polls => Rule::new("polls", Holds::Number(0, 1_000_000_000), Absent::Number(0)),
+        Key::Tries => Rule::new("tries", Holds::Number(1, 1000), Absent::Number(10)),
     }
 }
 
@@ -89,12 +92,15 @@ static SCHEDULE_KEYS: [Key; 6] = [
     Key::Prefix,
 ];
 
-static FEED_KEYS: [Key; 5] = [
+static FEED_KEYS: [Key; 8] = [
     Key::FeedName,
     Key::FeedSchedule,
     Key::Kind,
     Key::Place,
     Key::MaxAge,
+    Key::Every,
+    Key::Polls,
+    Key::Tries,
 ];
 
 /// The keys of such a table, in the order in which they are judged.

@@ -58,9 +58,51 @@ pub fn port_of(text: &str) -> Option<PortKind>
         Some(PortKind::Spool)
     } else if text == "stream" {
         Some(PortKind::Stream)
+    } else if text == "poll" {
+        Some(PortKind::Poll)
     } else {
         None
     }
+}
+
+/// Whether messages come as replies to polls.
+pub fn is_polled(kind: Option<PortKind>) -> bool
+    ensures { result ≡ values.is_polled kind }
+{
+    match kind {
+        Some(PortKind::Poll) => true,
+        _ => false,
+    }
+}
+
+fn is_visible(byte: u8) -> bool
+    ensures { result ≡ values.is_visible byte }
+{
+    33 <= byte && byte <= 126
+}
+
+fn are_visible(bytes: &[u8]) -> bool
+    ensures { result ≡ list_all values.is_visible bytes.now }
+{
+    bytes.iter().all(|byte| is_visible(*byte))
+}
+
+/// Whether a `/` stands behind at least one byte.
+fn has_path(bytes: &[u8]) -> bool
+    ensures { result ≡ values.has_path bytes.now }
+{
+    match bytes {
+        [_, behind @ ..] => behind.contains(&b'/'),
+        [] => false,
+    }
+}
+
+/// Whether a text is the place of a feed that is polled: a host and a path in visible ASCII.
+#[tactic(auto, unfolding(hub_config_defs::specs::Values::is_poll_place))]
+pub fn is_poll_place(text: &str) -> bool
+    ensures { result ≡ values.is_poll_place text.now }
+{
+    are_visible(text.as_bytes()) && has_path(text.as_bytes())
 }
 
 /// The number that a value says, where its key may hold that.

@@ -207,8 +207,8 @@ some_schedule ms ss fs h = named_right (codes "schedule") (get_member (codes "sc
 feed_key_right : (ms : Members) (ss : List ScheduleConf) (fs : List FeedConf) → wrong_in (keys_of Feed) ms ss fs ≡ None → key_fault key.FeedSchedule ms ss fs ≡ None
 unfolding keys_of
 feed_key_right ms ss fs h =
-    let (n, after_name) = wrong_step key.FeedName (key.FeedSchedule ∷ key.Kind ∷ key.Place ∷ key.MaxAge ∷ []) ms ss fs h in
-    (wrong_step key.FeedSchedule (key.Kind ∷ key.Place ∷ key.MaxAge ∷ []) ms ss fs after_name).0
+    let (n, after_name) = wrong_step key.FeedName (key.FeedSchedule ∷ key.Kind ∷ key.Place ∷ key.MaxAge ∷ key.Every ∷ key.Polls ∷ key.Tries ∷ []) ms ss fs h in
+    (wrong_step key.FeedSchedule (key.Kind ∷ key.Place ∷ key.MaxAge ∷ key.Every ∷ key.Polls ∷ key.Tries ∷ []) ms ss fs after_name).0
 
 feed_wrong_none : (ms : Members) (ss : List ScheduleConf) (fs : List FeedConf) → first_wrong Feed ms ss fs ≡ None → wrong_in (keys_of Feed) ms ss fs ≡ None
 unfolding first_wrong
@@ -378,7 +378,7 @@ schedule_name_right ms ss fs h =
 feed_name_right : (ms : Members) (ss : List ScheduleConf) (fs : List FeedConf) → wrong_in (keys_of Feed) ms ss fs ≡ None
     → (is_name (text_at key.FeedName ms) ≡ true) × (has_feed (text_at key.FeedName ms) fs ≡ false)
 unfolding keys_of key_fault rule_of text_at
-feed_name_right ms ss fs h = new_feed (codes "name") (get_member (codes "name") ms) ss fs (wrong_step key.FeedName (key.FeedSchedule ∷ key.Kind ∷ key.Place ∷ key.MaxAge ∷ []) ms ss fs h).0
+feed_name_right ms ss fs h = new_feed (codes "name") (get_member (codes "name") ms) ss fs (wrong_step key.FeedName (key.FeedSchedule ∷ key.Kind ∷ key.Place ∷ key.MaxAge ∷ key.Every ∷ key.Polls ∷ key.Tries ∷ []) ms ss fs h).0
 
 -- an item of a list with one more at its end
 last_or : {A : Type 0} (xs : List A) (x y : A) (i : ℕ) → slice_get (xs ++ x ∷ []) i ≡ Some y → (slice_get xs i ≡ Some y) ⊎ ((i ≡ length xs) × (x ≡ y))

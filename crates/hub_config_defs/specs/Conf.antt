@@ -50,6 +50,9 @@ feed_of schedules ms = record {
   kind = unwrap_or (port_of (text_at key.Kind ms)) Nothing;
   place = text_at key.Place ms;
   max_age = number_at key.MaxAge ms;
+  every = number_at key.Every ms;
+  polls = number_at key.Polls ms;
+  tries = number_at key.Tries ms;
 }
 
 -- a row of `schedule`, behind those before it

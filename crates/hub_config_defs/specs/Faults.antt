@@ -1,5 +1,5 @@
 -- The first fault of a table.
-use Rattle.std.specs.Prelude.{ℕ, List, [], ◌∷◌, Bool, ◌||◌, if◌then◌else◌, Option, Some, None}
+use Rattle.std.specs.Prelude.{ℕ, List, [], ◌∷◌, Bool, false, ◌||◌, ◌&&◌, not, if◌then◌else◌, Option, Some, None}
 use Rattle.std.specs.List.{list_any}
 use Rattle.std.specs.Option.{is_some, option_map, option_or}
 use Rattle.std.specs.Str.{bytes_eq}
@@ -12,10 +12,11 @@ use Rattle.hub_config_defs.specs.declared.fault.ConfWhy.TheVariants.{Unknown, Mi
 use Rattle.hub_config_defs.specs.declared.fault.ConfFault.{ConfFault}
 use Rattle.hub_config_defs.specs.declared.fault.ConfFault.TheVariants as fault
 use Rattle.hub_config_defs.specs.declared.rule.Key.{Key}
+use Rattle.hub_config_defs.specs.declared.rule.Key.TheVariants.{Kind, Place}
 use Rattle.hub_config_defs.specs.declared.rule.Holds.{Holds}
 use Rattle.hub_config_defs.specs.declared.rule.Holds.TheVariants.{NewSchedule, NewFeed, KnownSchedule}
 use Rattle.hub_config_defs.specs.Rules.{Default, required, Rule, rule_of, keys_of}
-use Rattle.hub_config_defs.specs.Values.{number_of, text_of, tables_of}
+use Rattle.hub_config_defs.specs.Values.{number_of, text_of, tables_of, text_at, port_of, is_polled, is_poll_place}
 
 -- a schedule, or a feed, among these has the name
 abbrev pub has_schedule : List ℕ → List ScheduleConf → Bool
@@ -58,10 +59,17 @@ abbrev pub found_fault : Rule → Option Data → List ScheduleConf → List Fee
 found_fault rule None schedules feeds = absent_fault rule.absent
 found_fault rule (Some d) schedules feeds = value_fault rule.holds d schedules feeds
 
+-- a table says of a feed that it is polled, and no place for that
+abbrev pub is_unfit_place : Key → Members → Bool
+is_unfit_place Place ms =
+    is_polled (port_of (text_at Kind ms)) && not (is_poll_place (text_at Place ms))
+is_unfit_place _ ms = false
+
 -- what is wrong with a key of a table
 unfoldable pub key_fault : Key → Members → List ScheduleConf → List FeedConf → Option ConfWhy
 key_fault key ms schedules feeds =
-    found_fault (rule_of key) (get_member (rule_of key).name ms) schedules feeds
+    if is_unfit_place key ms then Some Bad
+    else found_fault (rule_of key) (get_member (rule_of key).name ms) schedules feeds
 
 -- the name is the key's, and that of one of the keys
 abbrev pub has_name : List ℕ → Key → Bool

@@ -3,7 +3,7 @@ use Rattle.std.specs.Prelude.{ℕ, List, [], ◌∷◌, codes}
 use Rattle.hub_config_defs.specs.declared.fault.TableName.{TableName}
 use Rattle.hub_config_defs.specs.declared.fault.TableName.TheVariants.{Top, Schedule, Feed}
 use Rattle.hub_config_defs.specs.declared.rule.Key.{Key}
-use Rattle.hub_config_defs.specs.declared.rule.Key.TheVariants.{Readers, Listen, Connections, Schedules, Feeds, ScheduleName, Folder, Zone, First, Days, Prefix, FeedName, FeedSchedule, Kind, Place, MaxAge}
+use Rattle.hub_config_defs.specs.declared.rule.Key.TheVariants.{Readers, Listen, Connections, Schedules, Feeds, ScheduleName, Folder, Zone, First, Days, Prefix, FeedName, FeedSchedule, Kind, Place, MaxAge, Every, Polls, Tries}
 use Rattle.hub_config_defs.specs.declared.rule.Holds.{Holds}
 use Rattle.hub_config_defs.specs.declared.rule.Holds.TheVariants.{Number, Date, AnyText, ShortText, NewSchedule, NewFeed, KnownSchedule, Port, Tables}
 
@@ -46,9 +46,12 @@ rule_of FeedSchedule = record { name = codes "schedule"; holds = KnownSchedule; 
 rule_of Kind = record { name = codes "kind"; holds = Port; absent = text (codes "none") }
 rule_of Place = record { name = codes "place"; holds = AnyText; absent = text [] }
 rule_of MaxAge = record { name = codes "max_age"; holds = Number 0 31622400; absent = number 0 }
+rule_of Every = record { name = codes "every"; holds = Number 1 86400; absent = number 10 }
+rule_of Polls = record { name = codes "polls"; holds = Number 0 1000000000; absent = number 0 }
+rule_of Tries = record { name = codes "tries"; holds = Number 1 1000; absent = number 10 }
 
 -- the keys of a table, in the order in which they are judged
 unfoldable pub keys_of : TableName → List Key
 keys_of Top = Readers ∷ Listen ∷ Connections ∷ Schedules ∷ Feeds ∷ []
 keys_of Schedule = ScheduleName ∷ Folder ∷ Zone ∷ First ∷ Days ∷ Prefix ∷ []
-keys_of Feed = FeedName ∷ FeedSchedule ∷ Kind ∷ Place ∷ MaxAge ∷ []
+keys_of Feed = FeedName ∷ FeedSchedule ∷ Kind ∷ Place ∷ MaxAge ∷ Every ∷ Polls ∷ Tries ∷ []

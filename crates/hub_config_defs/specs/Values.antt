@@ -1,6 +1,7 @@
 -- What the value at a key says: a number, a text or tables, where it says what its key may hold.
-use Rattle.std.specs.Prelude.{ℕ, ◌+◌, List, [], length, Bool, true, false, ◌&&◌, nat_le, if◌then◌else◌, Option, Some, None, ℤ, pos, negsuc}
+use Rattle.std.specs.Prelude.{ℕ, ◌+◌, ◌==◌, List, [], ◌∷◌, length, take, drop, Bool, true, false, ◌&&◌, nat_le, if◌then◌else◌, Option, Some, None, ℤ, pos, negsuc}
 use Rattle.std.specs.Option.{option_and_then, unwrap_or, is_some}
+use Rattle.std.specs.List.{list_all, list_any, position_or_len}
 use Rattle.std.specs.Str.{bytes_eq}
 use Rattle.std.specs.Prelude.{codes}
 use Rattle.text_defs.specs.Names.{is_name}
@@ -10,7 +11,7 @@ use Rattle.hub_config_defs.specs.declared.rule.Key.{Key}
 use Rattle.hub_config_defs.specs.declared.rule.Holds.{Holds}
 use Rattle.hub_config_defs.specs.declared.rule.Holds.TheVariants.{Number, Date, AnyText, ShortText, NewSchedule, NewFeed, KnownSchedule, Port, Tables}
 use Rattle.hub_config_defs.specs.declared.conf.PortKind.{PortKind}
-use Rattle.hub_config_defs.specs.declared.conf.PortKind.TheVariants.{Nothing, Spool, Stream}
+use Rattle.hub_config_defs.specs.declared.conf.PortKind.TheVariants.{Nothing, Spool, Stream, Poll}
 use Rattle.hub_config_defs.specs.Rules.{Default, number, text, rule_of}
 
 -- the number, where it lies from the least to the most
@@ -32,7 +33,38 @@ unfoldable pub port_of : List ℕ → Option PortKind
 port_of t =
     if bytes_eq t (codes "none") then Some Nothing
     else (if bytes_eq t (codes "spool") then Some Spool
-    else (if bytes_eq t (codes "stream") then Some Stream else None))
+    else (if bytes_eq t (codes "stream") then Some Stream
+    else (if bytes_eq t (codes "poll") then Some Poll else None)))
+
+-- messages come as replies to polls
+abbrev pub is_polled : Option PortKind → Bool
+is_polled (Some Poll) = true
+is_polled _ = false
+
+-- a character of ASCII that is printed and no space
+abbrev pub is_visible : ℕ → Bool
+is_visible b = nat_le 33 b && nat_le b 126
+
+-- a `/` stands behind at least one byte
+abbrev pub has_path : List ℕ → Bool
+has_path [] = false
+has_path (b ∷ bytes) = list_any (λ c. c == 47) bytes
+
+-- the place of a feed that is polled: a host, and the path behind it, in visible ASCII
+unfoldable pub is_poll_place : List ℕ → Bool
+is_poll_place t = list_all is_visible t && has_path t
+
+-- how long its host is: up to the first `/` that stands behind at least one byte
+abbrev pub host_length : List ℕ → ℕ
+host_length [] = 0
+host_length (b ∷ bytes) = 1 + position_or_len (λ c. c == 47) bytes
+
+-- its host, and its path from the `/` on
+unfoldable pub host_of : List ℕ → List ℕ
+host_of place = take (host_length place) place
+
+unfoldable pub path_of : List ℕ → List ℕ
+path_of place = drop (host_length place) place
 
 -- the number that a value says
 unfoldable pub number_of : Holds → Data → Option ℕ

@@ -11,6 +11,8 @@ pub enum PortKind {
     Spool,
     /// Over a TCP connection.
     Stream,
+    /// As replies to a request over HTTP that is made again and again.
+    Poll,
 }
 
 /// A schedule: a timetable and the days on which it is served.
@@ -40,11 +42,18 @@ pub struct FeedConf {
     pub schedule: u32,
     /// How its messages come.
     pub kind: PortKind,
-    /// The folder that they come in, or the TCP address that they come from.
+    /// The folder that they come in, or the TCP address that they come from; of a feed that is polled
+    /// the host, perhaps with a port, and the path behind it from its `/` on.
     pub place: Text,
     /// For how many seconds from its stamp on an update or an alert counts, up to 31622400; 0 for no
     /// end.
     pub max_age: u64,
+    /// How many seconds pass before each poll but the first, 1 to 86400.
+    pub every: u64,
+    /// How many times it is polled, up to 1000000000; 0 for no end.
+    pub polls: u64,
+    /// How many polls may fail one after another before the feed has failed, 1 to 1000.
+    pub tries: u32,
 }
 
 /// The configuration of a hub.

@@ -25,6 +25,9 @@ impl Copied for FeedConf {
             kind: self.kind,
             place: self.place.copy()?,
             max_age: self.max_age,
+            every: self.every,
+            polls: self.polls,
+            tries: self.tries,
         })
     }
 }

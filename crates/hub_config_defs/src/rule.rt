@@ -19,6 +19,9 @@ pub enum Key {
     Kind,
     Place,
     MaxAge,
+    Every,
+    Polls,
+    Tries,
 }
 
 /// What a value may be.

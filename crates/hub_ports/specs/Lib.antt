@@ -1,2 +1,3 @@
+pub mod Dials
 pub mod Lines
 pub mod Opened

@@ -6,8 +6,21 @@ use Rattle.feed_port.specs.declared.stream.Stage.TheVariants.{Open}
 use Rattle.feed_port.specs.Memory.{messages_ahead}
 use Rattle.feed_port.specs.Spooling.{spool_folder, spool_number}
 use Rattle.feed_port.specs.Streams.{stage_of}
+use Rattle.hub_config_defs.specs.Values.{host_of, path_of}
+use Rattle.poll_port.specs.Polling.{new_polling}
+use Rattle.poll_port.specs.Ports.{polling_of}
+use Rattle.poll_port.specs.Requests.{request_for}
+use Rattle.poll_port.specs.declared.port.PollPort.{PollPort}
 use Rattle.hub_ports.specs.declared.opening.SystemPort.{SystemPort}
-use Rattle.hub_ports.specs.declared.opening.SystemPort.TheVariants.{Nothing, Spool, Stream}
+use Rattle.hub_ports.specs.declared.opening.SystemPort.TheVariants.{Nothing, Spool, Stream, Poll}
+
+-- The port of a feed that is polled, before its first poll: it asks the host of the feed's place for
+-- the path behind it.
+abbrev pub IsPollingPortOf : {D : Type 0} → FeedConf → PollPort D → Type 0
+IsPollingPortOf feed port =
+    polling_of port
+    ≡ new_polling (request_for (host_of feed.place) (path_of feed.place)) feed.polls
+    (max 1 feed.tries)
 
 -- The port is of the feed's kind. One with no messages has none ahead, that of a folder stands before
 -- its first file, and a stream was not read yet.
@@ -16,6 +29,7 @@ IsPortOf feed (Nothing port) = (feed.kind ≡ kind.Nothing) × (messages_ahead p
 IsPortOf feed (Spool port) =
     (feed.kind ≡ kind.Spool) × (spool_folder port ≡ feed.place) × (spool_number port ≡ 1)
 IsPortOf feed (Stream port) = (feed.kind ≡ kind.Stream) × (stage_of port ≡ Open)
+IsPortOf feed (Poll port) = (feed.kind ≡ kind.Poll) × IsPollingPortOf feed port
 
 -- as many readers as the configuration says, which allows 1 to 64
 abbrev pub reader_count : ℕ → ℕ

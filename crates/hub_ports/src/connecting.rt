@@ -8,16 +8,14 @@ use std::io::ErrorKind;
 use std::net::{Net, SocketAddr, TcpListener, TcpStream, ToSocketAddrs};
 use std::time::Duration;
 
-/// How many seconds a connection to one address may take to be made.
-const CONNECT_SECONDS: u64 = 5;
-
 /// A connection to the place, an address and a port; or why there is none. Where a name has several
-/// addresses, the last of them tells why.
+/// addresses, the last of them tells why. Each may take so many seconds to be connected to.
 pub(crate) fn connect<R: Net<Listener = TcpListener, Stream = TcpStream>>(
     rt: &R,
     place: &str,
+    seconds: u64,
 ) -> Result<TcpStream, ErrorKind> {
-    let within = Duration::from_secs(CONNECT_SECONDS);
+    let within = Duration::from_secs(seconds);
     first_of(rt, place, &|address| rt.connect_timeout(address, within))
 }
 

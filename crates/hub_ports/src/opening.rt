@@ -1,19 +1,26 @@
 //! The port of each feed.
 
-ghost use Rattle.std.specs.Prelude.{◌≡◌, length, vec_len, IfOk};
-ghost use Rattle.hub_ports.specs.Opened.{IsPortOf};
+ghost use Rattle.std.specs.Prelude.{◌≡◌, ◌==◌, ◌≤◌, max, length, vec_len, IfOk, IfSome};
+ghost use Rattle.std.specs.List.{position_or_len};
+ghost use Rattle.hub_config_defs.specs.Values.{host_length, host_of, path_of};
+ghost use Rattle.hub_ports.specs.Opened.{IsPortOf, IsPollingPortOf};
 
 use crate::NoMemory;
 use crate::connecting::connect;
 use crate::connection::Connection;
+use crate::dialing::TcpDial;
 use crate::telling::{no_connection_line, tell};
 use copying::Copied;
 use feed_port::{FeedPort, MemoryPort, SpoolPort, StreamPort};
 use hub_config_defs::{FeedConf, PortKind};
 use hub_outside::{Sink, StdFiles, StdSource};
+use poll_port::PollPort;
 use std::alloc::Global;
 use std::net::{Net, TcpListener, TcpStream};
-use std::rt;
+use std::{rt, str};
+
+/// How many seconds the connection of a stream may take to be made.
+const CONNECT_SECONDS: u64 = 5;
 
 /// The port of a feed, by the kind that the configuration gives it.
 #[derive(Drop)]
@@ -24,6 +31,8 @@ pub enum SystemPort<R> {
     Spool(SpoolPort<StdFiles<R>>),
     /// Messages come over a TCP connection.
     Stream(StreamPort<StdSource<Connection<TcpStream>>>),
+    /// Messages come as replies to polls.
+    Poll(PollPort<TcpDial<R>>),
 }
 
 /// A port for each feed, in their order, as `boxed` hands it on.
@@ -35,7 +44,7 @@ pub fn open_ports<R, P, F, E>(
     errors: &mut E,
 ) -> Result<Vec<P>, NoMemory>
 where
-    R: rt::Files + Net<Listener = TcpListener, Stream = TcpStream> + Send + Copy,
+    R: rt::Files + rt::Clock + Net<Listener = TcpListener, Stream = TcpStream> + Send + Copy,
     R::File: Send,
     R::Dir: Send,
     P: FeedPort,
@@ -51,7 +60,8 @@ where
     Ok(ports)
 }
 
-/// The port of a feed. Where its connection can't be made a line tells why, and its first ask fails.
+/// The port of a feed. Where the connection of a stream can't be made a line tells why, and its first
+/// ask fails.
 pub fn open_port<R, E>(
     rt: &R,
     alloc: Global,
@@ -59,7 +69,7 @@ pub fn open_port<R, E>(
     errors: &mut E,
 ) -> Result<SystemPort<R>, NoMemory>
 where
-    R: rt::Files + Net<Listener = TcpListener, Stream = TcpStream> + Send + Copy,
+    R: rt::Files + rt::Clock + Net<Listener = TcpListener, Stream = TcpStream> + Send + Copy,
     R::File: Send,
     R::Dir: Send,
     E: Sink,
@@ -78,7 +88,87 @@ where
             let connection = connection_of(rt, alloc, feed, errors)?;
             Ok(SystemPort::Stream(StreamPort::new(StdSource::new(connection))))
         }
+        PortKind::Poll => Ok(SystemPort::Poll(polling_port(rt, alloc, feed)?)),
     }
+}
+
+/// The port of a feed that is polled. No connection is made before its first ask.
+fn polling_port<R>(rt: &R, alloc: Global, feed: &FeedConf) -> Result<PollPort<TcpDial<R>>, NoMemory>
+where
+    R: Net<Listener = TcpListener, Stream = TcpStream> + rt::Clock + Send + Copy,
+    ensures { IfOk result (IsPollingPortOf feed.now) }
+{
+    let place = feed.place.as_str();
+    let (Some(host), Some(path)) = (host_in(place), path_in(place)) else {
+        return Err(NoMemory);
+    };
+    let dial = TcpDial::new(*rt, alloc, host, feed.every)?;
+    PollPort::new(
+        alloc,
+        dial,
+        host,
+        path,
+        feed.polls,
+        one_at_least(feed.tries),
+    )
+}
+
+/// The host of a place. There is one, since a `/` never stands within a character.
+#[tactic(auto, unfolding(hub_config_defs::specs::Values::host_of))]
+fn host_in(place: &str) -> Option<&str>
+    ensures { IfSome result (λ host. host.now ≡ host_of place.now) }
+{
+    let bytes = place.as_bytes();
+    match str::from_utf8(&bytes[..host_length(bytes)]) {
+        Ok(host) => Some(host),
+        Err(_) => None,
+    }
+}
+
+/// The path behind the host of a place, from its `/` on.
+#[tactic(auto, unfolding(hub_config_defs::specs::Values::path_of))]
+fn path_in(place: &str) -> Option<&str>
+    ensures { IfSome result (λ path. path.now ≡ path_of place.now) }
+{
+    let bytes = place.as_bytes();
+    match str::from_utf8(&bytes[host_length(bytes)..]) {
+        Ok(path) => Some(path),
+        Err(_) => None,
+    }
+}
+
+/// How many bytes of a place are its host: those in front of the first `/` that stands behind at least
+/// one byte.
+fn host_length(place: &[u8]) -> usize
+    ensures value { result ≡ host_length place.now }
+    ensures within { result ≤ length place.now }
+{
+    match place {
+        [_, behind @ ..] => 1 + slash_in(behind),
+        [] => 0,
+    }
+}
+
+/// How many bytes stand in front of the first `/`.
+fn slash_in(bytes: &[u8]) -> usize
+    ensures value { result ≡ position_or_len (λ c. c == 47) bytes.now }
+    ensures within { result ≤ length bytes.now }
+{
+    let mut front = 0;
+    for byte in bytes {
+        if *byte == b'/' {
+            return front;
+        }
+        front += 1;
+    }
+    front
+}
+
+fn one_at_least(tries: u32) -> u32
+    ensures tries { result ≡ max 1 tries }
+    ensures some { 1 ≤ result }
+{
+    tries.max(1)
 }
 
 /// The connection of a feed, and none where it can't be made, which a line tells then.
@@ -89,7 +179,7 @@ fn connection_of<R: Net<Listener = TcpListener, Stream = TcpStream>, E: Sink>(
     errors: &mut E,
 ) -> Result<Connection<TcpStream>, NoMemory> {
     let place = feed.place.as_str();
-    match connect(rt, place) {
+    match connect(rt, place, CONNECT_SECONDS) {
         Ok(stream) => Ok(Connection::Made(stream)),
         Err(cause) => {
             let line = no_connection_line(alloc, feed.name.as_str(), place, cause)?;

@@ -62,11 +62,14 @@ fn reads_its_feeds(rt: HostRuntime) -> Result<(), Fail> {
     assert_eq!(rt; feeds[1].kind, PortKind::Nothing);
     assert_eq!(rt; feeds[1].place.as_str(), "");
     assert_eq!(rt; feeds[1].max_age, 0);
+    assert_eq!(rt; feeds[1].every, 10);
+    assert_eq!(rt; feeds[1].polls, 0);
+    assert_eq!(rt; feeds[1].tries, 10);
     Ok(())
 }
 
 const FULL: &str =
-    "readers = 64\nconnections = 1000000000\nschedule = [{ name = \"a\", folder = \"f\", zone = \"UTC0\", first = \"19700201\", days = 1 }, { name = \"b_9\", folder = \"\", zone = \"\", first = \"29991231\", days = 400, prefix = \"12345678901234567890123456789012\" }]\nfeed = [{ name = \"a\", schedule = \"b_9\", kind = \"stream\", place = \"127.0.0.1:9\", max_age = 31622400 }]\n";
+    "readers = 64\nconnections = 1000000000\nschedule = [{ name = \"a\", folder = \"f\", zone = \"UTC0\", first = \"19700201\", days = 1 }, { name = \"b_9\", folder = \"\", zone = \"\", first = \"29991231\", days = 400, prefix = \"12345678901234567890123456789012\" }]\nfeed = [{ name = \"a\", schedule = \"b_9\", kind = \"poll\", place = \"127.0.0.1:9//x?y\", max_age = 31622400, every = 86400, polls = 1000000000, tries = 1000 }]\n";
 
 #[test]
 fn reads_every_key(rt: HostRuntime) -> Result<(), Fail> {
@@ -77,9 +80,12 @@ fn reads_every_key(rt: HostRuntime) -> Result<(), Fail> {
     let feeds = conf.feeds.as_slice();
     assert_eq!(rt; feeds.len(), 1);
     assert_eq!(rt; feeds[0].schedule, 1);
-    assert_eq!(rt; feeds[0].kind, PortKind::Stream);
-    assert_eq!(rt; feeds[0].place.as_str(), "127.0.0.1:9");
+    assert_eq!(rt; feeds[0].kind, PortKind::Poll);
+    assert_eq!(rt; feeds[0].place.as_str(), "127.0.0.1:9//x?y");
     assert_eq!(rt; feeds[0].max_age, 31_622_400);
+    assert_eq!(rt; feeds[0].every, 86_400);
+    assert_eq!(rt; feeds[0].polls, 1_000_000_000);
+    assert_eq!(rt; feeds[0].tries, 1000);
     Ok(())
 }
 
@@ -203,6 +209,37 @@ fn refuses_ages(rt: HostRuntime) -> Result<(), Fail> {
     ];
     for (max_age, line) in cases {
         assert!(rt; age_has(rt.alloc(), max_age, line)?, "{line}");
+    }
+    Ok(())
+}
+
+#[test]
+fn refuses_places_of_polls(rt: HostRuntime) -> Result<(), Fail> {
+    let cases: [(&str, &str); 9] = [
+        ("kind = \"poll\"\nplace = \"h/\"", "ok"),
+        ("kind = \"stream\"\nplace = \"h\"", "ok"),
+        ("kind = \"poll\"", "hub: config feed 2 place bad"),
+        (
+            "kind = \"poll\"\nplace = \"/feed\"",
+            "hub: config feed 2 place bad",
+        ),
+        (
+            "kind = \"poll\"\nplace = \"h/a b\"",
+            "hub: config feed 2 place bad",
+        ),
+        (
+            "kind = \"poll\"\nplace = 1\nevery = 0",
+            "hub: config feed 2 place bad",
+        ),
+        (
+            "every = 0\npolls = -1",
+            "hub: config feed 2 every bad",
+        ),
+        ("polls = 1000000001", "hub: config feed 2 polls bad"),
+        ("tries = 1001", "hub: config feed 2 tries bad"),
+    ];
+    for (keys, line) in cases {
+        assert!(rt; city_has(rt.alloc(), "", keys, line)?, "{line}");
     }
     Ok(())
 }

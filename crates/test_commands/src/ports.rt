@@ -7,7 +7,7 @@ use hub_ports::{SystemPort, doors_of, listen, open_port, reader_count};
 use rt_types::Text;
 use std::alloc::Global;
 use std::io::{ErrorKind, Write};
-use std::net::TcpListener;
+use std::net::{Net, TcpListener, TcpStream};
 use std::test::Fail;
 use std::{io, rt};
 
@@ -19,6 +19,9 @@ fn feed(alloc: Global, kind: PortKind, place: &str) -> Result<FeedConf, NoMemory
         kind,
         place: Text::new(alloc, place)?,
         max_age: 0,
+        every: 1,
+        polls: 1,
+        tries: 1,
     })
 }
 
@@ -39,11 +42,12 @@ fn two_asks<P: FeedPort>(
 }
 
 /// What the first two asks of a feed's port come to, whatever its kind.
-fn two_asks_of<R: rt::Files + Send + Copy>(
+fn two_asks_of<R>(
     alloc: Global,
     port: SystemPort<R>,
 ) -> Result<(PortAnswer, PortAnswer), NoMemory>
 where
+    R: rt::Files + rt::Clock + Net<Listener = TcpListener, Stream = TcpStream> + Send + Copy,
     R::File: Send,
     R::Dir: Send,
 {
@@ -51,6 +55,7 @@ where
         SystemPort::Nothing(mut port) => two_asks(alloc, &mut port),
         SystemPort::Spool(mut port) => two_asks(alloc, &mut port),
         SystemPort::Stream(mut port) => two_asks(alloc, &mut port),
+        SystemPort::Poll(mut port) => two_asks(alloc, &mut port),
     }
 }
 
@@ -112,6 +117,23 @@ fn a_connection_that_cannot_be_made_is_told(rt: HostRuntime) -> Result<(), Fail>
     );
     let line = format!(in alloc; "hub: feed b can't connect to {place}: refused\n")?;
     assert_eq!(rt; errors.bytes(), line.as_bytes());
+    Ok(())
+}
+
+#[test]
+fn a_feed_that_is_polled_fails_where_nobody_listens(rt: HostRuntime) -> Result<(), Fail> {
+    let alloc = rt.alloc();
+    let mut errors = errors_of(alloc);
+    let gone = TcpListener::bind(&rt, "127.0.0.1:0")?;
+    let place = format!(in alloc; "{}/feed", gone.local_addr()?)?;
+    drop(gone);
+    let feed = feed(alloc, PortKind::Poll, place.as_str())?;
+    let port = open_port(&rt, alloc, &feed, &mut errors)?;
+    assert_eq!(rt;
+        two_asks_of(alloc, port)?,
+        (PortAnswer::Failed, PortAnswer::Failed)
+    );
+    assert_eq!(rt; errors.bytes(), b"".as_slice());
     Ok(())
 }
 

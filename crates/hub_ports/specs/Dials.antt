@@ -1,0 +1,7 @@
+-- What clauses read of a door that dials.
+use Rattle.std.specs.Prelude.{ℕ}
+use Rattle.hub_ports.specs.declared.dialing.TcpDial.{TcpDial}
+
+-- how many of its calls failed
+abbrev pub dial_faults : {R : Type 0} → TcpDial R → ℕ
+dial_faults dial = dial.faults
