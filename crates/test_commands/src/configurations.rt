@@ -231,10 +231,7 @@ fn refuses_places_of_polls(rt: HostRuntime) -> Result<(), Fail> {
             "kind = \"poll\"\nplace = 1\nevery = 0",
             "hub: config feed 2 place bad",
         ),
-        (
-            "every = 0\npolls = -1",
-            "hub: config feed 2 every bad",
-        ),
+        ("every = 0\npolls = -1", "hub: config feed 2 every bad"),
         ("polls = 1000000001", "hub: config feed 2 polls bad"),
         ("tries = 1001", "hub: config feed 2 tries bad"),
     ];

@@ -42,10 +42,7 @@ fn two_asks<P: FeedPort>(
 }
 
 /// What the first two asks of a feed's port come to, whatever its kind.
-fn two_asks_of<R>(
-    alloc: Global,
-    port: SystemPort<R>,
-) -> Result<(PortAnswer, PortAnswer), NoMemory>
+fn two_asks_of<R>(alloc: Global, port: SystemPort<R>) -> Result<(PortAnswer, PortAnswer), NoMemory>
 where
     R: rt::Files + rt::Clock + Net<Listener = TcpListener, Stream = TcpStream> + Send + Copy,
     R::File: Send,
