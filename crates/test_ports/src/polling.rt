@@ -1,12 +1,10 @@
 //! Polling ports, over links in memory, with ample memory.
 
 ghost use Rattle.std.specs.Prelude.{◌≤◌};
-ghost use Rattle.feed_defs.specs.History.{longest_message};
-ghost use Rattle.hub_outside.specs.Buffer.{room_of};
 
 use crate::given::{buffer, comes_to, copy, hands_in};
 use feed_port::{LONGEST_MESSAGE, NoMemory, PortAnswer};
-use hub_outside::{Buf, MemoryDoor, MemoryLink, MemorySink, MemorySource};
+use hub_outside::{MemoryDoor, MemoryLink, MemorySink, MemorySource};
 use poll_port::PollPort;
 use std::alloc::Global;
 use std::test::Fail;
@@ -71,25 +69,16 @@ fn a_bad_reply_fails_without_a_further_try(rt: HostRuntime) -> Result<(), Fail> 
 }
 
 /// Whether a port over one link with these bytes comes to that.
-fn answers(
-    alloc: Global,
-    into: &mut Buf,
-    bytes: &[u8],
-    answer: PortAnswer,
-) -> Result<bool, NoMemory>
-    requires { longest_message ≤ room_of into.old }
-    ensures { longest_message ≤ room_of into.new }
-{
-    let links = vec![in alloc; link(alloc, bytes)?]?;
-    let mut port = port(alloc, links, 1)?;
-    Ok(comes_to(&mut port, into, answer))
+fn answers(alloc: Global, bytes: &[u8], answer: PortAnswer) -> Result<bool, NoMemory> {
+    let mut into = buffer(alloc)?;
+    let mut port = port(alloc, vec![in alloc; link(alloc, bytes)?]?, 1)?;
+    Ok(comes_to(&mut port, &mut into, answer))
 }
 
 /// Whether a port over each of these comes to that.
 fn all_answer(alloc: Global, replies: &[&[u8]], answer: PortAnswer) -> Result<bool, NoMemory> {
-    let mut into = buffer(alloc)?;
     for bytes in replies {
-        if !answers(alloc, &mut into, bytes, answer)? {
+        if !answers(alloc, bytes, answer)? {
             return Ok(false);
         }
     }
@@ -135,12 +124,12 @@ const COMBINED: &[u8] =
 
 /// Whether the combined feed of a hub is a message, and no cut of it is one.
 fn combined(alloc: Global) -> Result<bool, NoMemory> {
-    let mut into = buffer(alloc)?;
     for end in 0..COMBINED.len() {
-        if !answers(alloc, &mut into, &COMBINED[..end], PortAnswer::Failed)? {
+        if !answers(alloc, &COMBINED[..end], PortAnswer::Failed)? {
             return Ok(false);
         }
     }
+    let mut into = buffer(alloc)?;
     let mut port = port(alloc, vec![in alloc; link(alloc, COMBINED)?]?, 1)?;
     Ok(hands_in(&mut port, &mut into, b"\x0a\x09\x0a\x032.0\x10\x00\x18\x00"))
 }
@@ -161,12 +150,13 @@ fn endless(alloc: Global) -> Result<Vec<u8>, NoMemory> {
 
 /// Whether such a reply is too long, and the same without its last byte a message.
 fn longest(alloc: Global) -> Result<bool, NoMemory> {
-    let mut into = buffer(alloc)?;
     let mut bytes = endless(alloc)?;
     let over = PortAnswer::TooLong(LONGEST_MESSAGE as u64 + 1);
-    let above = answers(alloc, &mut into, bytes.as_slice(), over)?;
+    let above = answers(alloc, bytes.as_slice(), over)?;
     bytes.pop();
-    let whole = answers(alloc, &mut into, bytes.as_slice(), PortAnswer::Message)?;
+    let mut into = buffer(alloc)?;
+    let mut port = port(alloc, vec![in alloc; link(alloc, bytes.as_slice())?]?, 1)?;
+    let whole = comes_to(&mut port, &mut into, PortAnswer::Message);
     Ok(above && whole && into.len() == LONGEST_MESSAGE)
 }
 
