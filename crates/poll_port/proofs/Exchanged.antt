@@ -1,5 +1,5 @@
 -- What was done on a link, by its reply.
-use Rattle.std.proofs.Common.{◌≡◌, ℕ, ◌≤◌, List, [], Option, true, inl, inr, refl}
+use Rattle.std.proofs.Common.{◌≡◌, ℕ, ◌≤◌, List, Option, true, inl, inr}
 use Rattle.std.specs.Prelude.{is_some}
 use Rattle.std.specs.Io.KnownBytes.{Appends}
 use Rattle.hub_outside.specs.Doors.{Links, HandsOut, GivesBack}
@@ -7,7 +7,7 @@ use Rattle.hub_outside.specs.declared.doors.DoorAnswer.TheVariants.{Link}
 use Rattle.poll_port.specs.declared.messages.Reply.{Reply}
 use Rattle.poll_port.specs.declared.messages.Reply.TheVariants.{Message, TooLong, Unfit, Failed}
 use Rattle.poll_port.specs.Polling.{has_polls, after_link, after_reply, answer_to}
-use Rattle.poll_port.specs.Polls.{Ends, Polled, PortState, IsAsked, HasLinkCause, Exchanges, PollsLink, PollAnswers}
+use Rattle.poll_port.specs.Polls.{Ends, Polled, PortState, IsAsked, HasLinkCause, Exchanges, PollAnswers}
 use Rattle.poll_port.specs.Reading.{ReadsReply, HasReplyCause}
 
 asked : (reply : Reply) (before after : Option (List ℕ)) (request : List ℕ) → Appends before after request → IsAsked reply before after request

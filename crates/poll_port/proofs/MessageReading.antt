@@ -1,10 +1,10 @@
 -- Reading the message of a reply.
-use Rattle.std.proofs.Common.{◌≡◌, ℕ, ◌+◌, ◌-◌, ◌≤◌, ◌<◌, nat_lt, nat_le, Bool, true, false, List, [], ◌++◌, length, take, Option, None, Some, refl, sym, ap, ◌∙◌, subst, arith, length-append, append_assoc, append-nil}
-use Rattle.std.specs.Prelude.{IfSome, is_some, replicate, if◌then◌else◌}
+use Rattle.std.proofs.Common.{◌≡◌, ℕ, ◌+◌, ◌-◌, ◌≤◌, ◌<◌, nat_lt, nat_le, true, false, List, [], ◌++◌, length, take, Option, None, Some, refl, sym, ap, ◌∙◌, subst, arith, length-append, append_assoc, append-nil}
+use Rattle.std.specs.Prelude.{IfSome, is_some}
 use Rattle.std.specs.Io.KnownBytes.{Consumes, Keeps, IsAtEnd}
 use Rattle.std.proofs.KnownBytes.{Consumes-nil, Consumes-trans, Consumes-kept}
 use Rattle.std.proofs.lemmas.Bool.Decides.{nat_tests}
-use Rattle.std.proofs.lemmas.List.{take-append-le, length-take-le}
+use Rattle.std.proofs.lemmas.List.{take-append-le}
 use Rattle.std.proofs.Math.Seq.{take-append_seam}
 use Rattle.feed_defs.specs.History.{longest_message}
 use Rattle.hub_outside.specs.Buffer.{BufferContents, room_of}
@@ -15,7 +15,7 @@ use Rattle.poll_port.specs.declared.messages.Filled.TheVariants.{Whole, Ended}
 use Rattle.poll_port.specs.declared.messages.Reply.{Reply}
 use Rattle.poll_port.specs.declared.messages.Reply.TheVariants.{Message, TooLong, Unfit, Failed}
 use Rattle.poll_port.specs.Reading.{FillsUp, MeetsEnd, ReadsMessage}
-use Rattle.poll_port.specs.Replies.{sized_message, message_in, IsOver}
+use Rattle.poll_port.specs.Replies.{message_in, IsOver}
 
 abbrev Known : Type 0
 Known = Option (List ℕ)

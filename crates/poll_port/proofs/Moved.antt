@@ -1,5 +1,5 @@
 -- What the polls of a call do to the messages ahead and to the count of faults.
-use Rattle.std.proofs.Common.{◌≡◌, ℕ, zero, suc, ◌+◌, ◌-◌, ◌≤◌, ◌<◌, List, [], ◌∷◌, ◌++◌, length, Option, None, Some, true, false, inl, inr, refl, sym, ap, ◌∙◌, subst, arith}
+use Rattle.std.proofs.Common.{◌≡◌, ℕ, zero, suc, ◌+◌, ◌-◌, ◌≤◌, ◌<◌, List, [], ◌∷◌, length, Option, None, Some, true, false, inl, inr, refl, sym, ap, ◌∙◌, subst, arith}
 use Rattle.std.specs.Prelude.{◌⊎◌, IfSome, min, nat_lt, replicate, if◌then◌else◌}
 use Rattle.std.specs.Option.{option_map, option_and_then}
 use Rattle.std.proofs.lemmas.Bool.{cases_lt}
@@ -13,15 +13,14 @@ use Rattle.hub_outside.proofs.Rising.{rose_later, rose_before}
 use Rattle.hub_outside.specs.Doors.{HandsOut}
 use Rattle.hub_outside.specs.declared.doors.DoorAnswer.TheVariants.{End as DoorEnd}
 use Rattle.hub_outside.specs.Count.{Rose, one_more, last_count}
-use Rattle.poll_port.specs.declared.extent.Extent.{Extent}
 use Rattle.poll_port.specs.declared.extent.Extent.TheVariants.{ToEnd, Bytes}
 use Rattle.poll_port.specs.declared.messages.Reply.{Reply}
-use Rattle.poll_port.specs.declared.messages.Reply.TheVariants.{Message, TooLong, Unfit, Failed}
+use Rattle.poll_port.specs.declared.messages.Reply.TheVariants.{Message, TooLong, Unfit}
 use Rattle.poll_port.specs.Heads.{reply_in}
 use Rattle.poll_port.specs.Polling.{has_polls}
-use Rattle.poll_port.specs.Polls.{Ends, PortState, PollsLink, MissesDoor, FailsPoll, EndsPolls, FailPolls, CallAnswers, PollAnswers}
+use Rattle.poll_port.specs.Polls.{Ends, PortState, PollsLink, FailsPoll, EndsPolls, FailPolls, CallAnswers, PollAnswers}
 use Rattle.poll_port.specs.Ports.{ahead_at, poll_ahead, poll_faults}
-use Rattle.poll_port.specs.Replies.{message_in, IsReply, IsLongReply, IsOver, NoReply}
+use Rattle.poll_port.specs.Replies.{message_in, IsReply, IsLongReply, NoReply}
 use Rattle.poll_port.proofs.Aheads.{Loses, link_taken, over_none, ended_none}
 use Rattle.poll_port.proofs.ReplyLaws.{good_reply, reply_is_found, no_reply_found}
 

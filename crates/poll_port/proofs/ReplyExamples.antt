@@ -1,5 +1,5 @@
 -- Which bytes are good replies, and their messages, computed.
-use Rattle.std.specs.Prelude.{◌≡◌, refl, ℕ, ⊤, List, [], ◌∷◌, ◌++◌, codes, map, replicate, Option, Some, None}
+use Rattle.std.specs.Prelude.{◌≡◌, refl, ℕ, ⊤, List, [], ◌∷◌, ◌++◌, codes, map, replicate, Some, None}
 use Prim.Native.String.{String}
 use Rattle.httparse.proofs.OnLiterals.{httparse_on_literals}
 use Rattle.httparse.specs.Grammar.{trim_ows, print_response, is_token_byte}

@@ -1,7 +1,7 @@
 -- The message of a good reply is the one that is found, and where none is found there is none.
-use Rattle.std.proofs.Common.{◌≡◌, ℕ, List, ◌++◌, length, drop, Option, Some, None, refl, sym, ap, ◌∙◌, subst}
+use Rattle.std.proofs.Common.{◌≡◌, ℕ, List, length, drop, Option, Some, None, refl, sym, ap, ◌∙◌}
 use Rattle.std.specs.Option.{option_and_then}
-use Rattle.std.proofs.lemmas.Option.{none-some, same_Some}
+use Rattle.std.proofs.lemmas.Option.{none-some}
 use Rattle.httparse.specs.Grammar.{ResponseHead, print_response}
 use Rattle.poll_port.specs.Fields.{extent_behind}
 use Rattle.poll_port.specs.Heads.{head_in, message_behind, reply_in}

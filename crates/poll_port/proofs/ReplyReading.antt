@@ -1,12 +1,11 @@
 -- Reading a whole reply: its head, and then its message.
-use Rattle.std.proofs.Common.{◌≡◌, ℕ, ◌≤◌, List, ◌++◌, Option, None, Some, refl, sym, ap, ◌∙◌, subst}
+use Rattle.std.proofs.Common.{◌≡◌, ℕ, List, ◌++◌, Option, None, Some, sym, subst}
 use Rattle.std.specs.Prelude.{IfSome}
 use Rattle.std.specs.Io.KnownBytes.{Consumes}
-use Rattle.feed_defs.specs.History.{longest_message}
 use Rattle.poll_port.specs.declared.extent.Extent.{Extent}
 use Rattle.poll_port.specs.declared.messages.Reply.{Reply}
 use Rattle.poll_port.specs.declared.messages.Reply.TheVariants.{Message, TooLong, Unfit, Failed}
-use Rattle.poll_port.specs.Reading.{ReadsMessage, ReadsReply, HasReplyCause}
+use Rattle.poll_port.specs.Reading.{ReadsMessage, ReadsReply}
 use Rattle.poll_port.specs.Replies.{IsGood, message_in, IsOver, IsReply, IsLongReply, NoReply}
 use Rattle.poll_port.proofs.FoundLemmas.{good_on}
 use Rattle.poll_port.proofs.ReplyLaws.{no_message}

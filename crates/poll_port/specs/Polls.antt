@@ -1,5 +1,5 @@
 -- The polls of a port, one after another.
-use Rattle.std.specs.Prelude.{◌≡◌, ℕ, zero, suc, ◌≤◌, ◌<◌, ◌⊎◌, Bool, true, false, List, [], Option, is_some}
+use Rattle.std.specs.Prelude.{◌≡◌, ℕ, zero, suc, ◌≤◌, ◌<◌, ◌⊎◌, true, false, List, [], Option, is_some}
 use Rattle.std.specs.Io.KnownBytes.{Appends}
 use Rattle.hub_outside.specs.Count.{Rose}
 use Rattle.hub_outside.specs.Doors.{Links, HandsOut, GivesBack}

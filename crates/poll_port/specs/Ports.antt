@@ -1,5 +1,5 @@
 -- A polling port as its callers see it.
-use Rattle.std.specs.Prelude.{ℕ, ◌+◌, ◌-◌, Bool, ◌&&◌, not, min, if◌then◌else◌, List, [], ◌++◌, take, Option, Some, None, is_some, unwrap_or}
+use Rattle.std.specs.Prelude.{ℕ, ◌+◌, Bool, min, if◌then◌else◌, List, [], ◌++◌, take, Option, Some, None, is_some, unwrap_or}
 use Rattle.std.specs.List.{list_all, filter_map}
 use Rattle.std.specs.Option.{option_and_then}
 use Rattle.hub_outside.specs.Count.{last_count}

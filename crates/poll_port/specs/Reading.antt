@@ -1,5 +1,5 @@
 -- What reading the reply to a poll comes to.
-use Rattle.std.specs.Prelude.{◌≡◌, ℕ, ◌+◌, ◌≤◌, ◌<◌, List, [], ◌++◌, length, take, drop, Option, Some, None, IfSome}
+use Rattle.std.specs.Prelude.{◌≡◌, ℕ, ◌+◌, ◌≤◌, ◌<◌, List, ◌++◌, length, take, drop, Option, Some, None, IfSome}
 use Rattle.std.specs.Io.KnownBytes.{Consumes, Keeps, IsAtEnd}
 use Rattle.feed_defs.specs.History.{longest_message}
 use Rattle.hub_outside.specs.Count.{Rose}
@@ -16,7 +16,6 @@ use Rattle.poll_port.specs.declared.messages.Filled.{Filled}
 use Rattle.poll_port.specs.declared.messages.Filled.TheVariants.{Whole, Ended, Failed as FillFailed}
 use Rattle.poll_port.specs.declared.messages.Reply.{Reply}
 use Rattle.poll_port.specs.declared.messages.Reply.TheVariants.{Message, TooLong, Unfit, Failed}
-use Rattle.poll_port.specs.Fields.{extent_behind}
 use Rattle.poll_port.specs.Replies.{head_limit, NoHead, IsGood, message_in, IsOver, IsReply, IsLongReply, NoReply}
 
 -- the bytes begin with a head that is not too long, whose parts stand at the spans

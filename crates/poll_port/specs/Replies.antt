@@ -1,6 +1,6 @@
 -- Which bytes are a good reply to a poll, and what its message is (RFC 9112, section 6.3; RFC 1945,
 -- section 7.2.2).
-use Rattle.std.specs.Prelude.{◌≡◌, ◌≢◌, ℕ, ◌+◌, ◌<◌, ◌≤◌, nat_lt, nat_le, if◌then◌else◌, List, length, take, replicate, Option, Some, None}
+use Rattle.std.specs.Prelude.{◌≡◌, ℕ, ◌+◌, ◌<◌, ◌≤◌, nat_lt, nat_le, if◌then◌else◌, List, length, take, replicate, Option, Some, None}
 use Rattle.feed_defs.specs.History.{longest_message}
 use Rattle.httparse.specs.Grammar.{ResponseHead, print_response, ReadsResponse}
 use Rattle.poll_port.specs.declared.extent.Extent.{Extent}

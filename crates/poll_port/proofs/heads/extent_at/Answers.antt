@@ -1,4 +1,4 @@
-use Rattle.std.proofs.Common.{◌≡◌, ◌∙◌, sym, arith}
+use Rattle.std.proofs.Common.{◌≡◌, arith}
 use Rattle.poll_port.proofs.HeadReading.{other_status, with_success}
 use Rattle.poll_port.proofs.heads.extent_at.Goals as goal
 

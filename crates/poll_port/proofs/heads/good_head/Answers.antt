@@ -1,4 +1,3 @@
-use Rattle.std.proofs.Common.{◌∙◌, sym}
 use Rattle.poll_port.proofs.HeadReading.{unfit_at}
 use Rattle.poll_port.proofs.heads.good_head.Goals as goal
 

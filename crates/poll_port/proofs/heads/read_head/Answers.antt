@@ -1,4 +1,4 @@
-use Rattle.std.proofs.Common.{rules, ◌≤◌, ◌+◌, arith}
+use Rattle.std.proofs.Common.{rules, arith}
 use Rattle.poll_port.proofs.HeadReading.{grown, judged}
 use Rattle.poll_port.proofs.heads.read_head.Goals as goal
 

@@ -1,7 +1,6 @@
 use Rattle.std.proofs.Common.{rules, ◌≡◌, ◌≤◌, true, sym, subst, arith}
 use Rattle.poll_port.specs.Polling.{has_polls}
 use Rattle.poll_port.specs.Polls.{ends, port_state, Polled, PollAnswers}
-use Rattle.poll_port.specs.Ports.{door_of, polling_of}
 use Rattle.poll_port.proofs.Exchanged.{polled}
 use Rattle.poll_port.proofs.port.PollPort.poll.Goals as goal
 

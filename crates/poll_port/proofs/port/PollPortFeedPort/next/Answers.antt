@@ -1,5 +1,5 @@
-use Rattle.std.proofs.Common.{rules, ◌≡◌, ◌≤◌, ◌<◌, ◌+◌, sym, subst, arith, ◌∙◌}
-use Rattle.poll_port.specs.Polls.{ends, port_state, FailPolls, CallAnswers}
+use Rattle.std.proofs.Common.{◌≡◌, ◌≤◌, ◌<◌, subst, arith}
+use Rattle.poll_port.specs.Polls.{ends, port_state, FailPolls}
 use Rattle.poll_port.proofs.Moved.{none_failed, one_failed, comes_of, answers}
 use Rattle.feed_port.specs.declared.port.PortAnswer.TheVariants.{Failed}
 use Rattle.poll_port.proofs.port.PollPortFeedPort.next.Goals as goal
