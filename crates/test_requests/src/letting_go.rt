@@ -1,5 +1,5 @@
 //! A connection keeps no view while its response is written.
-ghost use Rattle.std.specs.Prelude.{Some};
+ghost use Rattle.std.specs.Prelude.{Some, true};
 ghost use Rattle.hub_outside.specs.Memory.{bytes_written, sink_faults};
 
 use crate::given::hub;
