@@ -14,6 +14,4 @@ mod given;
 #[cfg(test)]
 mod heads;
 #[cfg(test)]
-mod letting_go;
-#[cfg(test)]
 mod targets;
