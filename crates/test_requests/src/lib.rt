@@ -14,4 +14,6 @@ mod given;
 #[cfg(test)]
 mod heads;
 #[cfg(test)]
+mod letting_go;
+#[cfg(test)]
 mod targets;
