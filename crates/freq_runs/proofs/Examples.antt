@@ -1,5 +1,5 @@
 -- The trips of a city's T2, which takes 19 minutes, and their faults.
-use Rattle.std.proofs.Common.{◌≡◌, ℕ, ◌+◌, Bool, true, false, List, [], ◌∷◌, Option, Some, None, Result, Ok, Err, codes, refl}
+use Rattle.std.proofs.Common.{◌≡◌, ℕ, ◌+◌, true, false, List, [], ◌∷◌, Some, None, Ok, Err, codes, refl}
 use Rattle.std.specs.Fmt.{digits}
 use Rattle.freq_runs.specs.declared.times.PlaceTime.{PlaceTime}
 use Rattle.freq_runs.specs.declared.rows.Pattern.{Pattern}

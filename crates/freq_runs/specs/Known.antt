@@ -1,5 +1,5 @@
 -- The ids that are there already, as the code keeps them.
-use Rattle.std.specs.Prelude.{◌≡◌, ℕ, Bool, true, is_some, List, ◌∷◌, [], ◌++◌, Result, Ok, Err, ⊤}
+use Rattle.std.specs.Prelude.{◌≡◌, ℕ, is_some, List}
 use Rattle.std.specs.Borrow.{Bor}
 use Rattle.std.specs.BTreeMap.{BTreeMap, get_by}
 use Rattle.std.specs.BTreeSet.{BTreeSet, contains_text}

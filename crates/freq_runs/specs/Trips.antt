@@ -1,7 +1,7 @@
 -- The trips that frequencies.txt derives (GTFS Schedule, frequencies.txt). A trip that the file names is a
 -- pattern: its stop times say how long it takes from stop to stop, and not when it runs. A row with
 -- exact_times 1 has it begin at start_time, and then every headway_secs as long as this is before end_time.
-use Rattle.std.specs.Prelude.{ℕ, ◌+◌, ◌-◌, ◌*◌, ◌/◌, ◌%◌, ◌<◌, ◌≤◌, Bool, ◌&&◌, nat_le, nat_lt, List, [], ◌∷◌, ◌++◌, length, map, filter, codes, Option, Some, None, slice_get, if◌then◌else◌, ⊤}
+use Rattle.std.specs.Prelude.{ℕ, ◌+◌, ◌-◌, ◌*◌, ◌/◌, ◌%◌, ◌<◌, ◌≤◌, ◌&&◌, nat_le, nat_lt, List, [], ◌∷◌, ◌++◌, length, map, filter, codes, Option, Some, None, slice_get, if◌then◌else◌, ⊤}
 use Rattle.std.specs.Fmt.{decimal}
 use Rattle.std.specs.List.{range_with_len}
 use Rattle.freq_runs.specs.declared.times.PlaceTime.{PlaceTime}

@@ -1,6 +1,6 @@
 //! The derived trips of all rows.
 
-ghost use Rattle.std.specs.Prelude.{◌≡◌, length};
+ghost use Rattle.std.specs.Prelude.{length};
 ghost use Rattle.std.specs.List.{All};
 ghost use Rattle.answer_defs.specs.Defined.{AsDefined};
 ghost use Rattle.freq_runs.specs.Trips.{IsPattern, IsRow};

@@ -1,8 +1,8 @@
 //! How often a row has its pattern start.
 
-ghost use Rattle.std.specs.Prelude.{◌≡◌, ◌+◌, ◌*◌, ◌<◌, ◌≤◌, ℕ, length, map, nat_le, IfSome, IfNone};
+ghost use Rattle.std.specs.Prelude.{◌≡◌, ◌+◌, ◌*◌, ◌<◌, ◌≤◌, ℕ, length, map, IfSome, IfNone};
 ghost use Rattle.std.specs.List.{range_with_len};
-ghost use Rattle.freq_runs.specs.Trips.{starts_of, trips_of_pattern, trip_at, time_end};
+ghost use Rattle.freq_runs.specs.Trips.{starts_of, trips_of_pattern, trip_at};
 ghost use Rattle.freq_runs.specs.Faults.{most_places};
 
 use crate::rows::{Frequency, Pattern};

@@ -1,6 +1,6 @@
 //! The trips of one row.
 
-ghost use Rattle.std.specs.Prelude.{◌≡◌, ◌+◌, ◌*◌, ◌<◌, ◌≤◌, ℕ, length, map, IfOk};
+ghost use Rattle.std.specs.Prelude.{◌≡◌, ◌+◌, ◌*◌, ◌<◌, ℕ, map, IfOk};
 ghost use Rattle.std.specs.List.{range_with_len};
 ghost use Rattle.freq_runs.specs.Trips as trips;
 ghost use Rattle.freq_runs.specs.Trips.{AreInOrder, CanMove, time_end};

@@ -1,6 +1,6 @@
 use Rattle.std.proofs.Common.{◌∙◌, ap}
 use Rattle.std.specs.Int.{div_ceil}
-use Rattle.freq_runs.proofs.Ranges.{below, starts_below}
+use Rattle.freq_runs.proofs.Ranges.{starts_below}
 use Rattle.freq_runs.proofs.starts.starts.Goals as goal
 
 pub returns-clause-starts : goal.returns-clause-starts

@@ -1,4 +1,4 @@
-use Rattle.std.proofs.Common.{◌+◌, ◌*◌, ◌≤◌, length, subst, arith}
+use Rattle.std.proofs.Common.{◌+◌, ◌*◌, ◌≤◌, length}
 use Rattle.std.proofs.lemmas.Bool.{le-leb}
 use Rattle.freq_runs.proofs.Places.{trips_are}
 use Rattle.freq_runs.proofs.starts.trip_count.Goals as goal
