@@ -83,6 +83,10 @@ slot-place f column.StartDate d = refl
 slot-place f column.EndDate d = refl
 slot-place f column.Date d = refl
 slot-place f column.ExceptionType d = refl
+slot-place f column.StartTime d = refl
+slot-place f column.EndTime d = refl
+slot-place f column.HeadwaySecs d = refl
+slot-place f column.ExactTimes d = refl
 
 -- the cells by the places that were found are those by the header
 pub cells-same : (header : List (List ℕ)) → cell_at (places_in header) ≡ cell_of header

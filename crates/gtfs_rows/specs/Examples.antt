@@ -8,7 +8,7 @@ use Rattle.text_defs.specs.Dates.{date_in, is_day}
 use Rattle.text_defs.specs.Numbers.{number as digits_number}
 use Rattle.text_defs.specs.Times.{time_in}
 use Rattle.gtfs_rows.specs.Values.{number, date}
-use Rattle.gtfs_rows.specs.Tables.{cell_value, trips, exceptions, agency}
+use Rattle.gtfs_rows.specs.Tables.{cell_value, trips, exceptions, agency, frequencies}
 use Rattle.gtfs_rows.specs.Files.{cell_of, trimmed_text, rows_from, rows_of}
 use Rattle.gtfs_rows.specs.declared.column.Column.TheVariants as column
 use Rattle.gtfs_rows.specs.declared.fault.RowFault.TheVariants as fault
@@ -134,3 +134,26 @@ no_text = refl
 row_limit : rows_from agency (cell_of []) 4000001 ([] ∷ [] ∷ []) ≡ Err fault.TooMany
 unfolding rows_from trimmed_text cell_value is_utf8 chars encode
 row_limit = refl
+
+-- a trip by headway, whose exact_times is absent
+headway : rows_of frequencies
+    (codes "trip_id,start_time,end_time,headway_secs\nT2,9:00:00,09:31:00,1800\n")
+    ≡ Ok (
+    record {
+      trip_id = codes "T2";
+      start_time = 32400;
+      end_time = 34260;
+      headway_secs = 1800;
+      exact_times = None;
+    }
+    ∷ []
+    )
+unfolding rows_of records_from next_record strip_bom rows_from trimmed_text cell_value time_in number digits_number is_utf8 chars encode
+headway = refl
+
+-- an end that is empty, before a headway of 0
+no_end : rows_of frequencies
+    (codes "trip_id,start_time,end_time,headway_secs,exact_times\nT2,9:00:00,,0,1\n")
+    ≡ Err (fault.BadValue 2 column.EndTime)
+unfolding rows_of records_from next_record strip_bom rows_from trimmed_text cell_value time_in number digits_number is_utf8 chars encode
+no_end = refl

@@ -33,6 +33,10 @@ column_name column.StartDate = codes "start_date"
 column_name column.EndDate = codes "end_date"
 column_name column.Date = codes "date"
 column_name column.ExceptionType = codes "exception_type"
+column_name column.StartTime = codes "start_time"
+column_name column.EndTime = codes "end_time"
+column_name column.HeadwaySecs = codes "headway_secs"
+column_name column.ExactTimes = codes "exact_times"
 
 -- a number for each column
 abbrev pub slot_of : Column → ℕ
@@ -64,6 +68,10 @@ slot_of column.StartDate = 24
 slot_of column.EndDate = 25
 slot_of column.Date = 26
 slot_of column.ExceptionType = 27
+slot_of column.StartTime = 28
+slot_of column.EndTime = 29
+slot_of column.HeadwaySecs = 30
+slot_of column.ExactTimes = 31
 
 -- all columns, by that number
 abbrev pub all_columns : List Column
@@ -75,4 +83,5 @@ all_columns =
     ∷ column.PickupType ∷ column.Monday ∷ column.Tuesday ∷ column.Wednesday
     ∷ column.Thursday ∷ column.Friday ∷ column.Saturday ∷ column.Sunday
     ∷ column.StartDate ∷ column.EndDate ∷ column.Date ∷ column.ExceptionType
+    ∷ column.StartTime ∷ column.EndTime ∷ column.HeadwaySecs ∷ column.ExactTimes
     ∷ []

@@ -1,4 +1,4 @@
--- The columns of the seven files, in the order in which they are judged, and what a row of them is.
+-- The columns of the eight files, in the order in which they are judged, and what a row of them is.
 use Rattle.std.specs.Prelude.{ℕ, if◌then◌else◌, List, [], ◌∷◌, ◌++◌, Option, ok_or, Result, Ok, Err}
 use Rattle.std.specs.Str.{is_utf8}
 use Rattle.answer_defs.specs.Steps.{◌>>=◌}
@@ -17,6 +17,7 @@ use Rattle.gtfs_rows.specs.declared.rows.TripRow.{TripRow}
 use Rattle.gtfs_rows.specs.declared.rows.StopTimeRow.{StopTimeRow}
 use Rattle.gtfs_rows.specs.declared.rows.CalendarRow.{CalendarRow}
 use Rattle.gtfs_rows.specs.declared.rows.ExceptionRow.{ExceptionRow}
+use Rattle.gtfs_rows.specs.declared.rows.FrequencyRow.{FrequencyRow}
 
 infixr 30 ◌⊕◌
 -- columns side by side: their headings, and what they say in a row, of which the cell of each column is given
@@ -203,3 +204,21 @@ exceptions =
     })
     (required column.ServiceId id_text ⊕ required column.Date date ⊕ required column.ExceptionType
     (number 1 2))
+
+-- the columns of frequencies.txt
+abbrev pub frequencies : Columns FrequencyRow
+frequencies =
+    table
+    (λ (trip_id, (start_time, (end_time, (headway_secs, exact_times)))).
+    record {
+      trip_id = trip_id;
+      start_time = start_time;
+      end_time = end_time;
+      headway_secs = headway_secs;
+      exact_times = exact_times;
+    })
+    (required column.TripId id_text
+    ⊕ required column.StartTime time_in
+    ⊕ required column.EndTime time_in
+    ⊕ required column.HeadwaySecs (number 1 4294967295)
+    ⊕ optional column.ExactTimes (or_empty (number 0 1)))

@@ -181,9 +181,22 @@ impl<'a> Cells<'a> {
         Ok(value)
     }
 
+    /// A time in seconds.
+    #[tactic(auto, using(crate::proofs::AsciiLemmas::time_text), unfolding(crate::specs::Tables::cell_value))]
+    pub(crate) fn time(self, column: Column) -> Result<u32, RowFault>
+        ensures { AsDefined (λ x. x) cause_of
+            (cell_value time_in self.entry.row column (cells_of self.entry column)) result }
+    {
+        let bytes = self.bytes(column);
+        let Some(value) = read_time(bytes) else {
+            return Err(self.refused(column, bytes));
+        };
+        Ok(value)
+    }
+
     /// A time in seconds, or none.
     #[tactic(auto, using(crate::proofs::AsciiLemmas::time_text, crate::proofs::AsciiLemmas::empty_text), unfolding(crate::specs::Tables::cell_value))]
-    pub(crate) fn time(self, column: Column) -> Result<Option<u32>, RowFault>
+    pub(crate) fn optional_time(self, column: Column) -> Result<Option<u32>, RowFault>
         ensures { AsDefined (λ x. x) cause_of
             (cell_value (or_empty time_in) self.entry.row column
             (cells_of self.entry column)) result }

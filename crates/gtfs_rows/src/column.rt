@@ -6,7 +6,7 @@ ghost use Rattle.gtfs_rows.specs.Names.{column_name, slot_of};
 use std::fmt;
 
 /// How many columns there are.
-pub(crate) const COLUMNS: usize = 28;
+pub(crate) const COLUMNS: usize = 32;
 
 /// A column of a timetable file, by its name in the GTFS Schedule Reference.
 ///
@@ -69,6 +69,14 @@ pub enum Column {
     Date,
     /// `exception_type`
     ExceptionType,
+    /// `start_time`
+    StartTime,
+    /// `end_time`
+    EndTime,
+    /// `headway_secs`
+    HeadwaySecs,
+    /// `exact_times`
+    ExactTimes,
 }
 
 impl Column {
@@ -102,12 +110,16 @@ impl Column {
         Column::EndDate,
         Column::Date,
         Column::ExceptionType,
+        Column::StartTime,
+        Column::EndTime,
+        Column::HeadwaySecs,
+        Column::ExactTimes,
     ];
 
     /// The column's place in `ALL`.
     pub(crate) fn slot(self) -> usize
         ensures value { result ≡ slot_of self }
-        ensures small { result < 28 }
+        ensures small { result < 32 }
     {
         self as usize
     }
@@ -145,6 +157,10 @@ impl Column {
             Column::EndDate => "end_date",
             Column::Date => "date",
             Column::ExceptionType => "exception_type",
+            Column::StartTime => "start_time",
+            Column::EndTime => "end_time",
+            Column::HeadwaySecs => "headway_secs",
+            Column::ExactTimes => "exact_times",
         }
     }
 }

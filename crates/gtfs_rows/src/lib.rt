@@ -1,4 +1,4 @@
-//! The rows of the seven files of a GTFS timetable.
+//! The rows of the eight files of a GTFS timetable.
 //!
 //! There is one reader per file. It takes the bytes of the file and gives its rows, or the first fault:
 //! a column that is missing, a field that isn't UTF-8 or isn't of its column's form, more than 4,000,000
@@ -12,7 +12,7 @@
 
 ghost use Rattle.answer_defs.specs.Defined.{AsDefined};
 ghost use Rattle.gtfs_rows.specs.Files.{cause_of, items_of, rows_of};
-ghost use Rattle.gtfs_rows.specs.Tables.{agency, calendar, exceptions, routes, stop_times, stops, trips};
+ghost use Rattle.gtfs_rows.specs.Tables.{agency, calendar, exceptions, frequencies, routes, stop_times, stops, trips};
 
 mod cells;
 mod column;
@@ -27,7 +27,9 @@ mod values;
 pub use column::Column;
 pub use fault::RowFault;
 use file::read_rows;
-pub use rows::{AgencyRow, CalendarRow, ExceptionRow, RouteRow, StopRow, StopTimeRow, TripRow};
+pub use rows::{
+    AgencyRow, CalendarRow, ExceptionRow, FrequencyRow, RouteRow, StopRow, StopTimeRow, TripRow,
+};
 pub use std::alloc::AllocError as NoMemory;
 use std::alloc::Global;
 pub use stop_times::StopTimes;
@@ -93,6 +95,16 @@ pub fn read_calendar(alloc: Global, bytes: &[u8]) -> Result<Vec<CalendarRow>, Ro
 /// All columns must be there.
 pub fn read_exceptions(alloc: Global, bytes: &[u8]) -> Result<Vec<ExceptionRow>, RowFault>
     ensures { AsDefined items_of cause_of (rows_of exceptions bytes.now) result }
+{
+    read_rows(alloc, bytes)
+}
+
+/// The rows of frequencies.txt in their order, or the first fault of the file.
+///
+/// `trip_id`, `start_time`, `end_time` and `headway_secs` must be there, and none of them is empty;
+/// `exact_times` may be absent.
+pub fn read_frequencies(alloc: Global, bytes: &[u8]) -> Result<Vec<FrequencyRow>, RowFault>
+    ensures { AsDefined items_of cause_of (rows_of frequencies bytes.now) result }
 {
     read_rows(alloc, bytes)
 }

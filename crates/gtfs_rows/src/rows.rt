@@ -1,4 +1,4 @@
-//! The rows of the seven files, one struct a file, whose fields are named as their columns.
+//! The rows of the eight files, one struct a file, whose fields are named as their columns.
 //!
 //! The fields stand in the order in which the columns are judged. A text is without spaces and tabs at
 //! both ends, and empty where its column is absent or its field empty; an id other than `agency_id` of
@@ -84,4 +84,16 @@ pub struct ExceptionRow {
     pub date: u32,
     /// 1 where the service is added on that date, 2 where it is removed.
     pub exception_type: u32,
+}
+
+/// A row of frequencies.txt, whose times are in seconds after noon minus twelve hours, and may pass a day.
+#[derive(Debug, Drop)]
+pub struct FrequencyRow {
+    pub trip_id: CellText,
+    pub start_time: u32,
+    pub end_time: u32,
+    /// Seconds, 1 to 4294967295.
+    pub headway_secs: u32,
+    /// 1 where the trips run at just these times, 0 or `None` where they only come about so often.
+    pub exact_times: Option<u32>,
 }

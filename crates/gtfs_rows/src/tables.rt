@@ -9,7 +9,9 @@ use crate::cells::Cells;
 use crate::column::Heading::{Optional, Required};
 use crate::column::{Column, Heading};
 use crate::fault::RowFault;
-use crate::rows::{AgencyRow, CalendarRow, ExceptionRow, RouteRow, StopRow, StopTimeRow, TripRow};
+use crate::rows::{
+    AgencyRow, CalendarRow, ExceptionRow, FrequencyRow, RouteRow, StopRow, StopTimeRow, TripRow,
+};
 use std::alloc::Global;
 
 /// A row of a file.
@@ -142,8 +144,8 @@ impl Row for StopTimeRow {
             trip_id: cells.id(alloc, Column::TripId)?,
             stop_id: cells.id(alloc, Column::StopId)?,
             stop_sequence: cells.number(Column::StopSequence, 0, u32::MAX)?,
-            arrival_time: cells.time(Column::ArrivalTime)?,
-            departure_time: cells.time(Column::DepartureTime)?,
+            arrival_time: cells.optional_time(Column::ArrivalTime)?,
+            departure_time: cells.optional_time(Column::DepartureTime)?,
             pickup_type: cells.optional_number(Column::PickupType, 3)?,
         })
     }
@@ -203,6 +205,32 @@ impl Row for ExceptionRow {
             service_id: cells.id(alloc, Column::ServiceId)?,
             date: cells.date(Column::Date)?,
             exception_type: cells.number(Column::ExceptionType, 1, 2)?,
+        })
+    }
+}
+
+impl Row for FrequencyRow {
+    ghost use Rattle.gtfs_rows.specs.Tables.{frequencies};
+
+    ghost columns = { frequencies };
+
+    fn headings() -> &'static [Heading] {
+        &[
+            Required(Column::TripId),
+            Required(Column::StartTime),
+            Required(Column::EndTime),
+            Required(Column::HeadwaySecs),
+            Optional(Column::ExactTimes),
+        ]
+    }
+
+    fn of_cells(alloc: Global, cells: Cells<'_>) -> Result<FrequencyRow, RowFault> {
+        Ok(FrequencyRow {
+            trip_id: cells.id(alloc, Column::TripId)?,
+            start_time: cells.time(Column::StartTime)?,
+            end_time: cells.time(Column::EndTime)?,
+            headway_secs: cells.number(Column::HeadwaySecs, 1, u32::MAX)?,
+            exact_times: cells.optional_number(Column::ExactTimes, 1)?,
         })
     }
 }

@@ -1,8 +1,8 @@
 //! The files of a small timetable, each as it is and turned about, and each fault.
 
 use gtfs_rows::{
-    Column, RowFault, StopTimes, read_agencies, read_calendar, read_exceptions, read_routes,
-    read_stop_times, read_stops, read_trips,
+    Column, RowFault, StopTimes, read_agencies, read_calendar, read_exceptions, read_frequencies,
+    read_routes, read_stop_times, read_stops, read_trips,
 };
 use std::alloc::{AllocError, Global};
 use std::fmt;
@@ -113,6 +113,21 @@ fn reads_exceptions(rt: HostRuntime) -> Result<(), Fail> {
         assert_eq!(rt;
             rows.as_str(),
             "Ok([ExceptionRow { service_id: \"WK\", date: 20240229, exception_type: 2 }])"
+        );
+    }
+    Ok(())
+}
+
+#[test]
+fn reads_frequencies(rt: HostRuntime) -> Result<(), Fail> {
+    for bytes in [
+        "trip_id,start_time,end_time,headway_secs,exact_times\nT2,09:00:00,09:31:00,1800,1\n",
+        "\u{feff}exact_times,x,headway_secs,end_time,start_time,trip_id\n1,,01800,9:31:00,9:00:00,T2",
+    ] {
+        let rows = shown(rt.alloc(), read_frequencies(rt.alloc(), bytes.as_bytes()))?;
+        assert_eq!(rt;
+            rows.as_str(),
+            "Ok([FrequencyRow { trip_id: \"T2\", start_time: 32400, end_time: 34260, headway_secs: 1800, exact_times: Some(1) }])"
         );
     }
     Ok(())

@@ -16,5 +16,5 @@ loop-slot-preserved c =
 pub returns : goal.returns
 returns c =
     let inv = c.loop-slot.invariant in
-    let done : c.loop-slot.slot ≡ 28 = omega arith in
+    let done : c.loop-slot.slot ≡ 32 = omega arith in
     sym (take_all c.loop-slot.slot c.loop-slot.places (omega (arith, inv.0))) ∙ inv.1 ∙ ap (λ n. map (place_of (fields_of c.args.header.now)) (take n all_columns)) done

@@ -6,4 +6,4 @@ use Rattle.gtfs_rows.proofs.cells.place_columns.Given as goal
 
 -- the places of the columns so far
 abbrev pub invariant-loop-slot : goal.invariant-loop-slot
-invariant-loop-slot l = (length l.places ≡ 28) × (take l.slot l.places ≡ map (place_of (fields_of l.header)) (take l.slot all_columns))
+invariant-loop-slot l = (length l.places ≡ 32) × (take l.slot l.places ≡ map (place_of (fields_of l.header)) (take l.slot all_columns))
