@@ -32,4 +32,6 @@ line = record {
   active = (0 ∷ []) ∷ [];
   first = 20250330;
   bases = pos 1743285600 ∷ [];
+  patterns = [];
+  derived = [];
 }

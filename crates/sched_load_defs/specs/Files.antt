@@ -18,6 +18,7 @@ file_name file.Trips = codes "trips.txt"
 file_name file.StopTimes = codes "stop_times.txt"
 file_name file.Calendar = codes "calendar.txt"
 file_name file.CalendarDates = codes "calendar_dates.txt"
+file_name file.Frequencies = codes "frequencies.txt"
 
 -- its place in the order in which the files are read, from 0 on
 abbrev pub file_place : File → ℕ
@@ -28,6 +29,7 @@ file_place file.Trips = 3
 file_place file.StopTimes = 4
 file_place file.Calendar = 5
 file_place file.CalendarDates = 6
+file_place file.Frequencies = 7
 
 -- the path of a file in a folder: a slash stands between them
 abbrev pub path_of : List ℕ → File → List ℕ

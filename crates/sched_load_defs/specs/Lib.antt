@@ -3,6 +3,7 @@ pub mod References
 pub mod Times
 pub mod Services
 pub mod Numbers
+pub mod Frequencies
 pub mod Loading
 pub mod Stops
 pub mod CityFiles

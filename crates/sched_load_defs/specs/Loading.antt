@@ -2,7 +2,7 @@
 use Rattle.std.specs.Prelude.{ℕ, if◌then◌else◌, List, Option, Some, None, ok_or, Result, Ok}
 use Rattle.std.specs.List.{enumerate_from}
 use Rattle.answer_defs.specs.Steps.{◌>>=◌, unless}
-use Rattle.gtfs_rows.specs.Tables.{agency, stops, routes, trips, stop_times, calendar, exceptions}
+use Rattle.gtfs_rows.specs.Tables.{agency, stops, routes, trips, stop_times, calendar, exceptions, frequencies}
 use Rattle.gtfs_rows.specs.declared.rows.TripRow.{TripRow}
 use Rattle.service_day.specs.Zone.{TzText, rule_of}
 use Rattle.sched_types.specs.Timetable.{Timetable}
@@ -12,15 +12,16 @@ use Rattle.sched_load_defs.specs.declared.fault.File.TheVariants as file
 use Rattle.sched_load_defs.specs.declared.fault.LoadFault.{LoadFault}
 use Rattle.sched_load_defs.specs.declared.fault.LoadFault.TheVariants as fault
 use Rattle.sched_load_defs.specs.Files.{required_rows, optional_rows, stored_in}
-use Rattle.sched_load_defs.specs.References.{first_fault, row_at, consistent_agencies, consistent_stops, consistent_routes, consistent_trips, consistent_stop_times, consistent_calendar, consistent_exceptions}
+use Rattle.sched_load_defs.specs.References.{first_fault, row_at, consistent_agencies, consistent_stops, consistent_routes, consistent_trips, consistent_stop_times, consistent_calendar, consistent_exceptions, consistent_frequencies}
 use Rattle.sched_load_defs.specs.Times.{are_times}
-use Rattle.sched_load_defs.specs.Numbers.{Dataset, stop_times_of, given_times, timetable_of}
+use Rattle.sched_load_defs.specs.Numbers.{Dataset, stop_times_of, given_times}
+use Rattle.sched_load_defs.specs.Frequencies.{derived_of, timetable_of}
 
 -- the rule of a zone
 abbrev pub zone_of : List ℕ → Result TzText LoadFault
 zone_of text = ok_or (rule_of text) fault.BadZone
 
--- The rows of the seven files, by what is told of each of them: its bytes, that it isn't there, or why
+-- The rows of the eight files, by what is told of each of them: its bytes, that it isn't there, or why
 -- it can't be read. Or the first fault in this order: file by file, each by itself before it is
 -- compared with itself and with the files before it.
 unfoldable pub dataset_where : (File → Result (Option (List ℕ)) LoadFault)
@@ -37,6 +38,8 @@ dataset_where told = do
       >>= consistent_calendar
   exception_rows ← told file.CalendarDates >>= optional_rows file.CalendarDates exceptions
       >>= consistent_exceptions
+  frequency_rows ← told file.Frequencies >>= optional_rows file.Frequencies frequencies
+      >>= consistent_frequencies trip_rows
   Ok (record {
     agencies = agency_rows;
     stops = stop_rows;
@@ -45,9 +48,10 @@ dataset_where told = do
     stop_times = stop_time_rows;
     calendar = calendar_rows;
     exceptions = exception_rows;
+    frequencies = frequency_rows;
   })
 
--- the rows of the seven files of a folder, or their first fault
+-- the rows of the eight files of a folder, or their first fault
 unfoldable pub dataset_in : List (List ℕ × List ℕ) → List ℕ → Result Dataset LoadFault
 dataset_in files folder = dataset_where (stored_in files folder)
 
@@ -63,15 +67,16 @@ unfoldable pub with_times : Dataset → Result Dataset LoadFault
 with_times dataset =
     unless (first_fault (times_fault dataset) (enumerate_from 0 dataset.trips)) dataset
 
--- The timetable by what is told of each of the seven files, or the first fault: of the zone, then of
--- the files, then of the trips' times.
+-- The timetable by what is told of each of the eight files, or the first fault: of the zone, then of
+-- the files, then of the trips' times, then of the trips that frequencies.txt derives.
 unfoldable pub timetable_where : (File → Result (Option (List ℕ)) LoadFault) → PlanConf
     → Result Timetable LoadFault
 timetable_where told conf = do
   rule ← zone_of conf.zone
   rows ← dataset_where told
   dataset ← with_times rows
-  Ok (timetable_of rule conf.first conf.days dataset)
+  derived ← derived_of dataset
+  Ok (timetable_of rule conf.first conf.days dataset derived)
 
 -- the timetable of a folder, or the first fault
 unfoldable pub timetable : List (List ℕ × List ℕ) → List ℕ → PlanConf → Result Timetable LoadFault

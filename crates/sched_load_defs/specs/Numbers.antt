@@ -3,7 +3,6 @@
 use Rattle.std.specs.Prelude.{ℕ, ◌==◌, bytes_eq, if◌then◌else◌, List, [], ◌∷◌, ◌++◌, length, map, filter, zip, Option, Some, None, unwrap_or}
 use Rattle.std.specs.Cmp.Lexicographic.{slice_cmp}
 use Rattle.std.specs.FinMap.Entries.{put}
-use Rattle.std.specs.List.{range_with_len}
 use Rattle.std.specs.Ordering.{nat_cmp}
 use Rattle.std.specs.declared.cmp.Ordering.{Ordering}
 use Rattle.gtfs_rows.specs.declared.rows.AgencyRow.{AgencyRow}
@@ -13,17 +12,15 @@ use Rattle.gtfs_rows.specs.declared.rows.TripRow.{TripRow}
 use Rattle.gtfs_rows.specs.declared.rows.StopTimeRow.{StopTimeRow}
 use Rattle.gtfs_rows.specs.declared.rows.CalendarRow.{CalendarRow}
 use Rattle.gtfs_rows.specs.declared.rows.ExceptionRow.{ExceptionRow}
-use Rattle.text_defs.specs.Dates.{date_plus}
-use Rattle.service_day.specs.Zone.{TzText, base_of}
+use Rattle.gtfs_rows.specs.declared.rows.FrequencyRow.{FrequencyRow}
 use Rattle.sched_types.specs.declared.rows.Stop.{Stop}
 use Rattle.sched_types.specs.declared.rows.Route.{Route}
 use Rattle.sched_types.specs.declared.rows.Trip.{Trip}
 use Rattle.sched_types.specs.declared.rows.Place.{Place}
-use Rattle.sched_types.specs.Timetable.{Timetable, number_of}
-use Rattle.sched_load_defs.specs.Services.{active_days}
+use Rattle.sched_types.specs.Timetable.{number_of}
 use Rattle.sched_load_defs.specs.Times.{Times, times_of, all_times}
 
--- the rows of the seven files
+-- the rows of the eight files
 pub record Dataset : Type 0 where
   pub agencies : List AgencyRow
   pub stops : List StopRow
@@ -32,6 +29,7 @@ pub record Dataset : Type 0 where
   pub stop_times : List StopTimeRow
   pub calendar : List CalendarRow
   pub exceptions : List ExceptionRow
+  pub frequencies : List FrequencyRow
 
 -- rows under their keys, by rising keys; of rows with one key the first counts
 abbrev pub rows_with_keys : {K R : Type 0} → (K → K → Ordering) → (R → K) → List R → List (K × R)
@@ -125,17 +123,3 @@ place_of dataset (row, times) = record {
 -- the places of stop times
 abbrev pub places_with : Dataset → List StopTimeRow → List Place
 places_with dataset rows = map (place_of dataset) (zip rows (all_times (given_times rows)))
-
--- the timetable of rows that are consistent, in a zone, for a window of days from a first one on
-unfoldable pub timetable_of : TzText → ℕ → ℕ → Dataset → Timetable
-timetable_of rule first days dataset = record {
-  agencies = agency_ids dataset;
-  stops = map (stop_of dataset) (stop_rows dataset);
-  routes = map (route_of dataset) (route_rows dataset);
-  trips = map (trip_of dataset) (trip_rows dataset);
-  places = map (λ trip. places_with dataset (stop_times_of dataset.stop_times trip.trip_id))
-      (trip_rows dataset);
-  active = map (active_days dataset.calendar dataset.exceptions first days) (service_ids dataset);
-  first = first;
-  bases = map (λ day. base_of rule (date_plus first day)) (range_with_len 0 days);
-}

@@ -1,6 +1,6 @@
 -- Which rows of a file refer to rows that aren't there, and which have the id of an earlier row. A file is
 -- judged by this once all its rows could be read (GTFS Schedule, "Field Types", Foreign ID and Unique ID).
-use Rattle.std.specs.Prelude.{ℕ, ◌+◌, Bool, ◌&&◌, ◌||◌, ◌==◌, bytes_eq, if◌then◌else◌, List, [], ◌∷◌, take, Option, Some, None, option_map, Result}
+use Rattle.std.specs.Prelude.{ℕ, ◌+◌, Bool, false, ◌&&◌, ◌||◌, ◌==◌, bytes_eq, if◌then◌else◌, List, [], ◌∷◌, take, Option, Some, None, option_map, Result}
 use Rattle.std.specs.List.{list_any, enumerate_from}
 use Rattle.answer_defs.specs.Steps.{◌>>=◌, unless}
 use Rattle.answer_defs.specs.Choices.{or_else}
@@ -13,6 +13,7 @@ use Rattle.gtfs_rows.specs.declared.rows.TripRow.{TripRow}
 use Rattle.gtfs_rows.specs.declared.rows.StopTimeRow.{StopTimeRow}
 use Rattle.gtfs_rows.specs.declared.rows.CalendarRow.{CalendarRow}
 use Rattle.gtfs_rows.specs.declared.rows.ExceptionRow.{ExceptionRow}
+use Rattle.gtfs_rows.specs.declared.rows.FrequencyRow.{FrequencyRow}
 use Rattle.sched_load_defs.specs.declared.fault.File.{File}
 use Rattle.sched_load_defs.specs.declared.fault.File.TheVariants as file
 use Rattle.sched_load_defs.specs.declared.fault.LoadFault.{LoadFault}
@@ -123,3 +124,14 @@ abbrev pub consistent_exceptions : List ExceptionRow → Result (List ExceptionR
 consistent_exceptions =
     consistent file.CalendarDates refers_to_none (λ a b. bytes_eq a.service_id b.service_id
     && (a.date == b.date))
+
+-- the trip_id of a row of frequencies.txt is a trip's
+abbrev pub unknown_in_frequency : List TripRow → FrequencyRow → Option Column
+unknown_in_frequency trips row =
+    unless_known column.TripId (has_id (λ trip. trip.trip_id) trips row.trip_id)
+
+-- two rows may be about one trip; what they derive is judged later
+abbrev pub consistent_frequencies : List TripRow → List FrequencyRow
+    → Result (List FrequencyRow) LoadFault
+consistent_frequencies trips =
+    consistent file.Frequencies (unknown_in_frequency trips) (λ a b. false)

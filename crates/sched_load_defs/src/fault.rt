@@ -25,6 +25,8 @@ pub enum File {
     Calendar,
     /// `calendar_dates.txt`
     CalendarDates,
+    /// `frequencies.txt`
+    Frequencies,
 }
 
 impl File {
@@ -40,6 +42,7 @@ impl File {
             File::StopTimes => "stop_times.txt",
             File::Calendar => "calendar.txt",
             File::CalendarDates => "calendar_dates.txt",
+            File::Frequencies => "frequencies.txt",
         }
     }
 }
@@ -60,8 +63,8 @@ pub enum LoadFault {
     /// The zone isn't a rule of the POSIX variable TZ.
     #[error("the zone is no POSIX rule")]
     BadZone,
-    /// A file isn't there that a timetable must have. Only calendar.txt and calendar_dates.txt may be
-    /// absent.
+    /// A file isn't there that a timetable must have. Only calendar.txt, calendar_dates.txt and
+    /// frequencies.txt may be absent.
     #[error("{0} is missing")]
     MissingFile(File),
     /// The file has more than 268,435,456 bytes.
@@ -77,7 +80,8 @@ pub enum LoadFault {
         row: u32,
         column: Column,
     },
-    /// An earlier row of the file has the same id.
+    /// An earlier row of the file has the same id; of frequencies.txt, a trip that the row derives has the id
+    /// of another trip.
     #[error("row {row} of {file} is there twice")]
     Duplicate {
         file: File,

@@ -57,4 +57,6 @@ city = record {
   active = (0 ∷ 1 ∷ 2 ∷ []) ∷ [];
   first = 20250329;
   bases = pos 1743202800 ∷ pos 1743285600 ∷ pos 1743372000 ∷ [];
+  patterns = [];
+  derived = [];
 }

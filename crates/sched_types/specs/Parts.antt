@@ -14,4 +14,6 @@ table_of parts = record {
   active = map (λ v. v.items) parts.active.items;
   first = parts.first;
   bases = parts.bases.items;
+  patterns = parts.patterns.items;
+  derived = parts.derived.items;
 }

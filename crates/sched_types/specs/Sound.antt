@@ -17,6 +17,8 @@ table_in p = record {
   active = map (λ v. v.items) p.active.items;
   first = p.first;
   bases = p.bases.items;
+  patterns = p.patterns.items;
+  derived = p.derived.items;
 }
 
 -- for each stop the stops that name it as parent_station

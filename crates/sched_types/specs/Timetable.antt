@@ -1,7 +1,8 @@
 -- Timetables: the lists of a GTFS Schedule feed whose rows are numbered from 0, and what is true of them.
-use Rattle.std.specs.Prelude.{◌≡◌, ℕ, ◌+◌, ◌^◌, ◌<◌, ◌≤◌, Bool, false, ◌&&◌, ◌==◌, nat_lt, Option, Some, None, unwrap_or, List, [], length, map, filter, position, sum_by, slice_get, IsTrue, ℤ, pos, negsuc, ◌+ℤ◌, ◌≤ℤ◌}
+use Rattle.std.specs.Prelude.{◌≡◌, ℕ, ◌+◌, ◌-◌, ◌^◌, ◌<◌, ◌≤◌, ◌⊎◌, Bool, false, ◌&&◌, ◌==◌, nat_lt, Option, Some, None, unwrap_or, List, [], length, map, filter, position, sum_by, slice_get, IsTrue, ℤ, pos, negsuc, ◌+ℤ◌, ◌≤ℤ◌}
 use Rattle.std.specs.Cmp.Lexicographic.{slice_cmp}
-use Rattle.std.specs.List.{list_any, range_with_len}
+use Rattle.std.specs.List.{find, list_any, range_with_len}
+use Rattle.std.specs.Option.{option_map}
 use Rattle.std.specs.Ordering.{nat_cmp}
 use Rattle.std.specs.Str.{bytes_eq}
 use Rattle.std.specs.declared.cmp.Ordering.TheVariants.{Less}
@@ -11,12 +12,15 @@ use Rattle.sched_types.specs.declared.rows.Route.{Route}
 use Rattle.sched_types.specs.declared.rows.Trip.{Trip}
 use Rattle.sched_types.specs.declared.rows.Place.{Place}
 use Rattle.sched_types.specs.declared.rows.Run.{Run}
+use Rattle.sched_types.specs.declared.rows.PlanPattern.{PlanPattern}
+use Rattle.sched_types.specs.declared.rows.PlanDerived.{PlanDerived}
 use Rattle.sched_types.specs.declared.rows.Counts.{Counts}
 
 -- The rows of the files, numbered by their places in these lists: the ids of the agencies, the stops, the
 -- routes and the trips; for each trip its places, and for each service the days of the window on which it
 -- is active; the date of the window's first day, and for each of its days the instant from which times are
--- counted (GTFS Schedule, "Field Types", Time).
+-- counted (GTFS Schedule, "Field Types", Time). A trip that frequencies.txt names is a pattern and none of the
+-- trips, but the trips that it gives are, each named by its pattern, its start and its number.
 pub record Timetable : Type 0 where
   pub agencies : List (List ℕ)
   pub stops : List Stop
@@ -26,6 +30,8 @@ pub record Timetable : Type 0 where
   pub active : List (List ℕ)
   pub first : ℕ
   pub bases : List ℤ
+  pub patterns : List PlanPattern
+  pub derived : List PlanDerived
 
 -- the number of the row with that id, of rows that tell theirs by id_of
 abbrev pub number_of : {X : Type 0} → (X → List ℕ) → List X → List ℕ → Option ℕ
@@ -92,14 +98,44 @@ departure_at t run i = at (slice_get (places_of t run.trip) i) where
   at None = None
   at (Some place) = Some (base_of t run.day +ℤ pos place.departure)
 
--- how many data rows the files have, and how many days the window has
+-- the number of the pattern with that id
+abbrev pub pattern_with : Timetable → List ℕ → Option ℕ
+pattern_with t id = number_of (λ pattern. pattern.id) t.patterns id
+
+-- the trip of a pattern at a start
+abbrev pub starts_so : ℕ → ℕ → PlanDerived → Bool
+starts_so pattern start derived = (derived.pattern == pattern) && (derived.start == start)
+
+abbrev pub derived_in : List PlanDerived → ℕ → ℕ → Option ℕ
+derived_in derived pattern start =
+    option_map (λ found. found.trip) (find (starts_so pattern start) derived)
+
+abbrev pub derived_trip : Timetable → ℕ → ℕ → Option ℕ
+derived_trip t pattern start = derived_in t.derived pattern start
+
+-- the pattern gives a trip
+abbrev pub has_derived_in : List PlanDerived → ℕ → Bool
+has_derived_in derived pattern = list_any (λ found. found.pattern == pattern) derived
+
+abbrev pub has_derived : Timetable → ℕ → Bool
+has_derived t pattern = has_derived_in t.derived pattern
+
+-- the places of the derived trips, and those of the patterns
+abbrev pub derived_places : Timetable → ℕ
+derived_places t = sum_by (λ found. length (places_of t found.trip)) t.derived
+
+abbrev pub pattern_places : Timetable → ℕ
+pattern_places t = sum_by (λ pattern. pattern.places) t.patterns
+
+-- how many data rows the files have, and how many days the window has: patterns are rows, and derived
+-- trips aren't
 abbrev pub counts_of : Timetable → Counts
 counts_of t = record {
   agencies = length t.agencies;
   stops = length t.stops;
   routes = length t.routes;
-  trips = length t.trips;
-  times = sum_by length t.places;
+  trips = length t.trips - length t.derived + length t.patterns;
+  times = sum_by length t.places - derived_places t + pattern_places t;
   days = length t.bases;
 }
 
@@ -115,6 +151,8 @@ no_timetable =
       active = [];
       first = 19700101;
       bases = [];
+      patterns = [];
+      derived = [];
     }
 
 -- within a trillion seconds of the epoch, so that sums with times stay far within 64 bits
@@ -127,6 +165,12 @@ pub record RisesById {X : Type 0} (id_of : X → List ℕ) (rows : List X) : Typ
   pub rise : (i j : ℕ) (x y : X) → i < j → slice_get rows i ≡ Some x → slice_get rows j ≡ Some y
       → slice_cmp nat_cmp (id_of x) (id_of y) ≡ Less
 
+-- the derived trips go by their patterns, and then by their starts
+pub record RiseByStart (derived : List PlanDerived) : Type 0 where
+  pub rise : (i j : ℕ) (a b : PlanDerived) → i < j → slice_get derived i ≡ Some a
+      → slice_get derived j ≡ Some b
+      → (a.pattern < b.pattern) ⊎ ((a.pattern ≡ b.pattern) × (a.start < b.start))
+
 -- what is true of every timetable
 pub record IsTimetable (t : Timetable) : Type 0 where
   -- there are few of each, and as many lists of places as trips
@@ -138,11 +182,15 @@ pub record IsTimetable (t : Timetable) : Type 0 where
   pub few_times : sum_by length t.places < 2 ^ 32
   pub few_days : length t.bases ≤ 400
   pub places_each : length t.places ≡ length t.trips
+  pub few_rows : length t.trips + length t.patterns < 2 ^ 32
+  pub few_places : sum_by length t.places + pattern_places t < 2 ^ 32
   -- ids rise
   pub agencies_rise : RisesById (λ id. id) t.agencies
   pub stops_rise : RisesById (λ stop. stop.id) t.stops
   pub routes_rise : RisesById (λ route. route.id) t.routes
   pub trips_rise : RisesById (λ trip. trip.id) t.trips
+  pub patterns_rise : RisesById (λ pattern. pattern.id) t.patterns
+  pub derived_rise : RiseByStart t.derived
   -- each number leads to a row
   pub parent_is : (i parent : ℕ) (stop : Stop) → slice_get t.stops i ≡ Some stop → stop.parent
       ≡ Some parent → parent < length t.stops
@@ -154,6 +202,10 @@ pub record IsTimetable (t : Timetable) : Type 0 where
       → trip.service < length t.active
   pub stop_is : (trip i : ℕ) (place : Place) → slice_get (places_of t trip) i ≡ Some place
       → place.stop < length t.stops
+  pub derived_pattern_is : (i : ℕ) (found : PlanDerived) → slice_get t.derived i ≡ Some found
+      → found.pattern < length t.patterns
+  pub derived_trip_is : (i : ℕ) (found : PlanDerived) → slice_get t.derived i ≡ Some found
+      → found.trip < length t.trips
   -- the values of the columns
   pub kind_is : (i : ℕ) (route : Route) → slice_get t.routes i ≡ Some route → route.kind ≤ 9999
   pub direction_is : (i direction : ℕ) (trip : Trip) → slice_get t.trips i ≡ Some trip

@@ -14,6 +14,7 @@
 mod children;
 mod dates;
 mod departures;
+mod derived;
 mod numbers;
 mod plan;
 mod plans;
@@ -21,6 +22,6 @@ mod rows;
 
 pub use plan::Plan;
 pub use plans::{NamedFeed, NamedPlan, Plans};
-pub use rows::{Counts, Place, PlanParts, Route, Run, Stop, Trip};
+pub use rows::{Counts, Place, PlanDerived, PlanParts, PlanPattern, Route, Run, Stop, Trip};
 pub use std::alloc::AllocError as NoMemory;
 pub use texts::ShortText as PlanName;

@@ -2,7 +2,7 @@
 ghost use Rattle.std.specs.Prelude.{◌≡◌, ℕ, ◌^◌, ◌<◌, length, List, IfSome};
 ghost use Rattle.sched_types.specs.Timetable.{RisesById, number_of};
 
-use crate::rows::{Route, Stop, Trip};
+use crate::rows::{PlanPattern, Route, Stop, Trip};
 use texts::ShortText as PlanName;
 
 /// A row that has an id.
@@ -40,6 +40,14 @@ impl Row for Route {
 
 impl Row for Trip {
     ghost id_of = { λ trip. trip.id };
+
+    fn id(&self) -> &PlanName {
+        &self.id
+    }
+}
+
+impl Row for PlanPattern {
+    ghost id_of = { λ pattern. pattern.id };
 
     fn id(&self) -> &PlanName {
         &self.id

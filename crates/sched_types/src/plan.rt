@@ -4,15 +4,16 @@ ghost use Rattle.std.specs.List.{range_with_len};
 ghost use Rattle.std.specs.Bool.{OnTrue};
 ghost use Rattle.std.specs.Option.{ForSome};
 ghost use Rattle.text_defs.specs.Dates.{date_plus};
-ghost use Rattle.sched_types.specs.Timetable.{IsTimetable, IsSmall, number_of, places_of, is_run, children_of, day_with_date, counts_of, no_timetable};
+ghost use Rattle.sched_types.specs.Timetable.{IsTimetable, IsSmall, number_of, places_of, is_run, children_of, day_with_date, counts_of, no_timetable, pattern_with, derived_trip, has_derived};
 ghost use Rattle.sched_types.specs.Departures.{departs_so};
 ghost use Rattle.sched_types.specs.Parts.{table_of};
 
 use crate::children::children_lists;
 use crate::dates::dates_from;
 use crate::departures::{Departure, by_departure, departing};
+use crate::derived::{derived_at, has_derived};
 use crate::numbers::number_by_id;
-use crate::rows::{Counts, Place, PlanParts, Route, Run, Stop, Trip};
+use crate::rows::{Counts, Place, PlanDerived, PlanParts, PlanPattern, Route, Run, Stop, Trip};
 use std::alloc::{AllocError, Global};
 use std::marker::Model;
 use texts::{ShortText as PlanName, day_number, is_valid_date};
@@ -31,6 +32,8 @@ pub struct Plan {
     active: Vec<Vec<u32>>,
     first: u32,
     bases: Vec<i64>,
+    patterns: Vec<PlanPattern>,
+    derived: Vec<PlanDerived>,
     /// For each stop the numbers of its children, rising.
     children: Vec<Vec<u32>>,
     /// The dates of the window's days.
@@ -69,6 +72,8 @@ impl Plan {
             active,
             first,
             bases,
+            patterns,
+            derived,
         } = parts;
         Ok(Plan {
             agencies,
@@ -79,6 +84,8 @@ impl Plan {
             active,
             first,
             bases,
+            patterns,
+            derived,
             children,
             dates,
             departures,
@@ -98,6 +105,8 @@ impl Plan {
             active: Vec::new(alloc),
             first: 19_700_101,
             bases: Vec::new(alloc),
+            patterns: Vec::new(alloc),
+            derived: Vec::new(alloc),
             children: Vec::new(alloc),
             dates: Vec::new(alloc),
             departures: Vec::new(alloc),
@@ -139,6 +148,31 @@ impl Plan {
         ensures within { IfSome result (λ trip. trip < length self.now.trips) }
     {
         number_by_id(self.trips.as_slice(), id)
+    }
+
+    /// The number of the trip of frequencies.txt with that id, in byte order of their ids. It takes no memory.
+    pub fn pattern_of(&self, id: &str) -> Option<u32>
+        ensures value { result ≡ pattern_with self.now id.now }
+        ensures within { IfSome result (λ pattern. pattern < length self.now.patterns) }
+    {
+        number_by_id(self.patterns.as_slice(), id)
+    }
+
+    /// The number of the trip that a pattern gives at a start, in seconds of the service day. It takes no memory.
+    pub fn derived(&self, pattern: u32, start: u32) -> Option<u32>
+        requires { pattern < length self.now.patterns }
+        ensures value { result ≡ derived_trip self.now pattern start }
+        ensures within { IfSome result (λ trip. trip < length self.now.trips) }
+    {
+        derived_at(self.derived.as_slice(), pattern, start)
+    }
+
+    /// Whether a pattern gives any trip. It takes no memory.
+    pub fn has_derived(&self, pattern: u32) -> bool
+        requires { pattern < length self.now.patterns }
+        ensures { result ≡ has_derived self.now pattern }
+    {
+        has_derived(self.derived.as_slice(), pattern)
     }
 
     /// The number of the route with that id.

@@ -67,6 +67,26 @@ pub struct Run {
     pub day: u32,
 }
 
+/// A trip that frequencies.txt names, which has no run of its own.
+#[derive(Debug, Drop)]
+pub struct PlanPattern {
+    /// Its `trip_id`.
+    pub id: PlanName,
+    /// How many rows of stop_times.txt it has.
+    pub places: u32,
+}
+
+/// A trip that a row of frequencies.txt gives: its pattern at a start.
+#[derive(Clone, Copy, Debug, PartialEq, Eq)]
+pub struct PlanDerived {
+    /// The number of its pattern, in byte order of the ids.
+    pub pattern: u32,
+    /// When it starts, in seconds of the service day.
+    pub start: u32,
+    /// Its number among the trips.
+    pub trip: u32,
+}
+
 /// The lists of which a timetable is made. Each list of rows stands in byte order of its ids.
 #[derive(Drop)]
 pub struct PlanParts {
@@ -87,6 +107,10 @@ pub struct PlanParts {
     /// For each day of the window the instant from which its times are counted, in seconds of the
     /// Unix epoch.
     pub bases: Vec<i64>,
+    /// The trips that frequencies.txt names, in byte order of their ids. They aren't among the trips.
+    pub patterns: Vec<PlanPattern>,
+    /// The trips that it derives of them, by the number of the pattern and then by the start.
+    pub derived: Vec<PlanDerived>,
 }
 
 /// How many rows of each file a timetable has, and how many days its window has.
@@ -98,9 +122,9 @@ pub struct Counts {
     pub stops: u32,
     /// The rows of routes.txt.
     pub routes: u32,
-    /// The rows of trips.txt.
+    /// The rows of trips.txt, patterns among them and derived trips not.
     pub trips: u32,
-    /// The rows of stop_times.txt.
+    /// The rows of stop_times.txt, of which those of patterns count and those of derived trips don't.
     pub times: u32,
     /// The days of the window.
     pub days: u32,

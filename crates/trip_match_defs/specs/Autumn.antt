@@ -22,4 +22,6 @@ autumn = record {
   active = (0 ∷ 1 ∷ []) ∷ [];
   first = 20251025;
   bases = pos 1761343200 ∷ pos 1761433200 ∷ pos 1761519600 ∷ [];
+  patterns = [];
+  derived = [];
 }

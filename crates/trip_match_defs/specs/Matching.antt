@@ -1,12 +1,12 @@
 -- Which run a TripDescriptor is about (GTFS Realtime, TripDescriptor), at an instant: that of the update in
--- which it stands. Of six rules the first that applies decides; that they come in this order is a rule of this
--- project.
+-- which it stands. Of six rules, and one more between the third and the fourth, the first that applies decides;
+-- that they come in this order is a rule of this project.
 use Rattle.std.specs.Prelude.{ℕ, ◌-◌, Bool, ◌&&◌, if◌then◌else◌, Option, Some, None, unwrap_or, option_and_then, List, [], ◌∷◌, length, map, filter, fold, ℤ, pos, ◌+ℤ◌, ◌-ℤ◌, int_lt, int_le}
 use Rattle.std.specs.List.{list_any, range_with_len}
 use Rattle.rt_types.specs.declared.enums.TripRelation.{TripRelation}
 use Rattle.rt_types.specs.declared.enums.TripRelation.TheVariants as relation
 use Rattle.rt_types.specs.declared.descriptor.TripRef.{TripRef}
-use Rattle.sched_types.specs.Timetable.{Timetable, number_of, places_of, is_run, base_of, arrival_at, departure_at, day_with_date}
+use Rattle.sched_types.specs.Timetable.{Timetable, number_of, places_of, is_run, base_of, arrival_at, departure_at, day_with_date, pattern_with, derived_trip, has_derived}
 use Rattle.sched_types.specs.Departures.{departs_so}
 use Rattle.trip_match_defs.specs.declared.found.Found.{Found}
 use Rattle.trip_match_defs.specs.declared.found.Found.TheVariants as found
@@ -58,6 +58,30 @@ rule_3_added_trip relation.Replacement id = None
 rule_3_added_trip relation.Duplicated id = None
 rule_3_added_trip relation.Deleted id = None
 
+-- Before the fourth: a trip_id that frequencies.txt names is a pattern, of which the start_time says the trip
+-- (GTFS Realtime, TripDescriptor, start_time: it must be given for trips of frequencies.txt). That a pattern
+-- without trips has none, and that an absent start_time leaves several, are rules of this project.
+abbrev pub unless_derived : Option ℕ → Option Found
+unless_derived None = no_match why.NoTrip
+unless_derived (Some trip) = None
+
+abbrev pub unless_start : Timetable → ℕ → Option ℕ → Option Found
+unless_start t pattern None = no_match why.BadText
+unless_start t pattern (Some start) = unless_derived (derived_trip t pattern start)
+
+abbrev pub unless_start_text : Timetable → ℕ → Option (List ℕ) → Option Found
+unless_start_text t pattern None = no_match why.Several
+unless_start_text t pattern (Some text) = unless_start t pattern (time_in text)
+
+abbrev pub unless_pattern : Timetable → Option ℕ → Option (List ℕ) → Option Found
+unless_pattern t None time = None
+unless_pattern t (Some pattern) time =
+    if has_derived t pattern then unless_start_text t pattern time else no_match why.NoTrip
+
+abbrev pub rule_pattern : Timetable → Option (List ℕ) → Option (List ℕ) → Option Found
+rule_pattern t None time = None
+rule_pattern t (Some id) time = unless_pattern t (pattern_with t id) time
+
 -- 4. A trip with a trip_id is in the timetable; with a start_date it is the run on that day.
 abbrev pub run_on : Timetable → ℕ → Option ℕ → Found
 run_on t trip None = found.NoMatch why.NoDay
@@ -76,9 +100,19 @@ run_of_trip t (Some trip) date = run_on_date t trip date
 abbrev pub trip_with : Timetable → List ℕ → Option ℕ
 trip_with t id = number_of (λ trip. trip.id) t.trips id
 
-abbrev pub rule_4_trip_id : Timetable → Option (List ℕ) → Option ℕ → Option Found
-rule_4_trip_id t None date = None
-rule_4_trip_id t (Some id) date = run_of_trip t (trip_with t id) date
+-- the trip that is meant: that of a pattern at its start, and else the one with the id
+abbrev pub trip_meant_by : Timetable → List ℕ → Option (List ℕ) → Option ℕ → Option ℕ
+trip_meant_by t id time None = trip_with t id
+trip_meant_by t id time (Some pattern) =
+    option_and_then (derived_trip t pattern) (option_and_then time_in time)
+
+abbrev pub trip_meant : Timetable → List ℕ → Option (List ℕ) → Option ℕ
+trip_meant t id time = trip_meant_by t id time (pattern_with t id)
+
+abbrev pub rule_4_trip_id : Timetable → Option (List ℕ) → Option (List ℕ) → Option ℕ
+    → Option Found
+rule_4_trip_id t None time date = None
+rule_4_trip_id t (Some id) time date = run_of_trip t (trip_meant t id time) date
 
 -- 5. Without a start_date it is the run on the near day whose span lies nearest to the instant.
 
@@ -135,9 +169,9 @@ abbrev pub run_near_instant : Timetable → ℤ → Option ℕ → Option Found
 run_near_instant t instant None = None
 run_near_instant t instant (Some trip) = Some (by_near t instant trip)
 
-abbrev pub rule_5_nearest_day : Timetable → ℤ → Option (List ℕ) → Option Found
-rule_5_nearest_day t instant None = None
-rule_5_nearest_day t instant (Some id) = run_near_instant t instant (trip_with t id)
+abbrev pub rule_5_nearest_day : Timetable → ℤ → Option (List ℕ) → Option (List ℕ) → Option Found
+rule_5_nearest_day t instant None time = None
+rule_5_nearest_day t instant (Some id) time = run_near_instant t instant (trip_meant t id time)
 
 -- 6. Without a trip_id it is the one run on that day of that route and direction that first departs at that time.
 abbrev pub only_trip : ℕ → List ℕ → Found
@@ -185,7 +219,10 @@ match_of t trip stamp =
     first_rule (rule_1_relation (relation_of trip))
     (first_rule (rule_2_start_date (text_given trip.start_date))
     (first_rule (rule_3_added_trip (relation_of trip) (text_given trip.trip_id))
-    (first_rule (rule_4_trip_id t (text_given trip.trip_id) (start_day trip))
-    (first_rule (rule_5_nearest_day t (pos stamp) (text_given trip.trip_id))
+    (first_rule (rule_pattern t (text_given trip.trip_id) (text_given trip.start_time))
+    (first_rule
+    (rule_4_trip_id t (text_given trip.trip_id) (text_given trip.start_time) (start_day trip))
+    (first_rule
+    (rule_5_nearest_day t (pos stamp) (text_given trip.trip_id) (text_given trip.start_time))
     (rule_6_route_and_time t (text_given trip.route_id) trip.direction_id (start_day trip)
-    (text_given trip.start_time))))))
+    (text_given trip.start_time)))))))
