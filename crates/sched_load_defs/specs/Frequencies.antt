@@ -1,9 +1,11 @@
--- The trips that frequencies.txt names and those that it gives (GTFS Schedule, frequencies.txt). A trip that
--- any row names is a pattern: it has no run of its own. The trips that exact rows derive of it have its route,
--- service, headsign, direction, stops, stop_sequences and pickup types.
-use Rattle.std.specs.Prelude.{ℕ, Bool, false, not, ◌==◌, List, [], ◌∷◌, ◌++◌, length, map, filter, zip, Option, Some, None, unwrap_or, Result, Ok, Err, slice_get}
-use Rattle.std.specs.List.{enumerate_from, flat_map, range_with_len}
-use Rattle.std.specs.Ordering.{nat_cmp}
+-- What frequencies.txt makes of a timetable in which each trip of trips.txt is one trip (GTFS Schedule,
+-- frequencies.txt). A trip that any row names is a pattern, and none of the trips any more. In its place come the
+-- trips that exact rows derive of it, with its route, service, headsign, direction, stops, stop_sequences and
+-- pickup types; that the other rows add no trips is a rule of this project.
+use Rattle.std.specs.Prelude.{ℕ, Bool, false, not, ◌==◌, List, [], ◌∷◌, ◌++◌, length, map, filter, zip, Option, Some, None, Result, Ok, Err, slice_get}
+use Rattle.std.specs.List.{enumerate_from, flat_map}
+use Rattle.std.specs.Ordering.{nat_cmp, ordering_then}
+use Rattle.std.specs.declared.cmp.Ordering.{Ordering}
 use Rattle.freq_runs.specs.declared.times.PlaceTime.{PlaceTime}
 use Rattle.freq_runs.specs.declared.rows.Pattern.{Pattern}
 use Rattle.freq_runs.specs.declared.rows.Frequency.{Frequency}
@@ -11,134 +13,133 @@ use Rattle.freq_runs.specs.declared.rows.Derived.{Derived}
 use Rattle.freq_runs.specs.declared.fault.DeriveFault.{DeriveFault}
 use Rattle.freq_runs.specs.declared.fault.DeriveFault.TheVariants as derive
 use Rattle.freq_runs.specs.Faults.{derived_trips}
-use Rattle.text_defs.specs.Dates.{date_plus}
-use Rattle.service_day.specs.Zone.{TzText, base_of}
 use Rattle.gtfs_rows.specs.declared.fault.RowFault.TheVariants as row_fault
-use Rattle.gtfs_rows.specs.declared.rows.TripRow.{TripRow}
 use Rattle.gtfs_rows.specs.declared.rows.FrequencyRow.{FrequencyRow}
 use Rattle.sched_types.specs.declared.rows.Trip.{Trip}
 use Rattle.sched_types.specs.declared.rows.Place.{Place}
 use Rattle.sched_types.specs.declared.rows.PlanPattern.{PlanPattern}
 use Rattle.sched_types.specs.declared.rows.PlanDerived.{PlanDerived}
-use Rattle.sched_types.specs.Timetable.{Timetable, number_of}
+use Rattle.sched_types.specs.Timetable.{Timetable}
 use Rattle.sched_load_defs.specs.declared.fault.File.TheVariants as file
 use Rattle.sched_load_defs.specs.declared.fault.LoadFault.{LoadFault}
 use Rattle.sched_load_defs.specs.declared.fault.LoadFault.TheVariants as fault
 use Rattle.sched_load_defs.specs.References.{has_id, row_at}
-use Rattle.sched_load_defs.specs.Services.{active_days}
-use Rattle.sched_load_defs.specs.Times.{Times, all_times}
-use Rattle.sched_load_defs.specs.Numbers.{Dataset, agency_ids, stop_rows, stop_of, route_rows, route_of, service_ids, trip_rows, stop_times_of, given_times, places_with, trip_of, known_number, by_id, rows_by_key}
+use Rattle.sched_load_defs.specs.Numbers.{by_id, known_number, rows_by_key}
 
--- a row of frequencies.txt names the trip
-abbrev pub is_pattern : Dataset → TripRow → Bool
-is_pattern dataset trip = has_id (λ row. row.trip_id) dataset.frequencies trip.trip_id
+-- a trip with its places
+abbrev pub TimedTrip : Type 0
+TimedTrip = Trip × List Place
 
-abbrev pub pattern_rows : Dataset → List TripRow
-pattern_rows dataset = filter (is_pattern dataset) (trip_rows dataset)
+abbrev pub id_of : TimedTrip → List ℕ
+id_of (trip, places) = trip.id
 
-abbrev pub own_rows : Dataset → List TripRow
-own_rows dataset = filter (λ trip. not (is_pattern dataset trip)) (trip_rows dataset)
+abbrev pub timed_trips : Timetable → List TimedTrip
+timed_trips t = zip t.trips t.places
 
-abbrev pub place_time : Times → PlaceTime
-place_time times = record { arrival = times.arrival; departure = times.departure }
+-- a row names the trip
+abbrev pub is_named : List FrequencyRow → TimedTrip → Bool
+is_named rows timed = has_id (λ row. row.trip_id) rows (id_of timed)
 
--- a pattern, whose untimed places have the times between
-abbrev pub pattern_of : Dataset → TripRow → Pattern
-pattern_of dataset trip = record {
-  id = trip.trip_id;
-  times = map place_time (all_times (given_times (stop_times_of dataset.stop_times trip.trip_id)));
-}
+-- the patterns, and the trips that are none
+unfoldable pub patterns_in : List FrequencyRow → Timetable → List TimedTrip
+patterns_in rows t = filter (is_named rows) (timed_trips t)
+
+unfoldable pub other_trips : List FrequencyRow → Timetable → List TimedTrip
+other_trips rows t = filter (λ timed. not (is_named rows timed)) (timed_trips t)
+
+-- a pattern, as trips are derived of it
+abbrev pub place_time : Place → PlaceTime
+place_time place = record { arrival = place.arrival; departure = place.departure }
+
+abbrev pub pattern_of : TimedTrip → Pattern
+pattern_of (trip, places) = record { id = trip.id; times = map place_time places }
 
 -- exact_times 1 says that trips run at just these times; 0 and an empty one that they don't
 abbrev pub is_exact : Option ℕ → Bool
 is_exact None = false
 is_exact (Some exact) = exact == 1
 
-abbrev pub frequency_of : Dataset → ℕ × FrequencyRow → Frequency
-frequency_of dataset (place, row) = record {
+abbrev pub frequency_of : List TimedTrip → ℕ × FrequencyRow → Frequency
+frequency_of patterns (place, row) = record {
   row = row_at place;
-  pattern = known_number (λ trip. trip.trip_id) (pattern_rows dataset) row.trip_id;
+  pattern = known_number id_of patterns row.trip_id;
   start = row.start_time;
   end = row.end_time;
   headway = row.headway_secs;
   exact = is_exact row.exact_times;
 }
 
--- what is told of a fault of the derived trips
-abbrev pub of_fault : DeriveFault → LoadFault
-of_fault derive.TooMany = fault.Rows file.Frequencies row_fault.TooMany
-of_fault (derive.Duplicate row) = fault.Duplicate file.Frequencies row
-of_fault derive.NoMemory = fault.NoMemory
-
-abbrev pub of_derive : Result (List Derived) DeriveFault → Result (List Derived) LoadFault
-of_derive (Ok trips) = Ok trips
-of_derive (Err e) = Err (of_fault e)
-
--- the trips that the rows derive, or their first fault; all trip_ids of trips.txt are taken
-unfoldable pub derived_of : Dataset → Result (List Derived) LoadFault
-derived_of dataset =
-    of_derive (derived_trips (map (pattern_of dataset) (pattern_rows dataset))
-    (map (λ trip. trip.trip_id) dataset.trips)
-    (map (frequency_of dataset) (enumerate_from 0 dataset.frequencies)))
-
--- a trip with its places
-abbrev pub own_trip : Dataset → TripRow → Trip × List Place
-own_trip dataset row =
-    (trip_of dataset row, places_with dataset (stop_times_of dataset.stop_times row.trip_id))
+-- the trips that the rows derive, or their first fault; the ids of all trips of trips.txt are taken
+unfoldable pub derived_of : List FrequencyRow → Timetable → Result (List Derived) DeriveFault
+derived_of rows t =
+    derived_trips (map pattern_of (patterns_in rows t)) (map (λ trip. trip.id) t.trips)
+    (map (frequency_of (patterns_in rows t)) (enumerate_from 0 rows))
 
 -- a place of a pattern at another time
 abbrev pub at_time : Place × PlaceTime → Place
 at_time (place, time) = record place { arrival = time.arrival; departure = time.departure }
 
-abbrev pub derived_trip_of : Dataset → Derived → Option TripRow → List (Trip × List Place)
-derived_trip_of dataset derived None = []
-derived_trip_of dataset derived (Some row) = (
-  record (trip_of dataset row) { id = derived.id },
-  map at_time (zip (places_with dataset (stop_times_of dataset.stop_times row.trip_id)) derived.times),
-)
-    ∷ []
+-- a derived trip with its places
+abbrev pub trip_of_pattern : Derived → Option TimedTrip → List TimedTrip
+trip_of_pattern derived None = []
+trip_of_pattern derived (Some (trip, places)) =
+    (record trip { id = derived.id }, map at_time (zip places derived.times)) ∷ []
 
--- the trips of the timetable by rising bytes of their ids: those of trips.txt that are no patterns, and the
--- derived ones
-unfoldable pub timed_trips : Dataset → List Derived → List (Trip × List Place)
-timed_trips dataset derived =
-    by_id (λ timed. (timed.0).id)
-    (map (own_trip dataset) (own_rows dataset)
-    ++ flat_map (λ d. derived_trip_of dataset d (slice_get (pattern_rows dataset) d.pattern)) derived)
+abbrev pub timed_of : List TimedTrip → Derived → List TimedTrip
+timed_of patterns derived = trip_of_pattern derived (slice_get patterns derived.pattern)
 
-abbrev pub plan_pattern : Dataset → TripRow → PlanPattern
-plan_pattern dataset row = record {
-  id = row.trip_id;
-  places = length (stop_times_of dataset.stop_times row.trip_id);
-}
+-- all trips by rising bytes of their ids: those that are no patterns, and the derived ones
+unfoldable pub all_trips : List FrequencyRow → Timetable → List Derived → List TimedTrip
+all_trips rows t derived =
+    by_id id_of (other_trips rows t ++ flat_map (timed_of (patterns_in rows t)) derived)
 
-abbrev pub plan_derived : List (Trip × List Place) → Derived → PlanDerived
+abbrev pub plan_pattern : TimedTrip → PlanPattern
+plan_pattern (trip, places) = record { id = trip.id; places = length places }
+
+-- which of the trips a derived one is
+abbrev pub plan_derived : List TimedTrip → Derived → PlanDerived
 plan_derived timed derived = record {
   pattern = derived.pattern;
   start = derived.start;
-  trip = unwrap_or (number_of (λ trip. (trip.0).id) timed derived.id) 0;
+  trip = known_number id_of timed derived.id;
 }
 
--- the derived trips by their patterns, and then by their starts
-unfoldable pub plan_deriveds : Dataset → List Derived → List PlanDerived
-plan_deriveds dataset derived =
-    flat_map
-    (λ pattern. rows_by_key nat_cmp (λ d. d.start)
-    (filter (λ d. d.pattern == pattern) (map (plan_derived (timed_trips dataset derived)) derived)))
-    (range_with_len 0 (length (pattern_rows dataset)))
+-- by the patterns, and then by the starts
+abbrev pub start_cmp : ℕ × ℕ → ℕ × ℕ → Ordering
+start_cmp (pattern, start) (other, later) =
+    ordering_then (nat_cmp pattern other) (nat_cmp start later)
 
--- the timetable of rows that are consistent and of the trips that they derive, in a zone, for a window of days
--- from a first one on
-unfoldable pub timetable_of : TzText → ℕ → ℕ → Dataset → List Derived → Timetable
-timetable_of rule first days dataset derived = record {
-  agencies = agency_ids dataset;
-  stops = map (stop_of dataset) (stop_rows dataset);
-  routes = map (route_of dataset) (route_rows dataset);
-  trips = map (λ timed. timed.0) (timed_trips dataset derived);
-  places = map (λ timed. timed.1) (timed_trips dataset derived);
-  active = map (active_days dataset.calendar dataset.exceptions first days) (service_ids dataset);
-  first = first;
-  bases = map (λ day. base_of rule (date_plus first day)) (range_with_len 0 days);
-  patterns = map (plan_pattern dataset) (pattern_rows dataset);
-  derived = plan_deriveds dataset derived;
+abbrev pub start_of : PlanDerived → ℕ × ℕ
+start_of derived = (derived.pattern, derived.start)
+
+unfoldable pub plan_deriveds : List TimedTrip → List Derived → List PlanDerived
+plan_deriveds timed derived = rows_by_key start_cmp start_of (map (plan_derived timed) derived)
+
+-- the timetable with these derived trips in place of the patterns
+unfoldable pub with_derived : List FrequencyRow → Timetable → List Derived → Timetable
+with_derived rows t derived = record t {
+  trips = map (λ timed. timed.0) (all_trips rows t derived);
+  places = map (λ timed. timed.1) (all_trips rows t derived);
+  patterns = map plan_pattern (patterns_in rows t);
+  derived = plan_deriveds (all_trips rows t derived) derived;
 }
+
+-- the same, or the fault of the derived trips
+abbrev pub with_derived_or : List FrequencyRow → Timetable → Result (List Derived) DeriveFault
+    → Result Timetable DeriveFault
+with_derived_or rows t (Ok derived) = Ok (with_derived rows t derived)
+with_derived_or rows t (Err e) = Err e
+
+-- the timetable with the trips that the rows derive in place of those that they name, or their first fault
+unfoldable pub with_frequencies : List FrequencyRow → Timetable → Result Timetable DeriveFault
+with_frequencies rows t = with_derived_or rows t (derived_of rows t)
+
+-- what loading tells of that fault
+abbrev pub load_fault_of : DeriveFault → LoadFault
+load_fault_of derive.TooMany = fault.Rows file.Frequencies row_fault.TooMany
+load_fault_of (derive.Duplicate row) = fault.Duplicate file.Frequencies row
+load_fault_of derive.NoMemory = fault.NoMemory
+
+abbrev pub load_answer_of : Result Timetable DeriveFault → Result Timetable LoadFault
+load_answer_of (Ok t) = Ok t
+load_answer_of (Err e) = Err (load_fault_of e)

@@ -14,8 +14,8 @@ use Rattle.sched_load_defs.specs.declared.fault.LoadFault.TheVariants as fault
 use Rattle.sched_load_defs.specs.Files.{required_rows, optional_rows, stored_in}
 use Rattle.sched_load_defs.specs.References.{first_fault, row_at, consistent_agencies, consistent_stops, consistent_routes, consistent_trips, consistent_stop_times, consistent_calendar, consistent_exceptions, consistent_frequencies}
 use Rattle.sched_load_defs.specs.Times.{are_times}
-use Rattle.sched_load_defs.specs.Numbers.{Dataset, stop_times_of, given_times}
-use Rattle.sched_load_defs.specs.Frequencies.{derived_of, timetable_of}
+use Rattle.sched_load_defs.specs.Numbers.{Dataset, stop_times_of, given_times, timetable_of}
+use Rattle.sched_load_defs.specs.Frequencies.{with_frequencies, load_answer_of}
 
 -- the rule of a zone
 abbrev pub zone_of : List ℕ → Result TzText LoadFault
@@ -68,15 +68,15 @@ with_times dataset =
     unless (first_fault (times_fault dataset) (enumerate_from 0 dataset.trips)) dataset
 
 -- The timetable by what is told of each of the eight files, or the first fault: of the zone, then of
--- the files, then of the trips' times, then of the trips that frequencies.txt derives.
+-- the files, then of the trips' times, then of the trips that frequencies.txt gives.
 unfoldable pub timetable_where : (File → Result (Option (List ℕ)) LoadFault) → PlanConf
     → Result Timetable LoadFault
 timetable_where told conf = do
   rule ← zone_of conf.zone
   rows ← dataset_where told
   dataset ← with_times rows
-  derived ← derived_of dataset
-  Ok (timetable_of rule conf.first conf.days dataset derived)
+  load_answer_of
+  (with_frequencies dataset.frequencies (timetable_of rule conf.first conf.days dataset))
 
 -- the timetable of a folder, or the first fault
 unfoldable pub timetable : List (List ℕ × List ℕ) → List ℕ → PlanConf → Result Timetable LoadFault

@@ -3,6 +3,7 @@
 use Rattle.std.specs.Prelude.{ℕ, ◌==◌, bytes_eq, if◌then◌else◌, List, [], ◌∷◌, ◌++◌, length, map, filter, zip, Option, Some, None, unwrap_or}
 use Rattle.std.specs.Cmp.Lexicographic.{slice_cmp}
 use Rattle.std.specs.FinMap.Entries.{put}
+use Rattle.std.specs.List.{range_with_len}
 use Rattle.std.specs.Ordering.{nat_cmp}
 use Rattle.std.specs.declared.cmp.Ordering.{Ordering}
 use Rattle.gtfs_rows.specs.declared.rows.AgencyRow.{AgencyRow}
@@ -13,11 +14,14 @@ use Rattle.gtfs_rows.specs.declared.rows.StopTimeRow.{StopTimeRow}
 use Rattle.gtfs_rows.specs.declared.rows.CalendarRow.{CalendarRow}
 use Rattle.gtfs_rows.specs.declared.rows.ExceptionRow.{ExceptionRow}
 use Rattle.gtfs_rows.specs.declared.rows.FrequencyRow.{FrequencyRow}
+use Rattle.text_defs.specs.Dates.{date_plus}
+use Rattle.service_day.specs.Zone.{TzText, base_of}
 use Rattle.sched_types.specs.declared.rows.Stop.{Stop}
 use Rattle.sched_types.specs.declared.rows.Route.{Route}
 use Rattle.sched_types.specs.declared.rows.Trip.{Trip}
 use Rattle.sched_types.specs.declared.rows.Place.{Place}
-use Rattle.sched_types.specs.Timetable.{number_of}
+use Rattle.sched_types.specs.Timetable.{Timetable, number_of}
+use Rattle.sched_load_defs.specs.Services.{active_days}
 use Rattle.sched_load_defs.specs.Times.{Times, times_of, all_times}
 
 -- the rows of the eight files
@@ -123,3 +127,20 @@ place_of dataset (row, times) = record {
 -- the places of stop times
 abbrev pub places_with : Dataset → List StopTimeRow → List Place
 places_with dataset rows = map (place_of dataset) (zip rows (all_times (given_times rows)))
+
+-- The timetable of rows that are consistent, in a zone, for a window of days from a first one on, in which each
+-- trip of trips.txt is one trip: as if there were no frequencies.txt.
+unfoldable pub timetable_of : TzText → ℕ → ℕ → Dataset → Timetable
+timetable_of rule first days dataset = record {
+  agencies = agency_ids dataset;
+  stops = map (stop_of dataset) (stop_rows dataset);
+  routes = map (route_of dataset) (route_rows dataset);
+  trips = map (trip_of dataset) (trip_rows dataset);
+  places = map (λ trip. places_with dataset (stop_times_of dataset.stop_times trip.trip_id))
+      (trip_rows dataset);
+  active = map (active_days dataset.calendar dataset.exceptions first days) (service_ids dataset);
+  first = first;
+  bases = map (λ day. base_of rule (date_plus first day)) (range_with_len 0 days);
+  patterns = [];
+  derived = [];
+}
