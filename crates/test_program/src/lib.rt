@@ -14,6 +14,8 @@ mod city;
 #[cfg(test)]
 mod connections;
 #[cfg(test)]
+mod frequencies;
+#[cfg(test)]
 mod hostile;
 #[cfg(test)]
 mod lists;
