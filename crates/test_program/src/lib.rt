@@ -31,3 +31,5 @@ mod runs;
 mod scripts;
 #[cfg(test)]
 mod server_word;
+#[cfg(test)]
+mod two_timetables;
