@@ -21,6 +21,9 @@ pub mod DayLemmas
 pub mod TimeLemmas
 pub mod TripLemmas
 pub mod BuildLemmas
+pub mod TimeColumns
+pub mod EarlyTimes
 pub mod Sound
 pub mod PartLemmas
+pub mod PlainTable
 pub mod RestLemmas

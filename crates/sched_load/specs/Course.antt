@@ -57,10 +57,3 @@ pub record Steps (before after : Course) (stay : Stay) (visit : Visit)
       ≡ stay_times stay ∷ times_behind after.departure after.behind (given_of rest)
   pub ahead : Remembers after.ahead rest
   pub behind : after.behind ≤ before.behind + 1
-
--- the times of a place are 32 bits
-abbrev pub FitsPlace : Place → Type 0
-FitsPlace place = (place.arrival < 2 ^ 32) × (place.departure < 2 ^ 32)
-
-abbrev pub AllFit : List Place → Type 0
-AllFit places = (i : ℕ) (place : Place) → slice_get places i ≡ Some place → FitsPlace place
