@@ -23,7 +23,7 @@ use Rattle.gtfs_rows.specs.declared.rows.StopTimeRow.{StopTimeRow}
 use Rattle.sched_load.specs.declared.visits.Visit.{Visit}
 use Rattle.sched_load.specs.Arranged.{ReadsArranged}
 use Rattle.sched_load.specs.Tables.{ReadsTables}
-use Rattle.sched_load.specs.Answer.{AnswersFromFiles, Loads, Refuses, RefusesAlone, HasLoadCause, HasFaultCause, IsPlain}
+use Rattle.sched_load.specs.Answer.{AnswersFromFiles, items_in, Loads, Refuses, RefusesAlone, HasLoadCause, HasFaultCause, IsPlain}
 
 -- what is at fault in a step is at fault in the whole
 refuses_whole : {A B : Type 0} (one : Result A LoadFault) (whole : Result B LoadFault) (e : LoadFault) → ((f : LoadFault) → one ≡ Err f → whole ≡ Err f) → Refuses one e → Refuses whole e
@@ -157,6 +157,11 @@ no_memory contents told count = record { loads = by contents; cause = (omega ari
 pub passed : {A : Type 0} (contents : Option (List (List ℕ × List ℕ))) (told : List (List ℕ × List ℕ) → Result A LoadFault) (before after : ℕ) (r : Result A LoadFault) (e : LoadFault) → IsErrAnd r (λ x. x ≡ e) → AnswersFromFiles contents told before after (Err e) → AnswersFromFiles contents told before after r
 passed contents told before after (Ok x) e p h = absurd p
 passed contents told before after (Err y) e p h = rw p h
+
+-- the same of rows that are read
+pub rows_passed : {R : Type 0} (contents : Option (List (List ℕ × List ℕ))) (told : List (List ℕ × List ℕ) → Result (List R) LoadFault) (before after : ℕ) (r : Result (Vec R Global) LoadFault) (e : LoadFault) → IsErrAnd r (λ x. x ≡ e) → AnswersFromFiles contents told before after (Err e) → AnswersFromFiles contents told before after (items_in r)
+rows_passed contents told before after (Ok x) e p h = absurd p
+rows_passed contents told before after (Err y) e p h = rw p h
 
 -- the same of the tables that are read
 pub tables_passed : (contents : Option (List (List ℕ × List ℕ))) (told : List (List ℕ × List ℕ) → Result Dataset LoadFault) (before after : ℕ) (r : Result Tables LoadFault) (e : LoadFault) → IsErrAnd r (λ x. x ≡ e) → AnswersFromFiles contents told before after (Err e) → ReadsTables contents told before after r

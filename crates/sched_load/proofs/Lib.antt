@@ -14,6 +14,7 @@ pub mod Chain
 pub mod Laws
 pub mod ServiceLemmas
 pub mod ParentLemmas
+pub mod FrequencyLemmas
 pub mod WholeChain
 pub mod Stopping
 pub mod ColumnLaws
