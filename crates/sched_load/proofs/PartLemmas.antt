@@ -21,6 +21,8 @@ use Rattle.sched_types.specs.declared.rows.Stop.{Stop}
 use Rattle.sched_types.specs.declared.rows.Route.{Route}
 use Rattle.sched_types.specs.declared.rows.Trip.{Trip}
 use Rattle.sched_types.specs.declared.rows.Place.{Place}
+use Rattle.sched_types.specs.declared.rows.PlanPattern.{PlanPattern}
+use Rattle.sched_types.specs.declared.rows.PlanDerived.{PlanDerived}
 use Rattle.text_defs.specs.Dates.{date_plus}
 use Rattle.service_day.specs.Service as service
 use Rattle.service_day.specs.Service.{exception_on, is_active, is_regular}
@@ -187,20 +189,13 @@ pub routes_are : (d : Dataset) → map (route_in d.agencies) (by_id (λ row. row
 routes_are d = map_same (route_in d.agencies) (route_of d) (route_rows d) (λ row. ap (λ a. record { id = row.route_id; agency = a; short = row.route_short_name; long = row.route_long_name; kind = row.route_type }) (agency_is d row.agency_id))
 
 -- a timetable by its parts
-pub table_made : (rule : TzText) (first days : ℕ) (d : Dataset) (agencies : List (List ℕ)) (stops : List Stop) (routes : List Route) (trips : List Trip) (places : List (List Place)) (active : List (List ℕ)) (bases : List ℤ)
+pub table_made : (rule : TzText) (first days : ℕ) (d : Dataset) (agencies : List (List ℕ)) (stops : List Stop) (routes : List Route) (trips : List Trip) (places : List (List Place)) (active : List (List ℕ)) (bases : List ℤ) (patterns : List PlanPattern) (derived : List PlanDerived)
     → agencies ≡ agency_ids d → stops ≡ map (stop_of d) (stop_rows d) → routes ≡ map (route_of d) (route_rows d) → trips ≡ map (trip_of d) (trip_rows d)
     → places ≡ map (λ trip. places_with d (stop_times_of d.stop_times trip.trip_id)) (trip_rows d) → active ≡ map (active_days d.calendar d.exceptions first days) (service_ids d)
-    → bases ≡ map (λ day. base_of rule (date_plus first day)) (range_with_len 0 days)
-    → record { agencies = agencies; stops = stops; routes = routes; trips = trips; places = places; active = active; first = first; bases = bases; patterns = []; derived = [] } ≡ timetable_of rule first days d
+    → bases ≡ map (λ day. base_of rule (date_plus first day)) (range_with_len 0 days) → patterns ≡ [] → derived ≡ []
+    → record { agencies = agencies; stops = stops; routes = routes; trips = trips; places = places; active = active; first = first; bases = bases; patterns = patterns; derived = derived } ≡ timetable_of rule first days d
 unfolding timetable_of
-table_made rule first days d agencies stops routes trips places active bases e1 e2 e3 e4 e5 e6 e7 =
-    ap (λ x. record { agencies = x; stops = stops; routes = routes; trips = trips; places = places; active = active; first = first; bases = bases; patterns = []; derived = [] }) e1
-    ∙ ap (λ x. record { agencies = agency_ids d; stops = x; routes = routes; trips = trips; places = places; active = active; first = first; bases = bases; patterns = []; derived = [] }) e2
-    ∙ ap (λ x. record { agencies = agency_ids d; stops = map (stop_of d) (stop_rows d); routes = x; trips = trips; places = places; active = active; first = first; bases = bases; patterns = []; derived = [] }) e3
-    ∙ ap (λ x. record { agencies = agency_ids d; stops = map (stop_of d) (stop_rows d); routes = map (route_of d) (route_rows d); trips = x; places = places; active = active; first = first; bases = bases; patterns = []; derived = [] }) e4
-    ∙ ap (λ x. record { agencies = agency_ids d; stops = map (stop_of d) (stop_rows d); routes = map (route_of d) (route_rows d); trips = map (trip_of d) (trip_rows d); places = x; active = active; first = first; bases = bases; patterns = []; derived = [] }) e5
-    ∙ ap (λ x. record { agencies = agency_ids d; stops = map (stop_of d) (stop_rows d); routes = map (route_of d) (route_rows d); trips = map (trip_of d) (trip_rows d); places = map (λ trip. places_with d (stop_times_of d.stop_times trip.trip_id)) (trip_rows d); active = x; first = first; bases = bases; patterns = []; derived = [] }) e6
-    ∙ ap (λ x. record { agencies = agency_ids d; stops = map (stop_of d) (stop_rows d); routes = map (route_of d) (route_rows d); trips = map (trip_of d) (trip_rows d); places = map (λ trip. places_with d (stop_times_of d.stop_times trip.trip_id)) (trip_rows d); active = map (active_days d.calendar d.exceptions first days) (service_ids d); first = first; bases = x; patterns = []; derived = [] }) e7
+table_made rule first days d agencies stops routes trips places active bases patterns derived e1 e2 e3 e4 e5 e6 e7 e8 e9 = rw (e1, e2, e3, e4, e5, e6, e7, e8, e9) refl
 
 pub few_agency_rows : (d : Dataset) → IsConsistent d → length (by_id (λ row. row.agency_id) d.agencies) ≤ most_rows
 few_agency_rows d c =

@@ -38,11 +38,12 @@ hours_ok [] x e = absurd cc
 hours_ok (a ∷ []) x e = digit_ok a _ x e (λ p last. let is = same_Some _ _ last in omega (arith, p, is))
 hours_ok (a ∷ b ∷ []) x e = digit_ok a _ x e (λ p more. digit_ok b _ x more (λ q last. let is = same_Some _ _ last in omega (arith, p, q, is)))
 hours_ok (a ∷ b ∷ c ∷ []) x e = digit_ok a _ x e (λ p more. digit_ok b _ x more (λ q rest. digit_ok c _ x rest (λ r last. let is = same_Some _ _ last in omega (arith, p, q, r, is))))
-hours_ok (a ∷ b ∷ c ∷ d ∷ bytes) x e = by (nat_le (length (a ∷ b ∷ c ∷ d ∷ bytes)) 3) refl e
+hours_ok (a ∷ b ∷ c ∷ d ∷ bytes) x e = by (nat_le 1 (length (a ∷ b ∷ c ∷ d ∷ bytes))) (nat_le (length (a ∷ b ∷ c ∷ d ∷ bytes)) 3) refl e
   where
-    by : (t : Bool) → nat_le (length (a ∷ b ∷ c ∷ d ∷ bytes)) 3 ≡ t → (if t then digits_after 0 (a ∷ b ∷ c ∷ d ∷ bytes) else None) ≡ Some x → x ≤ 999
-    by true is h = absurd (let short : length (a ∷ b ∷ c ∷ d ∷ bytes) ≤ 3 = grind (arith, nat_tests, is) in omega (arith, short))
-    by false is h = absurd cc
+    by : (t u : Bool) → nat_le (length (a ∷ b ∷ c ∷ d ∷ bytes)) 3 ≡ u → (if t && u then digits_after 0 (a ∷ b ∷ c ∷ d ∷ bytes) else None) ≡ Some x → x ≤ 999
+    by true true is h = absurd (let short : length (a ∷ b ∷ c ∷ d ∷ bytes) ≤ 3 = grind (arith, nat_tests, is) in omega (arith, short))
+    by true false is h = absurd cc
+    by false u is h = absurd cc
 
 sixtieth_ok : (bytes : List ℕ) (x : ℕ) → sixtieth bytes ≡ Some x → x ≤ 59
 sixtieth_ok bytes x e = let v = chained (within 0 59) (digits 2 2 bytes) x e in (within_ok 0 59 v.0 x v.2).1
