@@ -1,6 +1,6 @@
 -- What frequencies.txt is put into: a timetable in which each trip is one trip, with rows that name these.
 use Rattle.std.proofs.Common.{◌≡◌, ℕ, ◌≤◌, true, List, length, map, refl, ap, ◌∙◌, arith}
-use Rattle.std.specs.Prelude.{All, IsTrue, bytes_eq, false, option_map, slice_get, Some, Ok}
+use Rattle.std.specs.Prelude.{All, bytes_eq, false, option_map, slice_get, Some, Ok}
 use Rattle.std.proofs.lemmas.List.{length-map}
 use Rattle.std.proofs.lemmas.Option.{slice_get-map}
 use Rattle.gtfs_rows.specs.Tables.{frequencies}

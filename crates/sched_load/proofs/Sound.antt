@@ -23,7 +23,7 @@ use Rattle.gtfs_rows.specs.declared.rows.TripRow.{TripRow}
 use Rattle.gtfs_rows.specs.declared.rows.StopTimeRow.{StopTimeRow}
 use Rattle.text_defs.specs.Dates.{is_day, date_plus}
 use Rattle.service_day.specs.Zone.{TzText, base_of}
-use Rattle.sched_types.specs.Timetable.{IsTimetable, IsSmall, RisesById, number_of}
+use Rattle.sched_types.specs.Timetable.{IsTimetable, RisesById, number_of}
 use Rattle.sched_types.specs.declared.rows.Place.{Place}
 use Rattle.sched_types.proofs.TimetableLaws.{number_leads}
 use Rattle.sched_load_defs.specs.declared.fault.File.{File}

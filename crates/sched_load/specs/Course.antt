@@ -1,5 +1,5 @@
 -- The times of a trip's places, as the loader goes over them.
-use Rattle.std.specs.Prelude.{◌≡◌, ℕ, ◌+◌, ◌-◌, ◌<◌, ◌≤◌, ◌^◌, List, ◌∷◌, map, Option, Some, None, option_map, slice_get, zip, ⊤}
+use Rattle.std.specs.Prelude.{◌≡◌, ℕ, ◌+◌, ◌-◌, ◌≤◌, List, ◌∷◌, map, Option, Some, None, option_map, zip, ⊤}
 use Rattle.sched_types.specs.declared.rows.Place.{Place}
 use Rattle.sched_load_defs.specs.Times.{Times, all_times, next_timed, times_behind}
 use Rattle.sched_load.specs.declared.visits.Visit.{Visit}

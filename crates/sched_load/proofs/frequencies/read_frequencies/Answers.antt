@@ -1,4 +1,3 @@
-use Rattle.std.proofs.Common.{◌∙◌}
 use Rattle.sched_load_defs.specs.References.{consistent_frequencies}
 use Rattle.sched_load.proofs.Chain.{rows_passed, step_alone, step_done, step_fails, step_value}
 use Rattle.sched_load.proofs.Stopping.{stops_alone, stops_passed}
