@@ -1,4 +1,4 @@
-//! Gathers the departures of each stop, trip by trip.
+//! The departures of each stop, gathered trip by trip.
 
 ghost use Rattle.std.specs.Prelude.{◌≡◌, ◌<◌, [], length, map, IfOk, OnOk};
 ghost use Rattle.std.specs.List.{range_with_len};
