@@ -70,6 +70,7 @@ else
   run looks bench/looks.sh 4000000 2000
   run intake bench/intake.sh
   run index bench/index.sh
+  run frequencies bench/frequencies.sh
 fi
 
 python3 - "$said" <<'PY'
@@ -209,6 +210,10 @@ rows("`index.sh`",
      ("the index of departures of 1,000,000 stop times, next to loading these", joined(found("index", r"instructions, ([\d.]+) of"), ".2f") + " of the instructions, "
       + joined(found("index", r"at most (\d+) MiB")) + " MiB at most, " + joined(found("index", r"MiB, (\d+) without")) + " without it"),
      ("a departure that it hands out, in a window of 7 and of 400 days", joined(found("index", r"days: (\d+)")) + " instructions"))
+rows("`frequencies.sh`",
+     ("a place of 100,000 trips of frequencies.txt checked, next to the same spelled out", joined(found("frequencies", r"patterns: (\d+) instructions")) + " instructions, "
+      + joined(found("frequencies", r"place, ([\d.]+) of"), ".2f") + " times as many; at most " + joined(found("frequencies", r"at most (\d+) MiB")) + " MiB, and "
+      + joined(found("frequencies", r"MiB, and (\d+)"))))
 rows("`combined.sh`",
      ("the combined feed of 3,000 entities, without a prefix and with one", joined(found("combined", r": ([\d,]+) bytes")) + " bytes"),
      ("", joined(found("combined", r"bytes in ([\d,]+) microseconds")) + " microseconds, "

@@ -5,8 +5,7 @@ usage: make_timetable.py [--frequencies] TRIPS FOLDER [PLACES]
 
 TRIPS trips of PLACES places each (20 where it is left out); the configuration is FOLDER.toml. With --frequencies trips
 that differ in their times alone are one pattern, and frequencies.txt says with exact_times 1 when each of them starts:
-compare_timetables.py shows that both say the same. The hub doesn't read frequencies.txt: to it a pattern is one trip, at
-the times of the first.
+compare_timetables.py shows that both say the same.
 """
 import os, sys
 

@@ -4,8 +4,7 @@ number of hubs.
 
 usage: bridge.py [--state FILE] ADDRESS mqtt WORD ..     WORDs are those of mosquitto_sub: -h HOST -t TOPIC -c -i NAME,
                                                          and what the broker asks for (-u, -P, --cafile)
-       bridge.py [--state FILE] ADDRESS tcp HOST:PORT    a stream: of another bridge, of poll.py, or of whoever listens
-                                                         there
+       bridge.py [--state FILE] ADDRESS tcp HOST:PORT    a stream: of another bridge, or of whoever listens there
 
 At ADDRESS (HOST:PORT, 0 for a free port) hubs find it: a feed of kind "stream" whose place is this address. What still
 counts when it is ended by a signal is kept in FILE, and taken from there, and removed, when it starts again.

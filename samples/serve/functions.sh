@@ -84,6 +84,11 @@ show_scene() {
 notices_from() { echo "s|^place = \"samples.*|place = \"$1\"|"; }
 trams_from() { echo "s|^place = \"127.*|place = \"$1\"|"; }
 
+# notices_polled PLACE [KEYS], trams_polled PLACE [KEYS]: the edits by which the hub asks for them there each second. KEYS
+# are further lines of the feed, with \n between them; without them the address may be away for long.
+notices_polled() { printf '%s\n' "s|^kind = \"spool\"|kind = \"poll\"\\nevery = 1\\n${2:-tries = 1000}|; $(notices_from "$1")"; }
+trams_polled() { printf '%s\n' "s|^kind = \"stream\"|kind = \"poll\"\\nevery = 1\\n${2:-tries = 1000}|; $(trams_from "$1")"; }
+
 # The edit by which no trams come.
 no_trams='s/^kind = "stream"/kind = "none"/'
 

@@ -89,7 +89,7 @@ start_between() {
     for path in chunked slow silent cut; do place "$path" "agency.example:$right" "/acts/$path"; done
   } > "$folder/places"
   sed -e "s|listen 127.0.0.1:8100|listen $between|" -e "s|resolver 127.0.0.53|resolver $names|" \
-    -e "s|/var/cache/nginx/agencies|$folder/cache|" -e "s|/var/log/nginx/agencies.log|$folder/failed|" \
+    -e "s|/var/lib/nginx/agencies|$folder/cache|" -e "s|/var/log/nginx/agencies.log|$folder/failed|" \
     -e "s|/etc/ssl/certs/ca-certificates.crt|$work/agency/authority.crt|" -e 's|proxy_read_timeout 8s|proxy_read_timeout 4s|' \
     -e '/^    location = /,/^    }/d' -e "/^    resolver /r $folder/places" samples/nginx/agencies.conf \
     | sed 's|proxy_cache_valid 200 10s|proxy_cache_valid 200 2s|' > "$folder/agencies.conf"
@@ -131,23 +131,6 @@ ask chunked
 check "what it sends in chunks comes without: $said" is "$said" "$good"
 ask large
 check "an answer of 20,000,000 bytes comes with its length: $said" is "$said" good_20000000
-
-samples/operating/poll.py "http://$between/trams" 127.0.0.1:0 1 2> "$work/poll" &
-poller_process=$!
-started+=("$poller_process")
-poller=$(wait_line "$work/poll" 'poll.py: listening on ' "$poller_process")
-# A stream has four bytes of length in front of each message.
-python3 - "$poller" 4 "$message_bytes" > "$work/body" <<'PY'
-import socket, sys
-address, *sizes = sys.argv[1:]
-host, port = address.rsplit(":", 1)
-with socket.create_connection((host, int(port)), timeout=10) as link, link.makefile("rb") as stream:
-    for size in map(int, sizes):
-        piece = stream.read(size)
-sys.stdout.buffer.write(piece)
-PY
-check "the poller hands it on, without a key and a certificate of its own" cmp "$work/body" "$files/trips.pb"
-stop_process "$poller_process"
 
 echo "== several clients at once"
 # ask_thrice: three clients that ask for /slow at once; what each got is in the files said1 to said3.

@@ -76,7 +76,7 @@ start_nginx() {
   cp "$top/samples/nginx/hub_proxy.conf" "$top/samples/nginx/hub_cache.conf" "$folder/"
   sed "${edits[@]}" "$top/samples/nginx/$upstream" > "$folder/hub_upstream.conf"
   sed -e "s|listen 443 |listen 127.0.0.1:$tls_port |" -e "s|listen 80;|listen 127.0.0.1:$plain_port;|" \
-    -e '/listen \[::\]/d' -e "s|/etc/nginx/|$folder/|" -e "s|/var/cache/nginx/hub|$folder/cache|" \
+    -e '/listen \[::\]/d' -e "s|/etc/nginx/|$folder/|" -e "s|/var/lib/nginx/hub|$folder/cache|" \
     -e "s|/usr/share/hub/display|$top/samples/display|" -e "s|root /usr/share/hub;|root $top/samples;|" \
     "$top/samples/nginx/hub.conf" > "$folder/hub.conf"
   prepare_nginx "$folder" hub.conf

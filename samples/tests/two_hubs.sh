@@ -1,7 +1,7 @@
 #!/usr/bin/env bash
-# Tries more than one hub: a first one with the example's feeds, a second that takes the first one's combined feed through
-# a spool (samples/nginx/fetch.sh), a third that takes it as a stream (samples/operating/poll.py), and nginx in front of
-# the first two, of which one is ended under way. Ends by itself, with status 0 exactly where all was as it should be.
+# Tries more than one hub: a first one with the example's feeds, a second that asks the first one for its combined feed, a
+# third that asks the second, and nginx in front of the first two, of which one is ended under way, and starts again. Ends
+# by itself, with status 0 exactly where all was as it should be.
 # HUB names the program, where it is not ./hub. Needs curl, python3, nginx and openssl.
 set -euo pipefail
 top=$(cd "$(dirname "$0")/../.." && pwd)
@@ -27,21 +27,18 @@ start_hub first "$(notices_from "$work/spool")" "$(trams_from "$sender_address")
 first=$hub_address first_process=$hub_process
 wait_for has_accepted "$first" trams notices
 
-samples/nginx/fetch.sh "http://$first/feed/city" "$work/second" 1 7>&- &
-started+=("$!")
-wait_for test -p "$work/second/000001.pb"
-start_hub second "$(notices_from "$work/second")" "$no_trams"
+start_hub second "$(notices_polled "$first/feed/city")" "$no_trams"
 second=$hub_address
-
-samples/operating/poll.py "http://$first/feed/city" 127.0.0.1:0 1 2> "$work/poll" 7>&- &
-started+=("$!")
-poll_address=$(wait_line "$work/poll" 'poll.py: listening on ' "$!")
-start_hub third "$(trams_from "$poll_address")" "$(notices_from "$work/none")"
+start_hub third "$(notices_polled "$second/feed/city")" "$no_trams"
 third=$hub_address
+
+has_alert() {
+  curl -fsS --max-time 5 "http://$1/alerts/city/ST" | grep -q 'The lift at Market'
+}
 
 for hub_address in "$first" "$second" "$third"; do
   wait_for has_row "$hub_address" '\t240\tlive\t7\t'
-  curl -fsS "http://$hub_address/alerts/city/ST" | grep -q 'The lift at Market' || fail "the alert is not at $hub_address"
+  wait_for has_alert "$hub_address"
 done
 echo "ok      a second and a third hub show the first one's delays and alerts"
 show_scene late canceled
@@ -69,3 +66,8 @@ echo "ok      no answer was lost while one hub of two was ended"
 sleep 2
 has_row "$second" '\tcanceled\t7\t' || fail "the second hub has lost what it knew"
 echo "ok      the second hub keeps what it knew last"
+
+start_hub first "$(notices_from "$work/spool")" "$(trams_from "$sender_address")" "s|^listen = .*|listen = \"$first\"|"
+show_scene late skipped
+for hub_address in "$second" "$third"; do wait_for has_row "$hub_address" '\tskipped\t7\t'; done
+echo "ok      once the first one is back, the second goes on, and so does the third"

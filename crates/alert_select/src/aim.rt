@@ -1,4 +1,4 @@
-//! What a selector names, looked up once.
+//! Looks up once what a selector names.
 
 ghost use Rattle.std.specs.Prelude.{◌≡◌, ◌<◌, length, IfSome};
 ghost use Rattle.std.specs.Option.{option_and_then, option_map};

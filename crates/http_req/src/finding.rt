@@ -1,5 +1,5 @@
 //! Heads in bytes that were read.
-ghost use Rattle.std.specs.Prelude.{◌≡◌, ◌≤◌, List, length, IfSome};
+ghost use Rattle.std.specs.Prelude.{◌≡◌, ◌≤◌, List, length, IfSome, IfNone};
 ghost use Rattle.httparse.specs.declared.spans.HeaderSpan.{HeaderSpan};
 ghost use Rattle.http_defs.specs.Requests.{NoHead};
 ghost use Rattle.http_req.specs.Progress.{progress_of};
@@ -29,7 +29,8 @@ pub(crate) enum Found {
 pub(crate) fn head_in(bytes: &[u8], headers: &mut [HeaderSpan]) -> Option<RequestSpans>
     requires fits { length bytes.now ≤ 8192 }
     requires room { 2731 ≤ length headers.old }
-    ensures { IfSome result (StandsAt bytes.now headers.new) }
+    ensures found { IfSome result (StandsAt bytes.now headers.new) }
+    ensures none { IfNone result (NoHead bytes.now) }
 {
     match look(Progress::START.after(bytes), bytes, headers) {
         Found::Head(spans) => Some(spans),

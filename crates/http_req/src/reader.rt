@@ -1,5 +1,7 @@
 //! The reader of a connection's requests.
-ghost use Rattle.std.specs.Prelude.{◌≡◌, [], IfOk, is_some};
+ghost use Rattle.std.specs.Prelude.{◌≡◌, ℕ, List, [], IfOk, is_some};
+ghost use Rattle.http_defs.specs.Requests.{Begins};
+ghost use Rattle.http_defs.specs.declared.request.Request.{Request};
 ghost use Rattle.http_req.specs.Reading.{Takes, HasTakeCause};
 
 use crate::NoMemory;
@@ -73,6 +75,8 @@ impl RequestReader {
             ≡ is_some (S.left source.old) }
         ensures fault_has_a_cause { HasTakeCause result (S.faults source.old)
             (S.faults source.new) }
+        ensures reads_only_where_none_is_held { (request : Request) (rest : List ℕ)
+            → Begins self.old request rest → source.new ≡ source.old }
     {
         let held = &self.buffer[self.start..self.filled];
         let Some(spans) = head_in(held, &mut self.headers) else {

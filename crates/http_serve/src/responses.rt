@@ -1,4 +1,4 @@
-//! Responses, made whole in one buffer, in which they are sent.
+//! Makes each response whole in the buffer in which it is sent.
 ghost use Rattle.std.specs.Prelude.{◌≡◌, ◌≤◌, true, length, drop, IfOk};
 ghost use Rattle.text_defs.specs.Moments.{last_moment};
 ghost use Rattle.board_defs.specs.Views.{folds_of};

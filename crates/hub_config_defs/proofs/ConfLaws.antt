@@ -10,7 +10,7 @@ use Rattle.text_defs.specs.Names.{is_name}
 use Rattle.std.specs.Str.{bytes_eq, is_utf8}
 use Rattle.toml.specs.Parse.{parse_document}
 use Rattle.hub_config_defs.specs.declared.fault.ConfWhy.TheVariants.{Bad, Twice}
-use Rattle.hub_config_defs.specs.Right.{AreNames, IsLegal, has_window, has_schedule_of}
+use Rattle.hub_config_defs.specs.Right.{AreNames, IsLegal, has_numbers, has_schedule_of, has_short_prefix, has_window}
 use Rattle.std.specs.Option.{is_some, option_and_then, option_map, option_or, unwrap_or}
 use Rattle.toml.specs.Data.{Data, string, integer, float, boolean, datetime, array, table, Items, no_items, item, Members, get_member, as_table}
 use Rattle.hub_config_defs.specs.declared.conf.HubConf.{HubConf}
@@ -21,9 +21,9 @@ use Rattle.hub_config_defs.specs.declared.fault.ConfWhy.{ConfWhy}
 use Rattle.hub_config_defs.specs.declared.fault.TableName.TheVariants.{Top, Schedule, Feed}
 use Rattle.hub_config_defs.specs.declared.rule.Key.{Key}
 use Rattle.hub_config_defs.specs.declared.rule.Key.TheVariants as key
-use Rattle.hub_config_defs.specs.declared.rule.Holds.TheVariants.{Number, Date, KnownSchedule, NewSchedule, NewFeed, Tables}
+use Rattle.hub_config_defs.specs.declared.rule.Holds.TheVariants.{Number, Date, ShortText, KnownSchedule, NewSchedule, NewFeed, Tables}
 use Rattle.text_defs.specs.Dates.{date_in}
-use Rattle.hub_config_defs.specs.Rules.{Default, no_tables, required, rule_of, keys_of}
+use Rattle.hub_config_defs.specs.Rules.{Default, no_tables, number, required, text, rule_of, keys_of}
 use Rattle.hub_config_defs.specs.Values.{are_tables, count, text_at, number_of, text_of, tables_of, is_text_for, is_array_for, number_at, tables_at, date_of, is_window_date, within}
 use Rattle.hub_config_defs.specs.Faults.{has_feed, has_schedule, fault_in, first_wrong, wrong_in, named_fault, key_fault, found_fault, value_fault, is_held, name_fault}
 use Rattle.hub_config_defs.specs.Conf.{added, and_then, rows_from, unless, schedule_row, schedule_of, feed_row, feed_of, index_of, conf_in, conf_in_document, conf_of, feeds_in, hub_of, schedules_in}
@@ -100,6 +100,39 @@ number_right name least most (Some (datetime t)) ss fs h = cc
 number_right name least most (Some (array ds)) ss fs h = cc
 number_right name least most (Some (table ms)) ss fs h = cc
 
+-- a number that may be absent is in its range, where what stands for it is
+default_right : (name : List ℕ) (least most d : ℕ) (o : Option Data) (ss : List ScheduleConf) (fs : List FeedConf) → (nat_le least d && nat_le d most) ≡ true
+    → found_fault (record { name = name; holds = Number least most; absent = number d }) o ss fs ≡ None
+    → (nat_le least (unwrap_or (option_and_then (number_of (Number least most)) o) d) && nat_le (unwrap_or (option_and_then (number_of (Number least most)) o) d) most) ≡ true
+unfolding value_fault is_held number_of text_of tables_of is_text_for is_array_for
+default_right name least most d None ss fs fits h = fits
+default_right name least most d (Some (integer (pos n))) ss fs fits h = let e = in_range least most n ss fs h in rw e (within_range least most n e)
+default_right name least most d (Some (integer (negsuc n))) ss fs fits h = cc
+default_right name least most d (Some (string t)) ss fs fits h = cc
+default_right name least most d (Some (float x)) ss fs fits h = cc
+default_right name least most d (Some (boolean b)) ss fs fits h = cc
+default_right name least most d (Some (datetime t)) ss fs fits h = cc
+default_right name least most d (Some (array ds)) ss fs fits h = cc
+default_right name least most d (Some (table ms)) ss fs fits h = cc
+
+-- a text that may be absent is short enough
+short_right : (name : List ℕ) (most : ℕ) (o : Option Data) (ss : List ScheduleConf) (fs : List FeedConf)
+    → found_fault (record { name = name; holds = ShortText most; absent = text [] }) o ss fs ≡ None
+    → nat_le (length (unwrap_or (option_and_then (text_of (ShortText most)) o) [])) most ≡ true
+unfolding value_fault is_held number_of text_of tables_of is_text_for is_array_for
+short_right name most None ss fs h = grind (arith, nat_tests)
+short_right name most (Some (string t)) ss fs h =
+    elim (cases_Bool (nat_le (length t) most)) [
+      | inl fits ↦ rw fits fits
+      | inr other ↦ let wrong = rw other at h in cc
+    ]
+short_right name most (Some (integer z)) ss fs h = cc
+short_right name most (Some (float x)) ss fs h = cc
+short_right name most (Some (boolean b)) ss fs h = cc
+short_right name most (Some (datetime t)) ss fs h = cc
+short_right name most (Some (array ds)) ss fs h = cc
+short_right name most (Some (table ms)) ss fs h = cc
+
 window_date : (o : Option ℕ) (n : ℕ) → option_and_then (λ date. if is_window_date date then Some date else None) o ≡ Some n → is_window_date n ≡ true
 window_date None n h = cc
 window_date (Some date) n h =
@@ -142,8 +175,13 @@ wrong_step k keys ms ss fs h =
     let (here, more) = none_of (named_fault k (key_fault k ms ss fs)) (wrong_in keys ms ss fs) h in
     (unmapped (λ why. ((rule_of k).name, why)) (key_fault k ms ss fs) here, more)
 
--- with no fault in a schedule nothing is wrong with its window
-keys_right : (ms : Members) (ss : List ScheduleConf) (fs : List FeedConf) → wrong_in (keys_of Schedule) ms ss fs ≡ None → (key_fault key.First ms ss fs ≡ None) × (key_fault key.Days ms ss fs ≡ None)
+prefix_right : (ms : Members) (ss : List ScheduleConf) (fs : List FeedConf) → key_fault key.Prefix ms ss fs ≡ None → nat_le (length (text_at key.Prefix ms)) 32 ≡ true
+unfolding key_fault rule_of text_at
+prefix_right ms ss fs h = short_right (codes "prefix") 32 (get_member (codes "prefix") ms) ss fs h
+
+-- with no fault in a schedule nothing is wrong with its window and its prefix
+keys_right : (ms : Members) (ss : List ScheduleConf) (fs : List FeedConf) → wrong_in (keys_of Schedule) ms ss fs ≡ None
+    → (key_fault key.First ms ss fs ≡ None) × (key_fault key.Days ms ss fs ≡ None) × (key_fault key.Prefix ms ss fs ≡ None)
 unfolding keys_of
 keys_right ms ss fs h =
     let (n, after_name) = wrong_step key.ScheduleName (key.Folder ∷ key.Zone ∷ key.First ∷ key.Days ∷ key.Prefix ∷ []) ms ss fs h in
@@ -151,7 +189,7 @@ keys_right ms ss fs h =
     let (z, after_zone) = wrong_step key.Zone (key.First ∷ key.Days ∷ key.Prefix ∷ []) ms ss fs after_folder in
     let (first, after_first) = wrong_step key.First (key.Days ∷ key.Prefix ∷ []) ms ss fs after_zone in
     let (days, after_days) = wrong_step key.Days (key.Prefix ∷ []) ms ss fs after_first in
-    (first, days)
+    (first, days, (wrong_step key.Prefix [] ms ss fs after_days).0)
 
 wrong_none : (ms : Members) (ss : List ScheduleConf) (fs : List FeedConf) → first_wrong Schedule ms ss fs ≡ None → wrong_in (keys_of Schedule) ms ss fs ≡ None
 unfolding first_wrong
@@ -161,30 +199,15 @@ schedule_right : (row : ℕ) (before : List ScheduleConf) (ms : Members) (s : Sc
 unfolding schedule_row schedule_of
 schedule_right row before ms s h =
     let (none, same) = unless_ok (fault_in Schedule row ms before []) (schedule_of ms) s h in
-    let (first, days) = keys_right ms before [] (wrong_none ms before [] (unmapped _ _ none)) in
+    let (first, days, prefix) = keys_right ms before [] (wrong_none ms before [] (unmapped _ _ none)) in
     subst (λ x. has_window x ≡ true) same (rw (first_right ms before [] first, days_right ms before [] days))
 
-conf_in_right : (ms : Members) (conf : HubConf) → conf_in ms ≡ Ok conf → list_all has_window conf.schedules ≡ true
-unfolding conf_in hub_of
-conf_in_right ms conf h =
-    let (top, passed, rest) = and_then_ok (unless (fault_in Top 0 ms [] []) ms) _ conf h in
-    let (ss, schedules, more) = and_then_ok (schedules_in ms) _ conf rest in
-    let (fs, feeds, last) = and_then_ok (feeds_in ms ss) _ conf more in
-    let same : hub_of ms ss fs ≡ conf = cc in
-    subst (λ c. list_all has_window c.schedules ≡ true) same (rows_right has_window schedule_row schedule_right 1 [] (tables_at key.Schedules ms) ss refl schedules)
-
-conf_said_right : (said : Option Members) (conf : HubConf) → conf_in_document said ≡ Ok conf → list_all has_window conf.schedules ≡ true
-conf_said_right None conf h = cc
-conf_said_right (Some ms) conf h = conf_in_right ms conf h
-
--- the window of each schedule of a configuration begins on a day from 19700201 to 29991231 and has 1 to 400 days
-pub conf_windows : (bytes : List ℕ) (conf : HubConf) → conf_of bytes ≡ Ok conf → list_all has_window conf.schedules ≡ true
-unfolding conf_of
-conf_windows bytes conf h =
-    elim (cases_Bool (is_utf8 bytes)) [
-      | inl utf8 ↦ conf_said_right (parse_document bytes) conf (rw utf8 at h)
-      | inr other ↦ let wrong = rw other at h in cc
-    ]
+schedule_short : (row : ℕ) (before : List ScheduleConf) (ms : Members) (s : ScheduleConf) → schedule_row row before ms ≡ Ok s → has_short_prefix s ≡ true
+unfolding schedule_row schedule_of
+schedule_short row before ms s h =
+    let (none, same) = unless_ok (fault_in Schedule row ms before []) (schedule_of ms) s h in
+    let (first, days, prefix) = keys_right ms before [] (wrong_none ms before [] (unmapped _ _ none)) in
+    subst (λ x. has_short_prefix x ≡ true) same (prefix_right ms before [] prefix)
 
 -- a feed without a fault names a schedule that is there, so that there is one
 named_right : (name : List ℕ) (o : Option Data) (ss : List ScheduleConf) (fs : List FeedConf)
@@ -210,6 +233,30 @@ feed_key_right ms ss fs h =
     let (n, after_name) = wrong_step key.FeedName (key.FeedSchedule ∷ key.Kind ∷ key.Place ∷ key.MaxAge ∷ key.Every ∷ key.Polls ∷ key.Tries ∷ []) ms ss fs h in
     (wrong_step key.FeedSchedule (key.Kind ∷ key.Place ∷ key.MaxAge ∷ key.Every ∷ key.Polls ∷ key.Tries ∷ []) ms ss fs after_name).0
 
+four : (a b c d : Bool) → a ≡ true → b ≡ true → c ≡ true → d ≡ true → (a && b && c && d) ≡ true
+four a b c d p q r s = rw (p, q, r, s) refl
+
+-- with no fault in a feed its numbers are in their ranges
+numbers_right : (ms : Members) (ss : List ScheduleConf) (fs : List FeedConf) → wrong_in (keys_of Feed) ms ss fs ≡ None
+    → (nat_le (number_at key.MaxAge ms) 31622400 && (nat_le 1 (number_at key.Every ms) && nat_le (number_at key.Every ms) 86400)
+    && nat_le (number_at key.Polls ms) 1000000000 && (nat_le 1 (number_at key.Tries ms) && nat_le (number_at key.Tries ms) 1000)) ≡ true
+unfolding keys_of key_fault rule_of number_at
+numbers_right ms ss fs h =
+    let (n, after_name) = wrong_step key.FeedName (key.FeedSchedule ∷ key.Kind ∷ key.Place ∷ key.MaxAge ∷ key.Every ∷ key.Polls ∷ key.Tries ∷ []) ms ss fs h in
+    let (s, after_schedule) = wrong_step key.FeedSchedule (key.Kind ∷ key.Place ∷ key.MaxAge ∷ key.Every ∷ key.Polls ∷ key.Tries ∷ []) ms ss fs after_name in
+    let (k, after_kind) = wrong_step key.Kind (key.Place ∷ key.MaxAge ∷ key.Every ∷ key.Polls ∷ key.Tries ∷ []) ms ss fs after_schedule in
+    let (p, after_place) = wrong_step key.Place (key.MaxAge ∷ key.Every ∷ key.Polls ∷ key.Tries ∷ []) ms ss fs after_kind in
+    let (age, after_age) = wrong_step key.MaxAge (key.Every ∷ key.Polls ∷ key.Tries ∷ []) ms ss fs after_place in
+    let (every, after_every) = wrong_step key.Every (key.Polls ∷ key.Tries ∷ []) ms ss fs after_age in
+    let (polls, after_polls) = wrong_step key.Polls (key.Tries ∷ []) ms ss fs after_every in
+    let tries = (wrong_step key.Tries [] ms ss fs after_polls).0 in
+    four (nat_le (number_at key.MaxAge ms) 31622400) (nat_le 1 (number_at key.Every ms) && nat_le (number_at key.Every ms) 86400)
+    (nat_le (number_at key.Polls ms) 1000000000) (nat_le 1 (number_at key.Tries ms) && nat_le (number_at key.Tries ms) 1000)
+    (and_parts _ _ (default_right (codes "max_age") 0 31622400 0 (get_member (codes "max_age") ms) ss fs refl age)).1
+    (default_right (codes "every") 1 86400 10 (get_member (codes "every") ms) ss fs refl every)
+    (and_parts _ _ (default_right (codes "polls") 0 1000000000 0 (get_member (codes "polls") ms) ss fs refl polls)).1
+    (default_right (codes "tries") 1 1000 10 (get_member (codes "tries") ms) ss fs refl tries)
+
 feed_wrong_none : (ms : Members) (ss : List ScheduleConf) (fs : List FeedConf) → first_wrong Feed ms ss fs ≡ None → wrong_in (keys_of Feed) ms ss fs ≡ None
 unfolding first_wrong
 feed_wrong_none ms ss fs h = (none_of _ _ h).1
@@ -228,27 +275,11 @@ feed_right ss row before ms f h =
     let some : 0 < length ss = some_schedule ms ss before (feed_key_right ms ss before (feed_wrong_none ms ss before (unmapped _ _ none))) in
     subst (λ x. has_schedule_of (length ss) x ≡ true) same (place_within _ (length ss) some)
 
-conf_in_feeds : (ms : Members) (conf : HubConf) → conf_in ms ≡ Ok conf → list_all (has_schedule_of (length conf.schedules)) conf.feeds ≡ true
-unfolding conf_in hub_of
-conf_in_feeds ms conf h =
-    let (top, passed, rest) = and_then_ok (unless (fault_in Top 0 ms [] []) ms) _ conf h in
-    let (ss, schedules, more) = and_then_ok (schedules_in ms) _ conf rest in
-    let (fs, feeds, last) = and_then_ok (feeds_in ms ss) _ conf more in
-    let same : hub_of ms ss fs ≡ conf = cc in
-    subst (λ c. list_all (has_schedule_of (length c.schedules)) c.feeds ≡ true) same (rows_right (has_schedule_of (length ss)) (feed_row ss) (feed_right ss) 1 [] (tables_at key.Feeds ms) fs refl feeds)
-
-conf_said_feeds : (said : Option Members) (conf : HubConf) → conf_in_document said ≡ Ok conf → list_all (has_schedule_of (length conf.schedules)) conf.feeds ≡ true
-conf_said_feeds None conf h = cc
-conf_said_feeds (Some ms) conf h = conf_in_feeds ms conf h
-
--- each feed of a configuration belongs to one of its schedules
-pub conf_feeds : (bytes : List ℕ) (conf : HubConf) → conf_of bytes ≡ Ok conf → list_all (has_schedule_of (length conf.schedules)) conf.feeds ≡ true
-unfolding conf_of
-conf_feeds bytes conf h =
-    elim (cases_Bool (is_utf8 bytes)) [
-      | inl utf8 ↦ conf_said_feeds (parse_document bytes) conf (rw utf8 at h)
-      | inr other ↦ let wrong = rw other at h in cc
-    ]
+feed_numbers : (ss : List ScheduleConf) (row : ℕ) (before : List FeedConf) (ms : Members) (f : FeedConf) → feed_row ss row before ms ≡ Ok f → has_numbers f ≡ true
+unfolding feed_row feed_of
+feed_numbers ss row before ms f h =
+    let (none, same) = unless_ok (fault_in Feed row ms ss before) (feed_of ss ms) f h in
+    subst (λ x. has_numbers x ≡ true) same (numbers_right ms ss before (feed_wrong_none ms ss before (unmapped _ _ none)))
 
 -- ---- how many there are, and their names
 
@@ -286,41 +317,79 @@ rows_few row_of row before (item d ds) xs e =
     let (more, said, rest) = and_then_ok (added (row_of row) before (as_table d)) _ xs e in
     omega (arith, added_few (row_of row) before (as_table d) more said, rows_few row_of (row + 1) more ds xs rest)
 
+-- and as many as tables
+added_one : {A : Type 0} (row_of : List A → Members → Result A ConfFault) (before : List A) (o : Option Members) (xs : List A) → is_some o ≡ true → added row_of before o ≡ Ok xs → length before + 1 ≤ length xs
+unfolding added
+added_one row_of before None xs t e = cc
+added_one row_of before (Some ms) xs t e =
+    let (x, said, last) = and_then_ok (row_of before ms) _ xs e in
+    let same : before ++ x ∷ [] ≡ xs = cc in
+    omega (arith, ap length same, length-append before (x ∷ []))
+
+rows_each : {A : Type 0} (row_of : ℕ → List A → Members → Result A ConfFault) (row : ℕ) (before : List A) (ds : Items) (xs : List A) → are_tables ds ≡ true
+    → rows_from row_of row before ds ≡ Ok xs → length before + count ds ≤ length xs
+unfolding rows_from
+rows_each row_of row before no_items xs t e = let same : before ≡ xs = cc in omega (arith, ap length same)
+rows_each row_of row before (item d ds) xs t e =
+    let (is, are) = and_parts (is_some (as_table d)) (are_tables ds) t in
+    let (more, said, rest) = and_then_ok (added (row_of row) before (as_table d)) _ xs e in
+    omega (arith, added_one (row_of row) before (as_table d) more is said, rows_each row_of (row + 1) more ds xs are rest)
+
 counted : (least most : ℕ) (ds : Items) (why : ConfWhy) (o : Option Items) → o ≡ (if nat_le least (count ds) && nat_le (count ds) most && are_tables ds then Some ds else None)
-    → (if is_some o then None else Some why) ≡ None → count (unwrap_or o no_items) ≤ most
+    → (if is_some o then None else Some why) ≡ None → (least ≤ count (unwrap_or o no_items)) × (count (unwrap_or o no_items) ≤ most) × (are_tables (unwrap_or o no_items) ≡ true)
 counted least most ds why o is h =
     elim (cases_Bool (nat_le least (count ds) && nat_le (count ds) most && are_tables ds)) [
       | inl fits ↦
           let found : o ≡ Some ds = is ∙ rw fits refl in
           let (both, tables) = and_parts (nat_le least (count ds) && nat_le (count ds) most) (are_tables ds) fits in
           let (low, high) = and_parts (nat_le least (count ds)) (nat_le (count ds) most) both in
-          rw found (grind (arith, nat_tests))
+          rw found (grind (arith, nat_tests), grind (arith, nat_tests), tables)
       | inr other ↦ let none : o ≡ None = is ∙ rw other refl in let wrong = rw none at h in cc
     ]
 
--- an array of tables with which nothing is wrong has no more than its key asks for
-tables_right : (name : List ℕ) (least most : ℕ) (absent : Default) (o : Option Data) → found_fault (record { name = name; holds = Tables least most; absent = absent }) o [] [] ≡ None
-    → count (unwrap_or (option_and_then (tables_of (Tables least most)) o) no_items) ≤ most
+-- an array of tables with which nothing is wrong has as many as its key asks for
+tables_right : (name : List ℕ) (least most : ℕ) (absent : Default) (o : Option Data) → (is_some o ≡ false → least ≡ 0) → found_fault (record { name = name; holds = Tables least most; absent = absent }) o [] [] ≡ None
+    → (least ≤ count (unwrap_or (option_and_then (tables_of (Tables least most)) o) no_items)) × (count (unwrap_or (option_and_then (tables_of (Tables least most)) o) no_items) ≤ most)
+    × (are_tables (unwrap_or (option_and_then (tables_of (Tables least most)) o) no_items) ≡ true)
 unfolding value_fault is_held number_of text_of tables_of is_text_for is_array_for
-tables_right name least most absent None h = omega arith
-tables_right name least most absent (Some (array ds)) h =
+tables_right name least most absent None none h = (omega (arith, none refl), omega arith, refl)
+tables_right name least most absent (Some (array ds)) none h =
     counted least most ds Bad (if nat_le least (count ds) && nat_le (count ds) most && are_tables ds then Some ds else None) refl h
-tables_right name least most absent (Some (string t)) h = cc
-tables_right name least most absent (Some (integer z)) h = cc
-tables_right name least most absent (Some (float x)) h = cc
-tables_right name least most absent (Some (boolean b)) h = cc
-tables_right name least most absent (Some (datetime t)) h = cc
-tables_right name least most absent (Some (table ms)) h = cc
+tables_right name least most absent (Some (string t)) none h = cc
+tables_right name least most absent (Some (integer z)) none h = cc
+tables_right name least most absent (Some (float x)) none h = cc
+tables_right name least most absent (Some (boolean b)) none h = cc
+tables_right name least most absent (Some (datetime t)) none h = cc
+tables_right name least most absent (Some (table ms)) none h = cc
 
-schedules_few : (ms : Members) → key_fault key.Schedules ms [] [] ≡ None → count (tables_at key.Schedules ms) ≤ 8
+-- a required one is there
+is_there : (name : List ℕ) (least most : ℕ) (o : Option Data) → found_fault (record { name = name; holds = Tables least most; absent = required }) o [] [] ≡ None → is_some o ≡ false → least ≡ 0
+is_there name least most None h e = cc
+is_there name least most (Some d) h e = cc
+
+schedules_counted : (ms : Members) → key_fault key.Schedules ms [] [] ≡ None → (1 ≤ count (tables_at key.Schedules ms)) × (count (tables_at key.Schedules ms) ≤ 8) × (are_tables (tables_at key.Schedules ms) ≡ true)
 unfolding key_fault rule_of tables_at
-schedules_few ms h = tables_right (codes "schedule") 1 8 required (get_member (codes "schedule") ms) h
+schedules_counted ms h = tables_right (codes "schedule") 1 8 required (get_member (codes "schedule") ms) (is_there (codes "schedule") 1 8 (get_member (codes "schedule") ms) h) h
 
 feeds_few : (ms : Members) → key_fault key.Feeds ms [] [] ≡ None → count (tables_at key.Feeds ms) ≤ 64
 unfolding key_fault rule_of tables_at
-feeds_few ms h = tables_right (codes "feed") 0 64 no_tables (get_member (codes "feed") ms) h
+feeds_few ms h = (tables_right (codes "feed") 0 64 no_tables (get_member (codes "feed") ms) (λ _. refl) h).1
 
-top_right : (ms : Members) → first_wrong Top ms [] [] ≡ None → (key_fault key.Schedules ms [] [] ≡ None) × (key_fault key.Feeds ms [] [] ≡ None)
+readers_right : (ms : Members) → key_fault key.Readers ms [] [] ≡ None → (nat_le 1 (number_at key.Readers ms) && nat_le (number_at key.Readers ms) 64) ≡ true
+unfolding key_fault rule_of number_at
+readers_right ms h = default_right (codes "readers") 1 64 2 (get_member (codes "readers") ms) [] [] refl h
+
+connections_right : (ms : Members) → key_fault key.Connections ms [] [] ≡ None → (nat_le 0 (number_at key.Connections ms) && nat_le (number_at key.Connections ms) 1000000000) ≡ true
+unfolding key_fault rule_of number_at
+connections_right ms h = default_right (codes "connections") 0 1000000000 0 (get_member (codes "connections") ms) [] [] refl h
+
+between : (least most n : ℕ) → (nat_le least n && nat_le n most) ≡ true → (least ≤ n) × (n ≤ most)
+between least most n h =
+    let (low, high) = and_parts (nat_le least n) (nat_le n most) h in
+    (grind (arith, nat_tests), grind (arith, nat_tests))
+
+top_right : (ms : Members) → first_wrong Top ms [] [] ≡ None
+    → (key_fault key.Readers ms [] [] ≡ None) × (key_fault key.Connections ms [] [] ≡ None) × (key_fault key.Schedules ms [] [] ≡ None) × (key_fault key.Feeds ms [] [] ≡ None)
 unfolding first_wrong keys_of
 top_right ms h =
     let all = (none_of _ (wrong_in (key.Readers ∷ key.Listen ∷ key.Connections ∷ key.Schedules ∷ key.Feeds ∷ []) ms [] []) h).1 in
@@ -328,7 +397,7 @@ top_right ms h =
     let (l, after_listen) = wrong_step key.Listen (key.Connections ∷ key.Schedules ∷ key.Feeds ∷ []) ms [] [] after_readers in
     let (c, after_connections) = wrong_step key.Connections (key.Schedules ∷ key.Feeds ∷ []) ms [] [] after_listen in
     let (schedules, after_schedules) = wrong_step key.Schedules (key.Feeds ∷ []) ms [] [] after_connections in
-    (schedules, (wrong_step key.Feeds [] ms [] [] after_schedules).0)
+    (r, c, schedules, (wrong_step key.Feeds [] ms [] [] after_schedules).0)
 
 -- ---- names
 
@@ -450,12 +519,21 @@ conf_in_legal ms conf h =
     let (ss, schedules, more) = and_then_ok (schedules_in ms) _ conf rest in
     let (fs, feeds, last) = and_then_ok (feeds_in ms ss) _ conf more in
     let same : hub_of ms ss fs ≡ conf = cc in
-    let (few, few_feeds) = top_right ms (unmapped _ _ (unless_ok (fault_in Top 0 ms [] []) ms top passed).0) in
+    let (readers, connections, schedule, feed) = top_right ms (unmapped _ _ (unless_ok (fault_in Top 0 ms [] []) ms top passed).0) in
+    let (some, few, tables) = schedules_counted ms schedule in
+    let (some_readers, few_readers) = between 1 64 (number_at key.Readers ms) (readers_right ms readers) in
     subst IsLegal same (record {
-      few_schedules = omega (arith, rows_few schedule_row 1 [] (tables_at key.Schedules ms) ss schedules, schedules_few ms few);
-      few_feeds = omega (arith, rows_few (feed_row ss) 1 [] (tables_at key.Feeds ms) fs feeds, feeds_few ms few_feeds);
+      some_readers = some_readers;
+      few_readers = few_readers;
+      few_connections = (between 0 1000000000 (number_at key.Connections ms) (connections_right ms connections)).1;
+      some_schedule = omega (arith, some, rows_each schedule_row 1 [] (tables_at key.Schedules ms) ss tables schedules);
+      few_schedules = omega (arith, rows_few schedule_row 1 [] (tables_at key.Schedules ms) ss schedules, few);
+      few_feeds = omega (arith, rows_few (feed_row ss) 1 [] (tables_at key.Feeds ms) fs feeds, feeds_few ms feed);
       schedule_names = rows_keep (λ xs. AreNames (map (λ s. s.name) xs)) schedule_row schedule_names 1 [] (tables_at key.Schedules ms) ss no_names schedules;
       feed_names = rows_keep (λ xs. AreNames (map (λ f. f.name) xs)) (feed_row ss) (feed_names ss) 1 [] (tables_at key.Feeds ms) fs no_names feeds;
+      windows = rows_right has_window schedule_row schedule_right 1 [] (tables_at key.Schedules ms) ss refl schedules;
+      prefixes = rows_right has_short_prefix schedule_row schedule_short 1 [] (tables_at key.Schedules ms) ss refl schedules;
+      numbers = rows_right has_numbers (feed_row ss) (feed_numbers ss) 1 [] (tables_at key.Feeds ms) fs refl feeds;
       of_schedules = rows_right (has_schedule_of (length ss)) (feed_row ss) (feed_right ss) 1 [] (tables_at key.Feeds ms) fs refl feeds;
     })
 
@@ -463,7 +541,7 @@ conf_said_legal : (said : Option Members) (conf : HubConf) → conf_in_document 
 conf_said_legal None conf h = cc
 conf_said_legal (Some ms) conf h = conf_in_legal ms conf h
 
--- a configuration has up to 8 schedules and up to 64 feeds, with distinct names, and each feed belongs to one of its schedules
+-- a configuration that was read has 1 to 8 schedules and up to 64 feeds, with distinct names, and all of its numbers are in their ranges
 pub conf_legal : (bytes : List ℕ) (conf : HubConf) → conf_of bytes ≡ Ok conf → IsLegal conf
 unfolding conf_of
 conf_legal bytes conf h =

@@ -1,11 +1,10 @@
 //! The configuration in a file.
-ghost use Rattle.std.specs.Prelude.{◌≡◌, ◌++◌, IfOk, IfSome, true};
-ghost use Rattle.std.specs.List.{list_all};
+ghost use Rattle.std.specs.Prelude.{◌≡◌, ◌++◌, IfOk, IfSome};
 ghost use Rattle.hub_outside.specs.Files.{file_at};
 ghost use Rattle.hub_config_defs.specs.Conf.{conf_of};
 ghost use Rattle.hub_config_defs.specs.Lines.{line_of};
 ghost use Rattle.text_defs.specs.Cleaned.{line_feed};
-ghost use Rattle.hub_config_defs.specs.Right.{IsLegal, has_window};
+ghost use Rattle.hub_config_defs.specs.Right.{IsLegal};
 ghost use Rattle.hub_main_defs.specs.Checks.{conf_in, conf_or_line};
 ghost use Rattle.hub_load.specs.Stops.{StopsWith};
 ghost use Rattle.hub_load.specs.Told.{HasCause, IsRefusedWith, IsConfRefusal, NeedsNoFile, IsAsTold};
@@ -19,13 +18,12 @@ use std::alloc::{AllocError, Global};
 /// The most bytes of a configuration.
 const LONGEST_CONF: u64 = 1_048_576;
 
-/// The configuration in the file at the path, or the line that tells why there is none. It has up to
-/// 8 schedules and up to 64 feeds, with distinct names, and each schedule has a window of days for
-/// which a timetable can be loaded.
+/// The configuration in the file at the path, or the line that tells why there is none. It has 1 to 8
+/// schedules and up to 64 feeds, with distinct names and with all numbers in their ranges, and each schedule
+/// has a window of days for which a timetable can be loaded.
 pub fn conf_at<F: Files>(alloc: Global, files: &mut F, path: &str) -> Result<HubConf, HubFault>
     ensures told { IfSome (F.contents files.old)
         (λ fs. IsAsTold (λ conf. conf) (conf_in (file_at fs path.now)) result) }
-    ensures windows { IfOk result (λ conf. list_all has_window conf.schedules ≡ true) }
     ensures legal { IfOk result (λ conf. IsLegal conf) }
     ensures cause { HasCause result (F.faults files.old) (F.faults files.new) }
     ensures same { F.contents files.new ≡ F.contents files.old }
@@ -45,7 +43,6 @@ pub fn conf_at<F: Files>(alloc: Global, files: &mut F, path: &str) -> Result<Hub
 /// The configuration of the bytes, or the line of its fault.
 fn conf_in(alloc: Global, bytes: &[u8]) -> Result<HubConf, HubFault>
     ensures told { IsAsTold (λ conf. conf) (conf_or_line (conf_of bytes.now)) result }
-    ensures windows { IfOk result (λ conf. list_all has_window conf.schedules ≡ true) }
     ensures legal { IfOk result (λ conf. IsLegal conf) }
     ensures files { NeedsNoFile result }
 {

@@ -73,7 +73,6 @@ fn copied(conf: &HubConf) -> Result<HubConf, HubFault>
 
 /// The timetables and feeds of a configuration.
 fn plans_of<F: Files>(alloc: Global, files: &mut F, conf: HubConf) -> Result<Plans, HubFault>
-    requires windows { list_all has_window conf.schedules ≡ true }
     requires legal { IsLegal conf }
     ensures told { IfSome (F.contents files.old)
         (λ fs. IsAsTold (λ plans. plans) (schedules_told fs conf) result) }

@@ -1,10 +1,12 @@
 -- What a clause reads of an adapter: the object of std behind it, and its count of faults.
-use Rattle.std.specs.Prelude.{ℕ}
+use Rattle.std.specs.Prelude.{ℕ, Bool, is_some}
 use Rattle.hub_outside.specs.declared.adapters.source.StdSource.{StdSource}
 use Rattle.hub_outside.specs.declared.adapters.sink.StdSink.{StdSink}
 use Rattle.hub_outside.specs.declared.adapters.files.StdFiles.{StdFiles}
 use Rattle.hub_outside.specs.declared.adapters.clock.SystemClock.{SystemClock}
 use Rattle.hub_outside.specs.declared.adapters.door.TcpDoor.{TcpDoor}
+use Rattle.hub_outside.specs.declared.adapters.link.TcpSource.{TcpSource}
+use Rattle.hub_outside.specs.declared.adapters.link.TcpSink.{TcpSink}
 
 -- the reader behind a source
 abbrev pub reader_of : {R : Type 0} → StdSource R → R
@@ -45,3 +47,15 @@ tcp_most door = door.most
 -- how many connections it handed out
 abbrev pub tcp_taken : {L C : Type 0} → TcpDoor L C → ℕ
 tcp_taken door = door.taken
+
+-- whether it has a listener
+abbrev pub tcp_listens : {L C : Type 0} → TcpDoor L C → Bool
+tcp_listens door = is_some door.listener
+
+-- the faults that the source of a connection met
+abbrev pub tcp_source_faults : {C : Type 0} → TcpSource C → ℕ
+tcp_source_faults source = source.faults
+
+-- the faults that the sink of a connection met
+abbrev pub tcp_sink_faults : {C : Type 0} → TcpSink C → ℕ
+tcp_sink_faults sink = sink.faults

@@ -1,13 +1,13 @@
 -- What the adapters make of the answers of std.
-use Rattle.std.specs.Prelude.{◌≡◌, ℕ, ◌/◌, ◌==◌, ◌&&◌, nat_le, nat_lt, min, Bool, true, false, Result, Ok, Err, if◌then◌else◌}
+use Rattle.std.specs.Prelude.{◌≡◌, ℕ, ◌-◌, ◌/◌, ◌==◌, ◌&&◌, nat_le, nat_lt, min, Bool, true, false, Option, Some, None, Result, Ok, Err, if◌then◌else◌}
 use Rattle.std.specs.Duration.{as_nanos}
 use Rattle.std.specs.IoError.{error_kind}
 use Rattle.std.specs.declared.io.Error.{Error}
 use Rattle.std.specs.declared.io.ErrorKind.{ErrorKind}
-use Rattle.std.specs.declared.io.ErrorKind.TheVariants.{NotFound, NotADirectory, Interrupted, ConnectionAborted, ConnectionReset, HostUnreachable, NetworkDown, NetworkUnreachable, OutOfMemory, TimedOut, Uncategorized, WouldBlock}
+use Rattle.std.specs.declared.io.ErrorKind.TheVariants.{NotFound, NotADirectory, Interrupted, ConnectionAborted, ConnectionReset, HostUnreachable, NetworkDown, NetworkUnreachable, OutOfMemory, PermissionDenied, TimedOut, Uncategorized, Unsupported, WouldBlock}
 use Rattle.std.specs.declared.time.Duration.{Duration}
 use Rattle.text_defs.specs.Moments.{last_moment}
-use Rattle.hub_outside.specs.Count.{one_more}
+use Rattle.hub_outside.specs.Count.{last_count, one_more}
 use Rattle.hub_outside.specs.declared.doors.DoorAnswer.{DoorAnswer}
 use Rattle.hub_outside.specs.declared.doors.DoorAnswer.TheVariants.{Link, End as DoorEnd, Failed as DoorFailed}
 use Rattle.hub_outside.specs.declared.file_stores.FileAnswer.{FileAnswer}
@@ -51,9 +51,21 @@ abbrev pub moment_of : Result Duration Error → ℕ
 moment_of (Ok time) = min (as_nanos time / 1_000_000_000) last_moment
 moment_of (Err e) = 0
 
+-- the moment of a clock that never goes back, in whole milliseconds, and none where it can't be read
+abbrev pub milliseconds_of : Result Duration Error → Option ℕ
+milliseconds_of (Ok time) = Some (min (as_nanos time / 1_000_000) last_count)
+milliseconds_of (Err e) = None
+
+-- how much is left of a limit that began at a moment, and none once it has passed; a moment that is
+-- still to come has used none of it
+abbrev pub time_left : ℕ → ℕ → ℕ → Option ℕ
+time_left limit since now =
+    if nat_le limit (now - since) then None else Some (limit - (now - since))
+
 -- Whether a connection that could not be accepted tells nothing of those that come next: it is gone
--- already, the network or memory is wanting, or too many files are open (ECONNABORTED, EMFILE, ENFILE
--- and the like of POSIX; those that std has no kind for among them).
+-- already, a firewall forbids it, it can't do what was asked of it, the network or memory is wanting, or
+-- too many files are open (ECONNABORTED, EPERM, EOPNOTSUPP, EMFILE, ENFILE and the like of POSIX; those
+-- that std has no kind for among them). All else tells of the listener itself.
 abbrev pub is_passing : ErrorKind → Bool
 is_passing ConnectionAborted = true
 is_passing ConnectionReset = true
@@ -62,8 +74,10 @@ is_passing Interrupted = true
 is_passing NetworkDown = true
 is_passing NetworkUnreachable = true
 is_passing OutOfMemory = true
+is_passing PermissionDenied = true
 is_passing TimedOut = true
 is_passing Uncategorized = true
+is_passing Unsupported = true
 is_passing WouldBlock = true
 is_passing _ = false
 

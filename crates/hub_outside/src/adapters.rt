@@ -2,6 +2,8 @@
 pub(crate) mod clock;
 pub(crate) mod door;
 pub(crate) mod files;
+pub(crate) mod limits;
+pub(crate) mod link;
 pub(crate) mod retry;
 pub(crate) mod sink;
 pub(crate) mod source;

@@ -37,6 +37,7 @@ mod writing;
 pub use adapters::clock::SystemClock;
 pub use adapters::door::TcpDoor;
 pub use adapters::files::StdFiles;
+pub use adapters::link::{TcpSink, TcpSource};
 pub use adapters::sink::StdSink;
 pub use adapters::source::StdSource;
 pub use buffers::Buf;

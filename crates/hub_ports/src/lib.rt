@@ -1,4 +1,4 @@
-//! What a configuration names on the system, opened: a port for each feed, a listener that all doors share,
+//! Opens what a configuration names on the system: a port for each feed, a listener that all doors share,
 //! and a door and a clock for each reader.
 //!
 //! [`open_port`] opens the port of a feed by its kind ([`SystemPort`]), [`open_ports`] those of all feeds; [`listen`]

@@ -63,7 +63,7 @@ pub fn doors_of<R: rt::Clock + Copy>(
 {
     let mut doors = Vec::with_capacity(alloc, count as usize)?;
     for _ in 0..count {
-        doors.push(door_of(rt, listener, most)?)?;
+        doors.push(door_of(rt, alloc, listener, most)?)?;
     }
     Ok(doors)
 }
@@ -71,6 +71,7 @@ pub fn doors_of<R: rt::Clock + Copy>(
 /// One door of the listener, or a closed one.
 fn door_of<R: rt::Clock + Copy>(
     rt: &R,
+    alloc: Global,
     listener: &Option<Arc<TcpListener>>,
     most: u64,
 ) -> Result<TcpDoor<TcpListener, R>, NoMemory>
@@ -78,8 +79,11 @@ fn door_of<R: rt::Clock + Copy>(
     ensures faults { IfOk result (λ door. tcp_faults door ≡ 0) }
 {
     match listener {
-        Some(listener) => Ok(TcpDoor::new(Arc::try_clone(listener)?, most, *rt)),
-        None => Ok(TcpDoor::closed(*rt)),
+        Some(listener) => {
+            let listener = Arc::try_clone(listener)?;
+            Ok(TcpDoor::new(alloc, listener, most, *rt))
+        }
+        None => Ok(TcpDoor::closed(alloc, *rt)),
     }
 }
 

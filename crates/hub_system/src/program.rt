@@ -145,9 +145,12 @@ where
 {
     let ServeConf { plans, conf } = ready;
     let mut ports = open_ports(rt, alloc, conf.feeds.as_slice(), boxed, errors)?;
-    let listener = listen(rt, alloc, conf.listen.as_str(), errors)?;
     let readers = reader_count(conf.readers);
-    let mut doors = doors_of(rt, alloc, &listener, readers, conf.connections)?;
+    // The doors alone keep the listener, so that it is closed once all of them have let it go.
+    let mut doors = {
+        let listener = listen(rt, alloc, conf.listen.as_str(), errors)?;
+        doors_of(rt, alloc, &listener, readers, conf.connections)?
+    };
     let clocks = clocks_of(rt, alloc, readers)?;
     Ok(run_serve(
         rt,

@@ -6,7 +6,7 @@ use Rattle.std.proofs.lemmas.Bool.{and_parts}
 use Rattle.rt_types.specs.declared.descriptor.TripRef.{TripRef}
 use Rattle.rt_types.specs.declared.enums.TripRelation.{TripRelation}
 use Rattle.rt_types.specs.declared.enums.TripRelation.TheVariants as relation
-use Rattle.sched_types.specs.Timetable.{Timetable, number_of, is_run, day_with_date}
+use Rattle.sched_types.specs.Timetable.{Timetable, number_of, is_run, day_with_date, pattern_with, derived_trip, has_derived}
 use Rattle.sched_types.specs.Departures.{departs_so}
 use Rattle.text_defs.specs.Dates.{date_in}
 use Rattle.text_defs.specs.Times.{time_in}
@@ -14,7 +14,7 @@ use Rattle.trip_match_defs.specs.declared.found.Found.{Found}
 use Rattle.trip_match_defs.specs.declared.found.Found.TheVariants as found
 use Rattle.trip_match_defs.specs.declared.found.Near.{Near}
 use Rattle.trip_match_defs.specs.declared.found.Why.TheVariants as why
-use Rattle.trip_match_defs.specs.Matching.{first_rule, rule_1_relation, unless_date, rule_2_start_date, added_trip, rule_3_added_trip, run_on, run_on_date, run_of_trip, trip_with, rule_4_trip_id, is_near, near_at, nearer, runs_near, nearest, run_near, by_near, run_near_instant, rule_5_nearest_day, only_trip, trips_running, on_route, on_day, at_time, rule_6_route_and_time, relation_of, start_day, match_of}
+use Rattle.trip_match_defs.specs.Matching.{first_rule, rule_1_relation, unless_date, rule_2_start_date, added_trip, rule_3_added_trip, unless_derived, unless_start, unless_start_text, unless_pattern, rule_pattern, trip_meant, run_on, run_on_date, run_of_trip, rule_4_trip_id, is_near, near_at, nearer, runs_near, nearest, run_near, by_near, run_near_instant, rule_5_nearest_day, only_trip, trips_running, on_route, on_day, at_time, rule_6_route_and_time, relation_of, start_day, match_of}
 use Rattle.trip_match_defs.specs.Texts.{text_given}
 
 -- a run that was found runs
@@ -70,6 +70,31 @@ module _ (t : Timetable) where
   by_added relation.Duplicated id = tt
   by_added relation.Deleted id = tt
 
+  -- ---- nor does that of patterns
+
+  by_derived : (trip : Option ℕ) → Sound (unless_derived trip)
+  by_derived None = tt
+  by_derived (Some trip) = tt
+
+  by_start : (pattern : ℕ) (start : Option ℕ) → Sound (unless_start t pattern start)
+  by_start pattern None = tt
+  by_start pattern (Some start) = by_derived (derived_trip t pattern start)
+
+  by_start_text : (pattern : ℕ) (time : Option (List ℕ)) → Sound (unless_start_text t pattern time)
+  by_start_text pattern None = tt
+  by_start_text pattern (Some text) = by_start pattern (time_in text)
+
+  by_given_pattern : (pattern : Option ℕ) (time : Option (List ℕ)) → Sound (unless_pattern t pattern time)
+  by_given_pattern None time = tt
+  by_given_pattern (Some pattern) time = by_test (has_derived t pattern) where
+    by_test : (b : Bool) → Sound (if b then unless_start_text t pattern time else Some (found.NoMatch why.NoTrip))
+    by_test true = by_start_text pattern time
+    by_test false = tt
+
+  by_pattern : (id time : Option (List ℕ)) → Sound (rule_pattern t id time)
+  by_pattern None time = tt
+  by_pattern (Some id) time = by_given_pattern (pattern_with t id) time
+
   -- ---- with a trip_id and a date
 
   on_that_day : (trip : ℕ) (day : Option ℕ) → RunsIfFound t (run_on t trip day)
@@ -87,9 +112,9 @@ module _ (t : Timetable) where
   of_trip None date = tt
   of_trip (Some trip) date = on_date trip date
 
-  by_trip_id : (id : Option (List ℕ)) (date : Option ℕ) → Sound (rule_4_trip_id t id date)
-  by_trip_id None date = tt
-  by_trip_id (Some id) date = of_trip (trip_with t id) date
+  by_trip_id : (id time : Option (List ℕ)) (date : Option ℕ) → Sound (rule_4_trip_id t id time date)
+  by_trip_id None time date = tt
+  by_trip_id (Some id) time date = of_trip (trip_meant t id time) date
 
   -- ---- on the nearest day
 
@@ -132,9 +157,9 @@ module _ (t : Timetable) where
   near_trip instant None = tt
   near_trip instant (Some trip) = on_near_day instant trip
 
-  by_nearest_day : (instant : ℤ) (id : Option (List ℕ)) → Sound (rule_5_nearest_day t instant id)
-  by_nearest_day instant None = tt
-  by_nearest_day instant (Some id) = near_trip instant (trip_with t id)
+  by_nearest_day : (instant : ℤ) (id time : Option (List ℕ)) → Sound (rule_5_nearest_day t instant id time)
+  by_nearest_day instant None time = tt
+  by_nearest_day instant (Some id) time = near_trip instant (trip_meant t id time)
 
   -- ---- by route and time
 
@@ -169,6 +194,7 @@ module _ (t : Timetable) where
       by_rule (rule_1_relation (relation_of trip)) _ (by_relation (relation_of trip))
       (by_rule (rule_2_start_date (text_given trip.start_date)) _ (by_start_date (text_given trip.start_date))
       (by_rule (rule_3_added_trip (relation_of trip) (text_given trip.trip_id)) _ (by_added (relation_of trip) (text_given trip.trip_id))
-      (by_rule (rule_4_trip_id t (text_given trip.trip_id) (start_day trip)) _ (by_trip_id (text_given trip.trip_id) (start_day trip))
-      (by_rule (rule_5_nearest_day t (pos stamp) (text_given trip.trip_id)) _ (by_nearest_day (pos stamp) (text_given trip.trip_id))
-      (by_route_and_time (text_given trip.route_id) trip.direction_id (start_day trip) (text_given trip.start_time))))))
+      (by_rule (rule_pattern t (text_given trip.trip_id) (text_given trip.start_time)) _ (by_pattern (text_given trip.trip_id) (text_given trip.start_time))
+      (by_rule (rule_4_trip_id t (text_given trip.trip_id) (text_given trip.start_time) (start_day trip)) _ (by_trip_id (text_given trip.trip_id) (text_given trip.start_time) (start_day trip))
+      (by_rule (rule_5_nearest_day t (pos stamp) (text_given trip.trip_id) (text_given trip.start_time)) _ (by_nearest_day (pos stamp) (text_given trip.trip_id) (text_given trip.start_time))
+      (by_route_and_time (text_given trip.route_id) trip.direction_id (start_day trip) (text_given trip.start_time)))))))

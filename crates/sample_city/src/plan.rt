@@ -110,6 +110,8 @@ pub fn city(alloc: Global) -> Result<Plan, NoMemory>
         active: vec![in alloc; vec![in alloc; 0, 1, 2]?]?,
         first: 20250329,
         bases: vec![in alloc; 1743202800, 1743285600, 1743372000]?,
+        patterns: Vec::new(alloc),
+        derived: Vec::new(alloc),
     };
     Plan::build(alloc, parts)
 }

@@ -1,5 +1,5 @@
 -- Steps that may fail, one after another.
-use Rattle.std.proofs.Common.{◌≡◌, ℕ, ◌≤◌, List, refl, sym, ap, subst, arith}
+use Rattle.std.proofs.Common.{◌≡◌, ℕ, ◌≤◌, List, refl, sym, ap, subst, arith, inl, inr}
 use Rattle.std.specs.Prelude.{Option, Some, None, IfSome, Result, Ok, Err, IsErrAnd, ⊤}
 use Rattle.answer_defs.specs.Steps.{◌>>=◌}
 use Rattle.gtfs_rows.specs.declared.fault.RowFault.TheVariants as rows
@@ -8,10 +8,10 @@ use Rattle.sched_load_defs.specs.declared.fault.LoadFault.{LoadFault}
 use Rattle.sched_load_defs.specs.declared.fault.LoadFault.TheVariants as fault
 use Rattle.sched_load_defs.specs.declared.conf.PlanConf.{PlanConf}
 use Rattle.sched_load_defs.specs.Loading.{dataset_in, timetable, timetable_where, with_times, zone_of}
-use Rattle.sched_load_defs.specs.Numbers.{Dataset, timetable_of}
+use Rattle.sched_load_defs.specs.Numbers.{Dataset}
 use Rattle.service_day.specs.Zone.{TzText}
 use Rattle.sched_types.specs.Timetable.{Timetable}
-use Rattle.sched_load.specs.Built.{IsBuilt}
+use Rattle.sched_load.specs.Built.{IsBuilt, plan_told}
 use Rattle.sched_load.specs.declared.tables.DayTables.{DayTables}
 use Rattle.sched_load.specs.declared.tables.Tables.{Tables}
 use Rattle.sched_load.specs.Stages.{DayRows, day_rows_in}
@@ -23,7 +23,7 @@ use Rattle.gtfs_rows.specs.declared.rows.StopTimeRow.{StopTimeRow}
 use Rattle.sched_load.specs.declared.visits.Visit.{Visit}
 use Rattle.sched_load.specs.Arranged.{ReadsArranged}
 use Rattle.sched_load.specs.Tables.{ReadsTables}
-use Rattle.sched_load.specs.Answer.{AnswersFromFiles, Loads, Refuses, RefusesAlone, HasLoadCause, HasFaultCause, IsPlain}
+use Rattle.sched_load.specs.Answer.{AnswersFromFiles, items_in, Loads, Refuses, RefusesAlone, HasLoadCause, HasFaultCause, IsPlain}
 
 -- what is at fault in a step is at fault in the whole
 refuses_whole : {A B : Type 0} (one : Result A LoadFault) (whole : Result B LoadFault) (e : LoadFault) → ((f : LoadFault) → one ≡ Err f → whole ≡ Err f) → Refuses one e → Refuses whole e
@@ -158,6 +158,11 @@ pub passed : {A : Type 0} (contents : Option (List (List ℕ × List ℕ))) (tol
 passed contents told before after (Ok x) e p h = absurd p
 passed contents told before after (Err y) e p h = rw p h
 
+-- the same of rows that are read
+pub rows_passed : {R : Type 0} (contents : Option (List (List ℕ × List ℕ))) (told : List (List ℕ × List ℕ) → Result (List R) LoadFault) (before after : ℕ) (r : Result (Vec R Global) LoadFault) (e : LoadFault) → IsErrAnd r (λ x. x ≡ e) → AnswersFromFiles contents told before after (Err e) → AnswersFromFiles contents told before after (items_in r)
+rows_passed contents told before after (Ok x) e p h = absurd p
+rows_passed contents told before after (Err y) e p h = rw p h
+
 -- the same of the tables that are read
 pub tables_passed : (contents : Option (List (List ℕ × List ℕ))) (told : List (List ℕ × List ℕ) → Result Dataset LoadFault) (before after : ℕ) (r : Result Tables LoadFault) (e : LoadFault) → IsErrAnd r (λ x. x ≡ e) → AnswersFromFiles contents told before after (Err e) → ReadsTables contents told before after r
 tables_passed contents told before after (Ok x) e p h = absurd p
@@ -173,13 +178,14 @@ pub visits_passed : (trips : List TripRow) (stops : List StopRow) (contents : Op
 visits_passed trips stops contents told before after (Ok x) e p h = absurd p
 visits_passed trips stops contents told before after (Err y) e p h = rw p h
 
--- a plan that was built, or want of memory
-pub built : (contents : Option (List (List ℕ × List ℕ))) (t : Timetable) (count : ℕ) (r : Result Timetable LoadFault) → IsBuilt t r → AnswersFromFiles contents (λ _. Ok t) count count r
-built contents t count (Ok plan) h = record { loads = if_some contents _ (ap (λ x. Ok x) (sym h)); cause = omega arith; plain = tt }
-built contents t count (Err e) h = rw h (no_memory contents (λ _. Ok t) count)
+-- a plan that was built, the fault that is told, or out of memory
+pub built : (contents : Option (List (List ℕ × List ℕ))) (told : Result Timetable LoadFault) (count : ℕ) (r : Result Timetable LoadFault) → IsBuilt told r → AnswersFromFiles contents (λ _. told) count count r
+built contents told count (Ok plan) h = step_value contents told count plan h
+built contents told count (Err e) (inl none) = rw none (no_memory contents (λ _. told) count)
+built contents told count (Err e) (inr h) = step_alone contents told count e h
 
 -- the timetable, step by step
-pub timetable_is : (folder : List ℕ) (conf : PlanConf) (fs : List (List ℕ × List ℕ)) → (zone_of conf.zone >>= (λ rule. dataset_in fs folder >>= (λ rows. with_times rows >>= (λ d. Ok (timetable_of rule conf.first conf.days d))))) ≡ timetable fs folder conf
+pub timetable_is : (folder : List ℕ) (conf : PlanConf) (fs : List (List ℕ × List ℕ)) → (zone_of conf.zone >>= (λ rule. dataset_in fs folder >>= (λ rows. with_times rows >>= plan_told rule conf.first conf.days))) ≡ timetable fs folder conf
 unfolding timetable timetable_where dataset_in
 timetable_is folder conf fs = refl
 
@@ -188,7 +194,7 @@ pub loaded : (folder : List ℕ) (conf : PlanConf) (contents behind : Option (Li
     (before after : ℕ) (rule : TzText) (d : Dataset) (r : Result Timetable LoadFault)
     → behind ≡ contents → zone_of conf.zone ≡ Ok rule
     → AnswersFromFiles contents (λ fs. dataset_in fs folder) before after (Ok d)
-    → with_times d ≡ Ok d → IsBuilt (timetable_of rule conf.first conf.days d) r
+    → with_times d ≡ Ok d → IsBuilt (plan_told rule conf.first conf.days d) r
     → AnswersFromFiles contents (λ fs. timetable fs folder conf) before after r
 loaded folder conf contents behind before after rule d r same zone reads times is =
     told_same _ _ _ _ _ _ (timetable_is folder conf)

@@ -14,21 +14,21 @@ use Rattle.gtfs_rows.specs.declared.fault.RowFault.TheVariants as fault
 use Rattle.sched_load_defs.specs.Services.{flags_of}
 use Rattle.sched_load.proofs.Laws.{AreWithin, and_then_ok}
 
-both_within : {A B : Type 0} (a : Columns A) (b : Columns B) (P : A → Type 0) (Q : B → Type 0) → AreWithin a P → AreWithin b Q → AreWithin (a ⊕ b) (λ v. P v.0 × Q v.1)
+pub both_within : {A B : Type 0} (a : Columns A) (b : Columns B) (P : A → Type 0) (Q : B → Type 0) → AreWithin a P → AreWithin b Q → AreWithin (a ⊕ b) (λ v. P v.0 × Q v.1)
 both_within {A = A} {B = B} a b P Q p q row cells (x, y) e =
     and_then_ok (a.read row cells) (λ u. ◌>>=◌ (b.read row cells) (λ v. Ok (u, v))) (x, y) e
     (λ u first rest. and_then_ok (b.read row cells) (λ v. Ok (u, v)) (x, y) rest
     (λ v second last. let pair : (u, v) ≡ (x, y) = cc in (subst P (ap (λ (w : A × B). w.0) pair) (p row cells u first), subst Q (ap (λ (w : A × B). w.1) pair) (q row cells v second))))
 
-table_within : {A R : Type 0} (make : A → R) (a : Columns A) (P : A → Type 0) (Q : R → Type 0) → AreWithin a P → ((v : A) → P v → Q (make v)) → AreWithin (table make a) Q
+pub table_within : {A R : Type 0} (make : A → R) (a : Columns A) (P : A → Type 0) (Q : R → Type 0) → AreWithin a P → ((v : A) → P v → Q (make v)) → AreWithin (table make a) Q
 table_within make a P Q p f row cells x e =
     and_then_ok (a.read row cells) (λ values. Ok (make values)) x e
     (λ v first last. let is : make v ≡ x = cc in subst Q is (f v (p row cells v first)))
 
-any_within : {A : Type 0} (a : Columns A) → AreWithin a (λ _. Unit {0})
+pub any_within : {A : Type 0} (a : Columns A) → AreWithin a (λ _. Unit {0})
 any_within a row cells x e = tt
 
-judged_ok : {A : Type 0} (form : List ℕ → Option A) (row : ℕ) (column : Column) (cell : List ℕ) (x : A) → cell_value form row column cell ≡ Ok x → form cell ≡ Some x
+pub judged_ok : {A : Type 0} (form : List ℕ → Option A) (row : ℕ) (column : Column) (cell : List ℕ) (x : A) → cell_value form row column cell ≡ Ok x → form cell ≡ Some x
 unfolding cell_value
 judged_ok {A} form row column cell x e = by (is_utf8 cell) (form cell) refl e
   where
@@ -37,21 +37,28 @@ judged_ok {A} form row column cell x e = by (is_utf8 cell) (form cell) refl e
     by true None is h = absurd cc
     by false o is h = absurd cc
 
-number_ok : (low high : ℕ) (bytes : List ℕ) (x : ℕ) → number low high bytes ≡ Some x → x ≤ high
+-- a value of a range lies in it
+pub within_ok : (low high v x : ℕ) → within low high v ≡ Some x → (low ≤ x) × (x ≤ high)
+within_ok low high v x e = by (nat_le low v) (nat_le v high) refl refl e
+  where
+    by : (a b : Bool) → nat_le low v ≡ a → nat_le v high ≡ b → (if a && b then Some v else None) ≡ Some x → (low ≤ x) × (x ≤ high)
+    by true true least most h =
+        let same : v ≡ x = cc in
+        let fits : (low ≤ v) × (v ≤ high) = (grind (arith, nat_tests, least), grind (arith, nat_tests, most)) in
+        subst (λ n. (low ≤ n) × (n ≤ high)) same fits
+    by true false least most h = absurd cc
+    by false b least most h = absurd cc
+
+pub number_ok : (low high : ℕ) (bytes : List ℕ) (x : ℕ) → number low high bytes ≡ Some x → (low ≤ x) × (x ≤ high)
 unfolding number digits_number
 number_ok low high bytes x e = by (digits 1 10 bytes) e
   where
-    in_range : (v : ℕ) (a b : Bool) → nat_le v high ≡ b → (if a && b then Some v else None) ≡ Some x → x ≤ high
-    in_range v true true is h = let same : v ≡ x = cc in let fits : v ≤ high = grind (arith, nat_tests, is) in subst (λ n. n ≤ high) same fits
-    in_range v true false is h = absurd cc
-    in_range v false b is h = absurd cc
-
-    by : (o : Option ℕ) → option_and_then (within low high) o ≡ Some x → x ≤ high
+    by : (o : Option ℕ) → option_and_then (within low high) o ≡ Some x → (low ≤ x) × (x ≤ high)
     by None h = absurd cc
-    by (Some v) h = in_range v (nat_le low v) (nat_le v high) refl h
+    by (Some v) h = within_ok low high v x h
 
 number_within : (low high : ℕ) (c : Column) → AreWithin (required c (number low high)) (λ n. n ≤ high)
-number_within low high c row cells x e = number_ok low high (cells c) x (judged_ok (number low high) row c (cells c) x e)
+number_within low high c row cells x e = (number_ok low high (cells c) x (judged_ok (number low high) row c (cells c) x e)).1
 
 abbrev pub AtMost : ℕ → Option ℕ → Type 0
 AtMost high None = Unit {0}
@@ -63,9 +70,9 @@ empty_ok low high (b ∷ bytes) x e = by (number low high (b ∷ bytes)) refl e
   where
     by : (o : Option ℕ) → number low high (b ∷ bytes) ≡ o → option_map (λ n. Some n) o ≡ Some x → AtMost high x
     by None is h = absurd cc
-    by (Some n) is h = let same : Some n ≡ x = cc in subst (AtMost high) same (number_ok low high (b ∷ bytes) n is)
+    by (Some n) is h = let same : Some n ≡ x = cc in subst (AtMost high) same (number_ok low high (b ∷ bytes) n is).1
 
-option_within : (low high : ℕ) (c : Column) → AreWithin (optional c (or_empty (number low high))) (AtMost high)
+pub option_within : (low high : ℕ) (c : Column) → AreWithin (optional c (or_empty (number low high))) (AtMost high)
 option_within low high c row cells x e = empty_ok low high (cells c) x (judged_ok (or_empty (number low high)) row c (cells c) x e)
 
 pub exception_types : AreWithin exceptions (λ row. row.exception_type ≤ 2)

@@ -14,6 +14,7 @@ pub mod Chain
 pub mod Laws
 pub mod ServiceLemmas
 pub mod ParentLemmas
+pub mod FrequencyLemmas
 pub mod WholeChain
 pub mod Stopping
 pub mod ColumnLaws
@@ -21,6 +22,9 @@ pub mod DayLemmas
 pub mod TimeLemmas
 pub mod TripLemmas
 pub mod BuildLemmas
+pub mod TimeColumns
+pub mod EarlyTimes
 pub mod Sound
 pub mod PartLemmas
+pub mod PlainTable
 pub mod RestLemmas

@@ -21,6 +21,8 @@ use Rattle.sched_types.specs.declared.rows.Stop.{Stop}
 use Rattle.sched_types.specs.declared.rows.Route.{Route}
 use Rattle.sched_types.specs.declared.rows.Trip.{Trip}
 use Rattle.sched_types.specs.declared.rows.Place.{Place}
+use Rattle.sched_types.specs.declared.rows.PlanPattern.{PlanPattern}
+use Rattle.sched_types.specs.declared.rows.PlanDerived.{PlanDerived}
 use Rattle.text_defs.specs.Dates.{date_plus}
 use Rattle.service_day.specs.Service as service
 use Rattle.service_day.specs.Service.{exception_on, is_active, is_regular}
@@ -33,11 +35,11 @@ use Rattle.sched_load_defs.specs.Services.{active_days, calendar_of, exceptions_
 use Rattle.sched_load_defs.specs.Times.{Times, all_times}
 use Rattle.sched_load_defs.proofs.Listing.{find_keyed}
 use Rattle.sched_load.specs.declared.visits.Visit.{Visit}
-use Rattle.sched_load.specs.Built.{AreSmall, ListsFit, agency_in, places_of_trip, route_in}
-use Rattle.sched_load.specs.Course.{FitsPlace, place_in, places_in}
+use Rattle.sched_load.specs.Built.{AreSmall, agency_in, places_of_trip, route_in}
+use Rattle.sched_load.specs.Course.{place_in, places_in}
 use Rattle.std.proofs.lemmas.Option.{get_or_from_slice_get, slice_get_within, slice_get-get_or}
 use Rattle.std.proofs.Common.{get_or}
-use Rattle.sched_load.specs.Days.{EachSmall, active_by, runs_by}
+use Rattle.sched_load.specs.Days.{active_by, runs_by}
 use Rattle.sched_load.specs.Groups.{exception_of}
 use Rattle.sched_load.specs.Groups as groups
 use Rattle.sched_load.specs.Listed.{group_of, most_rows, visit_of}
@@ -48,7 +50,7 @@ use Rattle.sched_load.proofs.Grouping.{turned_eq}
 use Rattle.sched_load.proofs.Keyed.{listed_map, listed_short}
 use Rattle.sched_load.proofs.Laws.{file_few, file_within}
 use Rattle.sched_load.proofs.Numbered.{ids_rise}
-use Rattle.sched_load.proofs.Sound.{Each, Fits}
+use Rattle.sched_load.proofs.Sound.{Each}
 use Rattle.std.specs.Prelude.{All}
 use Rattle.std.proofs.lemmas.List.Sorted.{All-permutation, length_permutation}
 use Rattle.sched_load_defs.specs.References.{unknown_in_stop_time}
@@ -159,10 +161,10 @@ pickup_small (Some n) h = h
 map_each : {A B : Type 0} (P : A → Type 0) (Q : B → Type 0) (f : A → B) (xs : List A) → ((x : A) → P x → Q (f x)) → Each P xs → Each Q (map f xs)
 map_each P Q f xs g h = λ i y at. let m = mapped_at f xs i y at in subst Q m.2 (g m.0 (h i m.0 m.1))
 
-all_each : {X : Type 0} (P : X → Type 0) (xs : List X) → All P xs → (i : ℕ) (x : X) → slice_get xs i ≡ Some x → P x
+pub all_each : {X : Type 0} (P : X → Type 0) (xs : List X) → All P xs → (i : ℕ) (x : X) → slice_get xs i ≡ Some x → P x
 all_each P xs h i x at = subst P (get_or_from_slice_get xs i x x at) (h i x (slice_get_within xs i x at))
 
-each_all : {X : Type 0} (P : X → Type 0) (xs : List X) → ((i : ℕ) (x : X) → slice_get xs i ≡ Some x → P x) → All P xs
+pub each_all : {X : Type 0} (P : X → Type 0) (xs : List X) → ((i : ℕ) (x : X) → slice_get xs i ≡ Some x → P x) → All P xs
 each_all P xs h = λ k d l. h k (get_or xs k d) (slice_get-get_or xs k d l)
 
 pub visits_small : (d : Dataset) (visits : List Visit) → IsConsistent d → AreArranged (map (visit_of d.trips d.stops) d.stop_times) visits → AreSmall visits
@@ -187,34 +189,13 @@ pub routes_are : (d : Dataset) → map (route_in d.agencies) (by_id (λ row. row
 routes_are d = map_same (route_in d.agencies) (route_of d) (route_rows d) (λ row. ap (λ a. record { id = row.route_id; agency = a; short = row.route_short_name; long = row.route_long_name; kind = row.route_type }) (agency_is d row.agency_id))
 
 -- a timetable by its parts
-pub table_made : (rule : TzText) (first days : ℕ) (d : Dataset) (agencies : List (List ℕ)) (stops : List Stop) (routes : List Route) (trips : List Trip) (places : List (List Place)) (active : List (List ℕ)) (bases : List ℤ)
+pub table_made : (rule : TzText) (first days : ℕ) (d : Dataset) (agencies : List (List ℕ)) (stops : List Stop) (routes : List Route) (trips : List Trip) (places : List (List Place)) (active : List (List ℕ)) (bases : List ℤ) (patterns : List PlanPattern) (derived : List PlanDerived)
     → agencies ≡ agency_ids d → stops ≡ map (stop_of d) (stop_rows d) → routes ≡ map (route_of d) (route_rows d) → trips ≡ map (trip_of d) (trip_rows d)
     → places ≡ map (λ trip. places_with d (stop_times_of d.stop_times trip.trip_id)) (trip_rows d) → active ≡ map (active_days d.calendar d.exceptions first days) (service_ids d)
-    → bases ≡ map (λ day. base_of rule (date_plus first day)) (range_with_len 0 days)
-    → record { agencies = agencies; stops = stops; routes = routes; trips = trips; places = places; active = active; first = first; bases = bases } ≡ timetable_of rule first days d
+    → bases ≡ map (λ day. base_of rule (date_plus first day)) (range_with_len 0 days) → patterns ≡ [] → derived ≡ []
+    → record { agencies = agencies; stops = stops; routes = routes; trips = trips; places = places; active = active; first = first; bases = bases; patterns = patterns; derived = derived } ≡ timetable_of rule first days d
 unfolding timetable_of
-table_made rule first days d agencies stops routes trips places active bases e1 e2 e3 e4 e5 e6 e7 =
-    ap (λ x. record { agencies = x; stops = stops; routes = routes; trips = trips; places = places; active = active; first = first; bases = bases }) e1
-    ∙ ap (λ x. record { agencies = agency_ids d; stops = x; routes = routes; trips = trips; places = places; active = active; first = first; bases = bases }) e2
-    ∙ ap (λ x. record { agencies = agency_ids d; stops = map (stop_of d) (stop_rows d); routes = x; trips = trips; places = places; active = active; first = first; bases = bases }) e3
-    ∙ ap (λ x. record { agencies = agency_ids d; stops = map (stop_of d) (stop_rows d); routes = map (route_of d) (route_rows d); trips = x; places = places; active = active; first = first; bases = bases }) e4
-    ∙ ap (λ x. record { agencies = agency_ids d; stops = map (stop_of d) (stop_rows d); routes = map (route_of d) (route_rows d); trips = map (trip_of d) (trip_rows d); places = x; active = active; first = first; bases = bases }) e5
-    ∙ ap (λ x. record { agencies = agency_ids d; stops = map (stop_of d) (stop_rows d); routes = map (route_of d) (route_rows d); trips = map (trip_of d) (trip_rows d); places = map (λ trip. places_with d (stop_times_of d.stop_times trip.trip_id)) (trip_rows d); active = x; first = first; bases = bases }) e6
-    ∙ ap (λ x. record { agencies = agency_ids d; stops = map (stop_of d) (stop_rows d); routes = map (route_of d) (route_rows d); trips = map (trip_of d) (trip_rows d); places = map (λ trip. places_with d (stop_times_of d.stop_times trip.trip_id)) (trip_rows d); active = map (active_days d.calendar d.exceptions first days) (service_ids d); first = first; bases = x }) e7
-
-place_fits : (lists : List (List Place)) → ListsFit lists → (trip i : ℕ) (place : Place) → slice_get (unwrap_or (slice_get lists trip) []) i ≡ Some place → FitsPlace place
-place_fits lists h trip i place at = by (slice_get lists trip) refl at
-  where
-    by : (o : Option (List Place)) → slice_get lists trip ≡ o → slice_get (unwrap_or o []) i ≡ Some place → FitsPlace place
-    by None e is = absurd (none_some place is)
-    by (Some list) e is = h trip list e i place is
-
-pub fits_are : (rule : TzText) (first days : ℕ) (d : Dataset) (lists : List (List Place)) (bases : List ℤ) → ListsFit lists → lists ≡ map (λ trip. places_with d (stop_times_of d.stop_times trip.trip_id)) (trip_rows d) → EachSmall bases → bases ≡ map (λ day. base_of rule (date_plus first day)) (range_with_len 0 days) → Fits rule first days d
-fits_are rule first days d lists bases h e small f = record {
-  arrivals = λ trip i place at. (place_fits _ (subst ListsFit e h) trip i place at).0;
-  departures = λ trip i place at. (place_fits _ (subst ListsFit e h) trip i place at).1;
-  small = subst EachSmall f small;
-}
+table_made rule first days d agencies stops routes trips places active bases patterns derived e1 e2 e3 e4 e5 e6 e7 e8 e9 = rw (e1, e2, e3, e4, e5, e6, e7, e8, e9) refl
 
 pub few_agency_rows : (d : Dataset) → IsConsistent d → length (by_id (λ row. row.agency_id) d.agencies) ≤ most_rows
 few_agency_rows d c =

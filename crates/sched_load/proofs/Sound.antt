@@ -23,7 +23,7 @@ use Rattle.gtfs_rows.specs.declared.rows.TripRow.{TripRow}
 use Rattle.gtfs_rows.specs.declared.rows.StopTimeRow.{StopTimeRow}
 use Rattle.text_defs.specs.Dates.{is_day, date_plus}
 use Rattle.service_day.specs.Zone.{TzText, base_of}
-use Rattle.sched_types.specs.Timetable.{IsTimetable, IsSmall, RisesById, number_of}
+use Rattle.sched_types.specs.Timetable.{IsTimetable, RisesById, number_of}
 use Rattle.sched_types.specs.declared.rows.Place.{Place}
 use Rattle.sched_types.proofs.TimetableLaws.{number_leads}
 use Rattle.sched_load_defs.specs.declared.fault.File.{File}
@@ -35,11 +35,15 @@ use Rattle.sched_load_defs.specs.Numbers.{Dataset, agency_ids, agency_of, by_id,
 use Rattle.sched_load_defs.specs.Services.{active_days}
 use Rattle.sched_load_defs.specs.Times.{Times, all_times, are_times, times_of}
 use Rattle.sched_load_defs.proofs.Moves.{InOrder, all_in_order}
+use Rattle.freq_runs.specs.Trips.{time_end}
+use Rattle.sched_load.specs.Days.{EachSmall}
 use Rattle.sched_load.specs.Tables.{IsConsistent}
 use Rattle.sched_load.specs.Listed.{most_rows}
 use Rattle.sched_load.proofs.BuildLemmas.{mapped_at}
 use Rattle.sched_load.proofs.ColumnLaws.{AtMost, route_types, trip_directions, pickup_types}
+use Rattle.sched_load.proofs.TimeColumns.{stop_times_early}
 use Rattle.sched_load.proofs.Keyed.{listed_rises, listed_short}
+use Rattle.sched_load.proofs.EarlyTimes.{HasEarly, all_early}
 use Rattle.sched_load.proofs.Laws.{file_few, file_within}
 use Rattle.sched_load.proofs.Numbered.{has_by_number, ids_rise}
 use Rattle.sched_load.proofs.ServiceLemmas.{some_of}
@@ -139,7 +143,7 @@ rises_map id id_of f rows up same = record {
       (ap (λ z. slice_cmp nat_cmp z (id_of (f q.0))) (same p.0) ∙ ap (slice_cmp nat_cmp (id p.0)) (same q.0) ∙ up.rise i j p.0 q.0 l p.1 q.1));
 }
 
-known_if : (b : Bool) (c : Column) → unless_known c b ≡ None → b ≡ true
+pub known_if : (b : Bool) (c : Column) → unless_known c b ≡ None → b ≡ true
 known_if true c e = refl
 known_if false c e = absurd (none_some c (sym e))
 
@@ -297,15 +301,18 @@ in_order_none : (d : Dataset) → with_times d ≡ Ok d → first_fault (times_f
 unfolding with_times
 in_order_none d e = unless_ok _ d d e
 
--- What is left to say of the timetable that is built: its times fit, and its bases are small.
-module _ (rule : TzText) (first days : ℕ) (d : Dataset) where
-  abbrev pub place_lists : List (List Place)
-  place_lists = map (λ trip. places_with d (stop_times_of d.stop_times trip.trip_id)) (trip_rows d)
+-- for each trip its places
+abbrev pub place_lists : Dataset → List (List Place)
+place_lists d = map (λ trip. places_with d (stop_times_of d.stop_times trip.trip_id)) (trip_rows d)
 
-  pub record Fits : Type 0 where
-    pub arrivals : (trip i : ℕ) (place : Place) → slice_get (unwrap_or (slice_get place_lists trip) []) i ≡ Some place → place.arrival < 2 ^ 32
-    pub departures : (trip i : ℕ) (place : Place) → slice_get (unwrap_or (slice_get place_lists trip) []) i ≡ Some place → place.departure < 2 ^ 32
-    pub small : (day : ℕ) (seconds : ℤ) → slice_get (map (λ day. base_of rule (date_plus first day)) (range_with_len 0 days)) day ≡ Some seconds → IsSmall seconds
+-- the bases of the days of a window
+abbrev pub bases_of : TzText → ℕ → ℕ → List ℤ
+bases_of rule first days = map (λ day. base_of rule (date_plus first day)) (range_with_len 0 days)
+
+-- a place is reached and left before the end of all times
+pub record IsEarlyPlace (place : Place) : Type 0 where
+  pub arrival : place.arrival < time_end
+  pub departure : place.departure < time_end
 
 module _ (rule : TzText) (first days : ℕ) (d : Dataset) (c : IsConsistent d) (in_order : with_times d ≡ Ok d) where
   fits_32 : (n : ℕ) → n ≤ 12000000 → n < 2 ^ 32
@@ -317,7 +324,7 @@ module _ (rule : TzText) (first days : ℕ) (d : Dataset) (c : IsConsistent d) (
   pub few_routes : length (route_rows d) ≤ most_rows
   few_routes = let a = listed_short (slice_cmp nat_cmp) (λ (row : RouteRow). row.route_id) d.routes in let b = file_few true file.Routes routes c.routes_of.0 d.routes c.routes_of.1 in omega (arith, a, b)
 
-  few_trips : length (trip_rows d) ≤ most_rows
+  pub few_trips : length (trip_rows d) ≤ most_rows
   few_trips = let a = listed_short (slice_cmp nat_cmp) (λ (row : TripRow). row.trip_id) d.trips in let b = file_few true file.Trips trips c.trips_of.0 d.trips c.trips_of.1 in omega (arith, a, b)
 
   few_agencies : length (agency_ids d) ≤ most_rows
@@ -343,7 +350,7 @@ module _ (rule : TzText) (first days : ℕ) (d : Dataset) (c : IsConsistent d) (
       let m3 = length-map d.exceptions (λ row. row.service_id) in
       omega (arith, a, b, e, f, l1, l2, m1, m2, m3)
 
-  few_times : sum_by length (place_lists rule first days d) < 2 ^ 32
+  pub few_times : sum_by length (place_lists d) ≤ most_rows
   few_times =
       let m = sum_map length (λ (trip : TripRow). places_with d (stop_times_of d.stop_times trip.trip_id)) (trip_rows d) in
       let l = sum_le (λ (trip : TripRow). trip.trip_id) (λ (row : StopTimeRow). row.trip_id) (λ trip. length (places_with d (stop_times_of d.stop_times trip.trip_id))) (λ trip. length (filter (λ row. bytes_eq row.trip_id trip.trip_id) d.stop_times)) (trip_rows d)
@@ -386,14 +393,22 @@ module _ (rule : TzText) (first days : ℕ) (d : Dataset) (c : IsConsistent d) (
     pub times_at : slice_get (all_times (given_times (stop_times_of d.stop_times row.trip_id))) i ≡ Some times
     pub is : place_of d (stop_time, times) ≡ place
 
-  place_from : (trip i : ℕ) (place : Place) → slice_get (unwrap_or (slice_get (place_lists rule first days d) trip) []) i ≡ Some place → PlaceOf trip i place
+  pub place_from : (trip i : ℕ) (place : Place) → slice_get (unwrap_or (slice_get (place_lists d) trip) []) i ≡ Some place → PlaceOf trip i place
   place_from trip i place at =
       let l = list_at (λ (row : TripRow). places_with d (stop_times_of d.stop_times row.trip_id)) (trip_rows d) trip i place at in
       let z = zip_at (place_of d) (stop_times_of d.stop_times (l.0).trip_id) (all_times (given_times (stop_times_of d.stop_times (l.0).trip_id))) i place l.2 in
       record { row = l.0; row_at = l.1; stop_time = z.0; stop_time_at = z.2; times = z.1; times_at = z.3; is = z.4 }
 
-  own_stop_times : (P : StopTimeRow → Type 0) → Each P d.stop_times → (id : List ℕ) → Each P (stop_times_of d.stop_times id)
+  pub own_stop_times : (P : StopTimeRow → Type 0) → Each P d.stop_times → (id : List ℕ) → Each P (stop_times_of d.stop_times id)
   own_stop_times P h id = listed_each nat_cmp (λ row. row.stop_sequence) P (filter (λ row. bytes_eq row.trip_id id) d.stop_times) (filter_each P (λ row. bytes_eq row.trip_id id) d.stop_times h)
+
+  -- each place is reached and left before the end of all times
+  pub place_early : (trip i : ℕ) (place : Place) → slice_get (unwrap_or (slice_get (place_lists d) trip) []) i ≡ Some place → IsEarlyPlace place
+  place_early trip i place at =
+      let p = place_from trip i place at in
+      let given = file_within true file.StopTimes stop_times HasEarly stop_times_early c.stop_times_of.0 d.stop_times c.stop_times_of.1 in
+      let times = all_early (stop_times_of d.stop_times p.row.trip_id) (own_stop_times HasEarly given p.row.trip_id) i p.times p.times_at in
+      subst IsEarlyPlace p.is (record { arrival = times.arrival; departure = times.departure })
 
   pickup_small : (o : Option ℕ) → AtMost 3 o → unwrap_or o 0 ≤ 3
   pickup_small None h = omega arith
@@ -423,21 +438,25 @@ module _ (rule : TzText) (first days : ℕ) (d : Dataset) (c : IsConsistent d) (
       by false h = number_within (λ i. i) (agency_ids d) id n h
 
   -- the timetable of consistent rows is one
-  pub timetable_sound : IsTrue (is_day first) → 19700101 ≤ first → first ≤ 29991231 → days ≤ 400 → Fits rule first days d → IsTimetable (timetable_of rule first days d)
+  pub timetable_sound : IsTrue (is_day first) → 19700101 ≤ first → first ≤ 29991231 → days ≤ 400 → EachSmall (bases_of rule first days) → IsTimetable (timetable_of rule first days d)
   unfolding timetable_of
-  timetable_sound day early late window fits = record {
+  timetable_sound day early late window small = record {
     few_agencies = fits_32 _ (omega (arith, few_agencies));
     few_stops = let l = length-map (stop_rows d) (stop_of d) in let f = few_stops in fits_32 _ (omega (arith, l, f));
     few_routes = let l = length-map (route_rows d) (route_of d) in let f = few_routes in fits_32 _ (omega (arith, l, f));
     few_trips = let l = length-map (trip_rows d) (trip_of d) in let f = few_trips in fits_32 _ (omega (arith, l, f));
     few_services = let l = length-map (service_ids d) (active_days d.calendar d.exceptions first days) in let f = few_services in fits_32 _ (omega (arith, l, f));
-    few_times = few_times;
+    few_times = fits_32 _ (omega (arith, few_times));
     few_days = let l = length-map-range_with_len (λ day. base_of rule (date_plus first day)) 0 days in omega (arith, l, window);
+    few_rows = let l = length-map (trip_rows d) (trip_of d) in let f = few_trips in fits_32 _ (omega (arith, l, f));
+    few_places = fits_32 _ (omega (arith, few_times));
     places_each = length-map (trip_rows d) (λ trip. places_with d (stop_times_of d.stop_times trip.trip_id)) ∙ sym (length-map (trip_rows d) (trip_of d));
     agencies_rise = ids_rise (λ (id : List ℕ). id) (map (λ row. row.agency_id) d.agencies);
     stops_rise = rises_map (λ row. row.stop_id) (λ stop. stop.id) (stop_of d) (stop_rows d) (ids_rise (λ row. row.stop_id) d.stops) (λ r. refl);
     routes_rise = rises_map (λ row. row.route_id) (λ route. route.id) (route_of d) (route_rows d) (ids_rise (λ row. row.route_id) d.routes) (λ r. refl);
     trips_rise = rises_map (λ row. row.trip_id) (λ trip. trip.id) (trip_of d) (trip_rows d) (ids_rise (λ row. row.trip_id) d.trips) (λ r. refl);
+    patterns_rise = record { rise = λ i j x y l at is. absurd (none_some x at) };
+    derived_rise = record { rise = λ i j x y l at is. absurd (none_some x at) };
     parent_is = λ i parent stop at is.
         let m = mapped_at (stop_of d) (stop_rows d) i stop at in
         let l = length-map (stop_rows d) (stop_of d) in
@@ -459,6 +478,7 @@ module _ (rule : TzText) (first days : ℕ) (d : Dataset) (c : IsConsistent d) (
         let l = length-map (stop_rows d) (stop_of d) in
         let w = known_within (λ (row : StopRow). row.stop_id) d.stops p.stop_time.stop_id (own_stop_times (λ row. has_id (λ stop. stop.stop_id) d.stops row.stop_id ≡ true) stops_known p.row.trip_id i p.stop_time p.stop_time_at) in
         subst (λ (x : Place). x.stop < length (map (stop_of d) (stop_rows d))) p.is (omega (arith, l, w));
+    derived_trip_is = λ i found at. absurd (none_some found at);
     kind_is = λ i route at.
         let m = mapped_at (route_of d) (route_rows d) i route at in
         subst (λ x. x.kind ≤ 9999) m.2 (listed_each (slice_cmp nat_cmp) (λ row. row.route_id) (λ row. row.route_type ≤ 9999) d.routes (file_within true file.Routes routes (λ row. row.route_type ≤ 9999) route_types c.routes_of.0 d.routes c.routes_of.1) i m.0 m.1);
@@ -468,8 +488,8 @@ module _ (rule : TzText) (first days : ℕ) (d : Dataset) (c : IsConsistent d) (
     pickup_is = λ trip i place at.
         let p = place_from trip i place at in
         subst (λ (x : Place). x.pickup ≤ 3) p.is (pickup_small p.stop_time.pickup_type (own_stop_times (λ row. AtMost 3 row.pickup_type) (file_within true file.StopTimes stop_times (λ row. AtMost 3 row.pickup_type) pickup_types c.stop_times_of.0 d.stop_times c.stop_times_of.1) p.row.trip_id i p.stop_time p.stop_time_at));
-    arrival_small = λ trip i place at. fits.arrivals trip i place at;
-    departure_small = λ trip i place at. fits.departures trip i place at;
+    arrival_small = λ trip i place at. let e = (place_early trip i place at).arrival in omega (arith, e);
+    departure_small = λ trip i place at. let e = (place_early trip i place at).departure in omega (arith, e);
     sequences_rise = λ trip i j p q l at is.
         let a = place_from trip i p at in
         let b = place_from trip j q is in
@@ -505,5 +525,5 @@ module _ (rule : TzText) (first days : ℕ) (d : Dataset) (c : IsConsistent d) (
     first_is = day;
     first_early = early;
     first_late = late;
-    bases_small = fits.small;
+    bases_small = small;
   }

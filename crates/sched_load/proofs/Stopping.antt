@@ -1,5 +1,5 @@
--- Where the chain of the seven files stops at one that can't be read.
-use Rattle.std.proofs.Common.{◌≡◌, ◌≤◌, ◌∙◌, ℕ, List, arith, refl, ap, subst, sym}
+-- Where the chain of the eight files stops at one that can't be read.
+use Rattle.std.proofs.Common.{◌≡◌, ◌≤◌, ◌∙◌, ℕ, List, arith, refl, ap, subst, sym, inl, inr}
 use Rattle.std.specs.Prelude.{Option, Some, None, IfSome, Result, Ok, Err, IsErrAnd}
 use Rattle.answer_defs.specs.Steps.{◌>>=◌}
 use Rattle.gtfs_rows.specs.declared.fault.RowFault.{RowFault}
@@ -16,15 +16,15 @@ use Rattle.sched_load_defs.specs.declared.fault.LoadFault.{LoadFault}
 use Rattle.sched_load_defs.specs.declared.fault.LoadFault.TheVariants as fault
 use Rattle.sched_load_defs.specs.Files.{file_place, stored_in, unreadable}
 use Rattle.sched_load_defs.specs.Loading.{dataset_where, timetable_where, with_times, zone_of}
-use Rattle.sched_load_defs.specs.Numbers.{Dataset, timetable_of}
+use Rattle.sched_load_defs.specs.Numbers.{Dataset}
 use Rattle.service_day.specs.Zone.{TzText}
 use Rattle.sched_types.specs.Timetable.{Timetable}
 use Rattle.sched_load.specs.Answer.{RefusesAlone, fault_of}
-use Rattle.sched_load.specs.Built.{IsBuilt}
+use Rattle.sched_load.specs.Built.{IsBuilt, plan_told}
 use Rattle.sched_load.specs.Stops.{AtFileFault, StopsWith, StopsFile, StopsPart, StopsTables, StopsLoading}
 use Rattle.sched_load.specs.declared.tables.NetworkTables.{NetworkTables}
-use Rattle.sched_load.specs.Stages.{days_where, network_where}
-use Rattle.sched_load.proofs.WholeChain.{Told, agencies_told, stops_told, routes_told, times_told, calendar_told, after_days, after_times, after_network, by_stages}
+use Rattle.sched_load.specs.Stages.{DayRows, days_where, network_where}
+use Rattle.sched_load.proofs.WholeChain.{Told, agencies_told, stops_told, routes_told, times_told, calendar_told, frequencies_told, after_days, after_frequencies, after_times, after_network, by_stages}
 
 -- ---- what passes on
 
@@ -66,9 +66,10 @@ stops_rows name rows.TooMany P = tt
 stops_rows name rows.NoMemory P = tt
 
 -- nor has a plan that is built
-pub stops_built : (t : Timetable) (r : Result Timetable LoadFault) (P : Type 0) → IsBuilt t r → StopsWith r P
-stops_built t (Ok plan) P h = tt
-stops_built t (Err e) P h = subst (λ f. AtFileFault f P) (sym h) tt
+pub stops_built : (told r : Result Timetable LoadFault) (P : Type 0) → IsBuilt told r → StopsWith r P
+stops_built told (Ok plan) P h = tt
+stops_built told (Err e) P (inl none) = subst (λ f. AtFileFault f P) (sym none) tt
+stops_built told (Err e) P (inr h) = stops_alone told e P h
 
 -- ---- the files of a stage that come before one
 
@@ -125,6 +126,7 @@ module _ (folder : List ℕ) (fs : List (List ℕ × List ℕ)) where
   network_stays file.StopTimes h = refl
   network_stays file.Calendar h = refl
   network_stays file.CalendarDates h = refl
+  network_stays file.Frequencies h = refl
 
   times_stay : (name : File) (n : NetworkTables) → 5 ≤ file_place name
       → times_told (without name) n ≡ times_told (stored_in fs folder) n
@@ -135,6 +137,19 @@ module _ (folder : List ℕ) (fs : List (List ℕ × List ℕ)) where
   times_stay file.StopTimes n h = absurd (omega (arith, h))
   times_stay file.Calendar n h = refl
   times_stay file.CalendarDates n h = refl
+  times_stay file.Frequencies n h = refl
+
+  days_stay : (name : File) → 7 ≤ file_place name
+      → days_where (without name) ≡ days_where (stored_in fs folder)
+  unfolding days_where
+  days_stay file.Agency h = refl
+  days_stay file.Stops h = refl
+  days_stay file.Routes h = refl
+  days_stay file.Trips h = refl
+  days_stay file.StopTimes h = refl
+  days_stay file.Calendar h = absurd (omega (arith, h))
+  days_stay file.CalendarDates h = absurd (omega (arith, h))
+  days_stay file.Frequencies h = refl
 
   -- the rows where that file can't be read
   abbrev rows_without : File → Result Dataset LoadFault
@@ -154,6 +169,14 @@ module _ (folder : List ℕ) (fs : List (List ℕ × List ℕ)) where
       behind_network name n (omega (arith, late)) is
       ∙ ap (λ x. x >>= after_times (without name) n) (times_stay name n late ∙ i)
 
+  behind_days : (name : File) (n : NetworkTables) (ti : List StopTimeRow) (d : DayRows)
+      → 7 ≤ file_place name → network_where (stored_in fs folder) ≡ Ok n
+      → times_told (stored_in fs folder) n ≡ Ok ti → days_where (stored_in fs folder) ≡ Ok d
+      → rows_without name ≡ after_days (without name) n ti d
+  behind_days name n ti d late is i k =
+      behind_times name n ti (omega (arith, late)) is i
+      ∙ ap (λ x. x >>= after_days (without name) n ti) (days_stay name late ∙ k)
+
 -- ---- where they are told
 
 -- the files of a folder, where they are told
@@ -169,6 +192,9 @@ RoutesAre folder ag ro contents = IfSome contents (λ fs. routes_told (stored_in
 abbrev pub TimesAre : List ℕ → NetworkTables → List StopTimeRow → Stored → Type 0
 TimesAre folder n ti contents =
     IfSome contents (λ fs. times_told (stored_in fs folder) n ≡ Ok ti)
+
+abbrev pub DaysAre : List ℕ → DayRows → Stored → Type 0
+DaysAre folder d contents = IfSome contents (λ fs. days_where (stored_in fs folder) ≡ Ok d)
 
 abbrev pub NetworkIs : List ℕ → NetworkTables → Stored → Type 0
 NetworkIs folder n contents = IfSome contents (λ fs. network_where (stored_in fs folder) ≡ Ok n)
@@ -271,14 +297,26 @@ module _ (folder : List ℕ) (place : Option (List ℕ)) where
           (λ name late first.
           behind_times folder fs name n ti late is i ∙ ap (λ x. x >>= after_days (unreadable name fs folder) n ti) first) s
 
+  pub stops_frequencies : (contents : Stored) (n : NetworkTables) (ti : List StopTimeRow)
+      (d : DayRows) → NetworkIs folder n contents → TimesAre folder n ti contents
+      → DaysAre folder d contents → StopsFile place folder file.Frequencies
+      → StopsTables contents place folder
+  stops_frequencies None n ti d is i k p = tt
+  stops_frequencies (Some fs) n ti d is i k p =
+      whole_stops (λ told. frequencies_told told n) 7 folder fs place
+      (λ name late first.
+      behind_days folder fs name n ti d late is i k
+      ∙ ap (λ x. x >>= after_frequencies (unreadable name fs folder) n ti d) first)
+      (at_file (λ told. frequencies_told told n) 7 file.Frequencies folder fs place p (omega arith) refl)
+
 -- ---- the whole
 
 -- behind the zone the rows are read first
 zone_stops : (fs : List (List ℕ × List ℕ)) (folder : List ℕ) (conf : PlanConf) (rule : TzText) (name : File) → zone_of conf.zone ≡ Ok rule → rows_without folder fs name ≡ stop → timetable_where (unreadable name fs folder) conf ≡ Err fault.FileFault
 unfolding timetable_where
 zone_stops fs folder conf rule name z first =
-    ap (λ (x : Result TzText LoadFault). x >>= λ rule. rows_without folder fs name >>= λ rows. with_times rows >>= λ d. Ok (timetable_of rule conf.first conf.days d)) z
-    ∙ ap (λ (x : Result Dataset LoadFault). x >>= λ rows. with_times rows >>= λ d. Ok (timetable_of rule conf.first conf.days d)) first
+    ap (λ (x : Result TzText LoadFault). x >>= λ rule. rows_without folder fs name >>= λ rows. with_times rows >>= plan_told rule conf.first conf.days) z
+    ∙ ap (λ (x : Result Dataset LoadFault). x >>= λ rows. with_times rows >>= plan_told rule conf.first conf.days) first
 
 pub stops_loading : (contents : Stored) (place : Option (List ℕ)) (folder : List ℕ) (conf : PlanConf) (rule : TzText) → zone_of conf.zone ≡ Ok rule → StopsTables contents place folder → StopsLoading contents place folder conf
 stops_loading None place folder conf rule z s = tt

@@ -6,14 +6,13 @@ use Rattle.std.proofs.lemmas.Bool.Decides.{nat_tests}
 use Rattle.sched_load_defs.specs.Times.{Times, known_times, is_stay, are_moves, next_timed, share_between, times_at, times_behind}
 use Rattle.sched_load.specs.declared.visits.Visit.{Visit}
 use Rattle.sched_load.specs.declared.visits.Stay.{Stay}
-use Rattle.sched_load.specs.Course.{AllFit, FitsPlace, IsNearer, Knows, Remembers, Steps, ahead_seen, given_of, place_in, places_in, stay_times}
+use Rattle.sched_load.specs.Course.{IsNearer, Knows, Remembers, Steps, ahead_seen, given_of, place_in, places_in, stay_times}
 use Rattle.sched_load.specs.declared.times.Ahead.{Ahead}
 use Rattle.sched_load.specs.declared.times.Course.{Course}
 use Rattle.sched_types.specs.declared.rows.Place.{Place}
 use Rattle.std.proofs.lemmas.List.{append-nil, append_assoc}
 use Rattle.std.proofs.lemmas.Option.{none-some as none_some, same_Some}
 use Rattle.sched_load.specs.Listed.{times_seen}
-use Rattle.sched_load.proofs.DayLemmas.{each_push}
 use Rattle.sched_load.proofs.Faults.{drop_at, drop_past}
 
 -- timed places follow one another, from a time on
@@ -140,16 +139,15 @@ pub record Fills (visits : List Visit) (i : ℕ) (course : Course) (so_far : Lis
   pub places : so_far ++ map place_in (zip (drop i visits) (times_behind course.departure course.behind (given_of (drop i visits)))) ≡ places_in visits
   pub ahead : Remembers course.ahead (drop i visits)
   pub behind : course.behind ≤ i
-  pub fits : AllFit so_far
 
 pub fills_start : (visits : List Visit) → Fills visits 0 (record { departure = 0; behind = 0; ahead = None }) []
-fills_start visits = record { places = refl; ahead = tt; behind = omega arith; fits = λ i p at. absurd (none_some p at) }
+fills_start visits = record { places = refl; ahead = tt; behind = omega arith }
 
 pub fills_ahead : (visits : List Visit) (i : ℕ) (course : Course) (places : List Place) (visit : Visit) → Fills visits i course places → slice_get visits i ≡ Some visit → Remembers course.ahead (visit ∷ drop (i + 1) visits)
 fills_ahead visits i course places visit f at = subst (Remembers course.ahead) (drop_at visits i visit at) f.ahead
 
-pub fills_more : (visits : List Visit) (i : ℕ) (course next : Course) (places after : List Place) (visit : Visit) (stay : Stay) (place : Place) → Fills visits i course places → slice_get visits i ≡ Some visit → Steps course next stay visit (drop (i + 1) visits) → place ≡ place_in (visit, stay_times stay) → FitsPlace place → after ≡ places ++ place ∷ [] → Fills visits (i + 1) next after
-fills_more visits i course next places after visit stay place f at s is small pushed =
+pub fills_more : (visits : List Visit) (i : ℕ) (course next : Course) (places after : List Place) (visit : Visit) (stay : Stay) (place : Place) → Fills visits i course places → slice_get visits i ≡ Some visit → Steps course next stay visit (drop (i + 1) visits) → place ≡ place_in (visit, stay_times stay) → after ≡ places ++ place ∷ [] → Fills visits (i + 1) next after
+fills_more visits i course next places after visit stay place f at s is pushed =
     let rest = drop (i + 1) visits in
     let behind = map place_in (zip rest (times_behind next.departure next.behind (given_of rest))) in
     let same : places ++ map place_in (zip (drop i visits) (times_behind course.departure course.behind (given_of (drop i visits)))) ≡ places ++ place_in (visit, stay_times stay) ∷ behind =
@@ -159,7 +157,6 @@ fills_more visits i course next places after visit stay place f at s is small pu
       places = ap (λ ps. ps ++ behind) pushed ∙ append_assoc places (place ∷ []) behind ∙ ap (λ p. places ++ p ∷ behind) is ∙ sym same ∙ f.places;
       ahead = s.ahead;
       behind = let b = s.behind in let h = f.behind in omega (arith, b, h);
-      fits = subst AllFit (sym pushed) (each_push FitsPlace places place f.fits small);
     }
 
 pub fills_all : (visits : List Visit) (i : ℕ) (course : Course) (places : List Place) → Fills visits i course places → length visits ≤ i → places ≡ places_in visits

@@ -1,8 +1,8 @@
--- The seven files of a folder, one after another, and stage by stage.
+-- The eight files of a folder, one after another, and stage by stage.
 use Rattle.std.proofs.Common.{◌≡◌, ℕ, List, refl}
 use Rattle.std.specs.Prelude.{Option, Result, Ok, Err}
 use Rattle.answer_defs.specs.Steps.{◌>>=◌}
-use Rattle.gtfs_rows.specs.Tables.{agency, stops, routes, trips, stop_times, calendar, exceptions}
+use Rattle.gtfs_rows.specs.Tables.{agency, stops, routes, trips, stop_times, calendar, exceptions, frequencies}
 use Rattle.gtfs_rows.specs.declared.rows.AgencyRow.{AgencyRow}
 use Rattle.gtfs_rows.specs.declared.rows.StopRow.{StopRow}
 use Rattle.gtfs_rows.specs.declared.rows.RouteRow.{RouteRow}
@@ -10,13 +10,14 @@ use Rattle.gtfs_rows.specs.declared.rows.TripRow.{TripRow}
 use Rattle.gtfs_rows.specs.declared.rows.StopTimeRow.{StopTimeRow}
 use Rattle.gtfs_rows.specs.declared.rows.CalendarRow.{CalendarRow}
 use Rattle.gtfs_rows.specs.declared.rows.ExceptionRow.{ExceptionRow}
+use Rattle.gtfs_rows.specs.declared.rows.FrequencyRow.{FrequencyRow}
 use Rattle.sched_load_defs.specs.declared.fault.File.{File}
 use Rattle.sched_load_defs.specs.declared.fault.File.TheVariants as file
 use Rattle.sched_load_defs.specs.declared.fault.LoadFault.{LoadFault}
 use Rattle.sched_load_defs.specs.Files.{optional_rows, required_rows, stored_in}
 use Rattle.sched_load_defs.specs.Numbers.{Dataset}
 use Rattle.sched_load_defs.specs.Loading.{dataset_in, dataset_where}
-use Rattle.sched_load_defs.specs.References.{consistent_agencies, consistent_stops, consistent_routes, consistent_trips, consistent_stop_times, consistent_calendar, consistent_exceptions}
+use Rattle.sched_load_defs.specs.References.{consistent_agencies, consistent_stops, consistent_routes, consistent_trips, consistent_stop_times, consistent_calendar, consistent_exceptions, consistent_frequencies}
 use Rattle.sched_load.specs.declared.tables.NetworkTables.{NetworkTables}
 use Rattle.sched_load.specs.Stages.{DayRows, days_where, network_where}
 
@@ -64,6 +65,11 @@ module _ (told : Told) where
       told file.CalendarDates >>= optional_rows file.CalendarDates exceptions
       >>= consistent_exceptions
 
+  abbrev pub frequencies_told : NetworkTables → Result (List FrequencyRow) LoadFault
+  frequencies_told n =
+      told file.Frequencies >>= optional_rows file.Frequencies frequencies
+      >>= consistent_frequencies n.trips
+
   -- what follows each of them within its stage
   abbrev pub after_trips : List AgencyRow → List StopRow → List RouteRow → List TripRow
       → Result NetworkTables LoadFault
@@ -86,8 +92,9 @@ module _ (told : Told) where
   after_calendar ca = exceptions_told >>= after_exceptions ca
 
   -- and what follows each stage
-  abbrev pub after_days : NetworkTables → List StopTimeRow → DayRows → Result Dataset LoadFault
-  after_days n ti d =
+  abbrev pub after_frequencies : NetworkTables → List StopTimeRow → DayRows → List FrequencyRow
+      → Result Dataset LoadFault
+  after_frequencies n ti d fr =
       Ok (record {
         agencies = n.agencies;
         stops = n.stops;
@@ -96,7 +103,11 @@ module _ (told : Told) where
         stop_times = ti;
         calendar = d.calendar;
         exceptions = d.exceptions;
+        frequencies = fr;
       })
+
+  abbrev pub after_days : NetworkTables → List StopTimeRow → DayRows → Result Dataset LoadFault
+  after_days n ti d = frequencies_told n >>= after_frequencies n ti d
 
   abbrev pub after_times : NetworkTables → List StopTimeRow → Result Dataset LoadFault
   after_times n ti = days_where told >>= after_days n ti

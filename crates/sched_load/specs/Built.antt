@@ -1,5 +1,5 @@
 -- What the loader makes of the rows that it read.
-use Rattle.std.specs.Prelude.{◌≡◌, ℕ, ◌≤◌, ◌==◌, bytes_eq, List, [], length, filter, slice_get, Option, Some, None, if◌then◌else◌, Result, Ok, Err}
+use Rattle.std.specs.Prelude.{◌≡◌, ℕ, ◌≤◌, ◌⊎◌, ◌==◌, bytes_eq, List, [], length, filter, slice_get, Option, Some, None, if◌then◌else◌, Result, Ok, Err}
 use Rattle.gtfs_rows.specs.declared.rows.AgencyRow.{AgencyRow}
 use Rattle.gtfs_rows.specs.declared.rows.StopRow.{StopRow}
 use Rattle.gtfs_rows.specs.declared.rows.RouteRow.{RouteRow}
@@ -9,13 +9,15 @@ use Rattle.sched_types.specs.declared.rows.Route.{Route}
 use Rattle.sched_types.specs.declared.rows.Trip.{Trip}
 use Rattle.sched_types.specs.declared.rows.Place.{Place}
 use Rattle.sched_load.specs.declared.visits.Visit.{Visit}
-use Rattle.sched_load.specs.Course.{AllFit, places_in}
+use Rattle.sched_load.specs.Course.{places_in}
 use Rattle.sched_load.specs.Listed.{most_rows}
 use Rattle.sched_types.specs.Timetable.{Timetable, number_of}
 use Rattle.sched_load_defs.specs.declared.fault.LoadFault.{LoadFault}
 use Rattle.sched_load_defs.specs.declared.fault.LoadFault.TheVariants as fault
+use Rattle.service_day.specs.Zone.{TzText}
+use Rattle.sched_load_defs.specs.Frequencies.{load_answer_of, with_frequencies}
 use Rattle.sched_load_defs.specs.Loading.{with_times}
-use Rattle.sched_load_defs.specs.Numbers.{Dataset, by_id, known_number}
+use Rattle.sched_load_defs.specs.Numbers.{Dataset, by_id, known_number, timetable_of}
 use Rattle.sched_load.specs.Answer.{RefusesAlone}
 
 -- the times of all trips are in order
@@ -27,10 +29,16 @@ abbrev pub TimesAre : Dataset → Result (Unit {0}) LoadFault → Type 0
 TimesAre d (Ok _) = with_times d ≡ Ok d
 TimesAre d (Err e) = RefusesAlone (with_times d) e
 
--- a plan is that timetable; only want of memory may come in its place
-abbrev pub IsBuilt : Timetable → Result Timetable LoadFault → Type 0
-IsBuilt t (Ok plan) = plan ≡ t
-IsBuilt t (Err e) = e ≡ fault.NoMemory
+-- the timetable of rows whose times are in order, for a window of days from a first one on; or the fault of the
+-- trips that frequencies.txt gives
+abbrev pub plan_told : TzText → ℕ → ℕ → Dataset → Result Timetable LoadFault
+plan_told rule first days d =
+    load_answer_of (with_frequencies d.frequencies (timetable_of rule first days d))
+
+-- a plan is the timetable that is told, or the fault is the one that is told; memory may run out in place of both
+abbrev pub IsBuilt : Result Timetable LoadFault → Result Timetable LoadFault → Type 0
+IsBuilt told (Ok plan) = told ≡ Ok plan
+IsBuilt told (Err e) = (e ≡ fault.NoMemory) ⊎ RefusesAlone told e
 
 -- a stop, among the rows of stops.txt
 abbrev pub stop_in : List StopRow → StopRow → Stop
@@ -78,7 +86,3 @@ pub record AreSmall (visits : List Visit) : Type 0 where
 -- the places of a trip
 abbrev pub places_of_trip : List Visit → ℕ → List Place
 places_of_trip visits trip = places_in (filter (λ visit. visit.trip == trip) visits)
-
--- the times of all places are 32 bits
-abbrev pub ListsFit : List (List Place) → Type 0
-ListsFit lists = (i : ℕ) (list : List Place) → slice_get lists i ≡ Some list → AllFit list

@@ -1,5 +1,5 @@
 -- The times of a trip's places, as the loader goes over them.
-use Rattle.std.specs.Prelude.{◌≡◌, ℕ, ◌+◌, ◌-◌, ◌<◌, ◌≤◌, ◌^◌, List, ◌∷◌, map, Option, Some, None, option_map, slice_get, zip, ⊤}
+use Rattle.std.specs.Prelude.{◌≡◌, ℕ, ◌+◌, ◌-◌, ◌≤◌, List, ◌∷◌, map, Option, Some, None, option_map, zip, ⊤}
 use Rattle.sched_types.specs.declared.rows.Place.{Place}
 use Rattle.sched_load_defs.specs.Times.{Times, all_times, next_timed, times_behind}
 use Rattle.sched_load.specs.declared.visits.Visit.{Visit}
@@ -57,10 +57,3 @@ pub record Steps (before after : Course) (stay : Stay) (visit : Visit)
       ≡ stay_times stay ∷ times_behind after.departure after.behind (given_of rest)
   pub ahead : Remembers after.ahead rest
   pub behind : after.behind ≤ before.behind + 1
-
--- the times of a place are 32 bits
-abbrev pub FitsPlace : Place → Type 0
-FitsPlace place = (place.arrival < 2 ^ 32) × (place.departure < 2 ^ 32)
-
-abbrev pub AllFit : List Place → Type 0
-AllFit places = (i : ℕ) (place : Place) → slice_get places i ≡ Some place → FitsPlace place

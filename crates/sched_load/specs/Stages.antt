@@ -1,4 +1,5 @@
--- The seven files in three stages: the four on which stop times rest, stop_times.txt, and the two of days.
+-- The eight files in four stages: the four on which stop times rest, stop_times.txt, the two of days, and
+-- frequencies.txt.
 use Rattle.std.specs.Prelude.{◌≡◌, ℕ, true, false, List, Option, Result, Ok, Err}
 use Rattle.answer_defs.specs.Steps.{◌>>=◌}
 use Rattle.gtfs_rows.specs.Tables.{agency, stops, routes, trips, calendar, exceptions}

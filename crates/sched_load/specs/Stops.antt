@@ -45,7 +45,7 @@ abbrev pub StopsPart : {A : Type 0}
 StopsPart part before contents place folder =
     IfSome contents (λ files. IfSome place (λ path. PartStops part before files folder path))
 
--- reading the seven files stopped at that call, where the files and its path are told
+-- reading the eight files stopped at that call, where the files and its path are told
 abbrev pub StopsTables : Option (List (List ℕ × List ℕ)) → Option (List ℕ) → List ℕ → Type 0
 StopsTables contents place folder =
     IfSome contents (λ files. IfSome place (λ path. DatasetStops files folder path))

@@ -5,9 +5,11 @@ ghost use Rattle.std.specs.List.{range_with_len};
 ghost use Rattle.text_defs.specs.Dates.{is_day, date_plus};
 ghost use Rattle.service_day.specs.Zone.{base_of};
 ghost use Rattle.sched_types.specs.Parts.{table_of};
-ghost use Rattle.sched_types.specs.Timetable.{IsTimetable, RisesById, number_of};
+ghost use Rattle.sched_types.specs.Timetable.{RisesById, number_of};
+ghost use Rattle.freq_parts.specs.Conditions.{IsPlain};
+ghost use Rattle.sched_load_defs.specs.Frequencies.{load_fault_of};
 ghost use Rattle.sched_load_defs.specs.Numbers.{by_id, timetable_of};
-ghost use Rattle.sched_load.specs.Built.{IsBuilt, AreSmall, ListsFit, agency_in, places_of_trip, route_in, stop_in, trip_in};
+ghost use Rattle.sched_load.specs.Built.{IsBuilt, AreSmall, agency_in, places_of_trip, plan_told, route_in, stop_in, trip_in};
 ghost use Rattle.sched_load.specs.Listed.{most_rows};
 ghost use Rattle.sched_load.specs.Tables.{AreRead, dataset_of};
 ghost use Rattle.sched_load.specs.InOrder.{WereInOrder};
@@ -21,8 +23,10 @@ use crate::table::Table;
 use crate::tables::Tables;
 use crate::times::places_of;
 use crate::visits::{Visit, visits_of};
-use gtfs_rows::{AgencyRow, RouteRow, StopRow, TripRow};
-use sched_load_defs::LoadFault;
+use freq_parts::with_frequencies;
+use freq_runs::DeriveFault;
+use gtfs_rows::{AgencyRow, RouteRow, RowFault, StopRow, TripRow};
+use sched_load_defs::{File, LoadFault};
 use sched_types::{Place, Plan, PlanName, PlanParts, Route, Stop, Trip};
 use service_day::Zone;
 use std::alloc::{AllocError, Global};
@@ -182,9 +186,8 @@ fn places_lists(
     requires small { AreSmall visits.now }
     requires by_trip { IsNonDecreasingBy (λ (visit : Visit). visit.trip) visits.now }
     requires few { trips ≤ most_rows }
-    ensures value { IfOk result (λ lists. map (λ v. v.items) lists.items
+    ensures { IfOk result (λ lists. map (λ v. v.items) lists.items
         ≡ map (places_of_trip visits.now) (range_with_len 0 trips)) }
-    ensures fits { IfOk result (λ lists. ListsFit (map (λ v. v.items) lists.items)) }
 {
     let mut lists = Vec::with_capacity(alloc, trips)?;
     for trip in 0..trips {
@@ -193,7 +196,7 @@ fn places_lists(
     Ok(lists)
 }
 
-/// The lists of the plan, for a window of days from a first one on.
+/// The lists of the plan as if there were no frequencies.txt, for a window of days from a first one on.
 fn parts_of(
     alloc: Global,
     zone: &Zone,
@@ -209,7 +212,7 @@ fn parts_of(
     ensures table { (rows : List StopTimeRow) → AreRead tables.now rows
         → IfOk result (λ parts. table_of parts
         ≡ timetable_of zone.now first days (dataset_of tables.now rows)) }
-    ensures sound { IfOk result (λ parts. IsTimetable (table_of parts)) }
+    ensures plain { IfOk result (λ parts. IsPlain (table_of parts)) }
 {
     let services = tables.services.as_slice();
     let agencies = agency_ids(alloc, &tables.agencies)?;
@@ -235,10 +238,27 @@ fn parts_of(
         active,
         first,
         bases,
+        patterns: Vec::new(alloc),
+        derived: Vec::new(alloc),
     })
 }
 
-/// The plan of the rows, for a window of days from a first one on.
+/// What is told of the first fault of frequencies.txt that its derived trips have.
+fn load_fault(fault: DeriveFault) -> LoadFault
+    ensures { result ≡ load_fault_of fault }
+{
+    match fault {
+        DeriveFault::TooMany => LoadFault::Rows(File::Frequencies, RowFault::TooMany),
+        DeriveFault::Duplicate { row } => LoadFault::Duplicate {
+            file: File::Frequencies,
+            row,
+        },
+        DeriveFault::NoMemory => LoadFault::NoMemory,
+    }
+}
+
+/// The plan of the rows, for a window of days from a first one on, with the trips of frequencies.txt; or the first
+/// fault of these.
 pub(crate) fn build_plan(
     alloc: Global,
     zone: &Zone,
@@ -252,8 +272,11 @@ pub(crate) fn build_plan(
     requires late { first ≤ 29991231 }
     requires few { days ≤ 400 }
     ensures { (rows : List StopTimeRow) → AreRead tables.now rows
-        → IsBuilt (timetable_of zone.now first days (dataset_of tables.now rows)) result }
+        → IsBuilt (plan_told zone.now first days (dataset_of tables.now rows)) result }
 {
     let parts = parts_of(alloc, zone, first, days, tables)?;
-    Ok(Plan::build(alloc, parts)?)
+    match with_frequencies(alloc, parts, tables.frequencies.as_slice()) {
+        Ok(parts) => Ok(Plan::build(alloc, parts)?),
+        Err(fault) => Err(load_fault(fault)),
+    }
 }

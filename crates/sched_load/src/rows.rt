@@ -5,8 +5,9 @@ ghost use Rattle.answer_defs.specs.Defined.{AsDefined};
 ghost use Rattle.gtfs_rows.specs.Files.{cause_of, items_of, rows_of};
 
 use gtfs_rows::{
-    AgencyRow, CalendarRow, ExceptionRow, RouteRow, RowFault, StopRow, TripRow, read_agencies,
-    read_calendar, read_exceptions, read_routes, read_stops, read_trips,
+    AgencyRow, CalendarRow, ExceptionRow, FrequencyRow, RouteRow, RowFault, StopRow, TripRow,
+    read_agencies, read_calendar, read_exceptions, read_frequencies, read_routes, read_stops,
+    read_trips,
 };
 use sched_load_defs::File;
 use std::alloc::Global;
@@ -226,5 +227,29 @@ impl FileRow for ExceptionRow {
 
     fn read(alloc: Global, bytes: &[u8]) -> Result<Vec<ExceptionRow>, RowFault> {
         read_exceptions(alloc, bytes)
+    }
+}
+
+impl FileRow for FrequencyRow {
+    ghost use Rattle.gtfs_rows.specs.Tables.{frequencies};
+    ghost use Rattle.sched_load_defs.specs.declared.fault.File.TheVariants as file;
+    ghost use Rattle.std.specs.Prelude.{false};
+
+    ghost columns = { frequencies };
+
+    ghost name = { file.Frequencies };
+
+    ghost required = { false };
+
+    fn file() -> File {
+        File::Frequencies
+    }
+
+    fn is_required() -> bool {
+        false
+    }
+
+    fn read(alloc: Global, bytes: &[u8]) -> Result<Vec<FrequencyRow>, RowFault> {
+        read_frequencies(alloc, bytes)
     }
 }

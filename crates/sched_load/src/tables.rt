@@ -1,4 +1,4 @@
-//! The rows of the seven files of a folder.
+//! The rows of the eight files of a folder.
 
 ghost use Rattle.std.specs.Prelude.{◌≡◌, ◌≤◌, ℕ, List, Option, IfOk, Ok, length, true, [], ◌||◌, bytes_eq};
 ghost use Rattle.hub_outside.specs.Files.{file_at};
@@ -16,13 +16,16 @@ ghost use Rattle.gtfs_rows.specs.Tables.{stop_times, stops};
 ghost use Rattle.sched_load_defs.specs.declared.fault.File.TheVariants as file;
 
 use crate::files::{read_rows, read_visits};
+use crate::frequencies::read_frequencies;
 use crate::id_order::{order_of, row_number};
 use crate::judges::{Judge, KnownAgencies, KnownRoutes, NoReference};
 use crate::rows::IdRow;
 use crate::services::{group_exceptions, service_ids};
 use crate::table::Table;
 use crate::visits::{Visit, arrange};
-use gtfs_rows::{AgencyRow, CalendarRow, Column, ExceptionRow, RouteRow, StopRow, TripRow};
+use gtfs_rows::{
+    AgencyRow, CalendarRow, Column, ExceptionRow, FrequencyRow, RouteRow, StopRow, TripRow,
+};
 use hub_outside::Files;
 use sched_load_defs::{File, LoadFault};
 use sched_types::PlanName;
@@ -30,7 +33,7 @@ use service_day::Exception;
 use std::alloc::Global;
 use std::collections::BTreeMap;
 
-/// What is kept of the rows of the seven files: those of stop_times.txt are kept as visits alone.
+/// What is kept of the rows of the eight files: those of stop_times.txt are kept as visits alone.
 #[derive(Drop)]
 pub(crate) struct Tables {
     pub(crate) agencies: Table<AgencyRow>,
@@ -45,6 +48,7 @@ pub(crate) struct Tables {
     pub(crate) services: Vec<PlanName>,
     /// For each service its exceptions by rising dates.
     pub(crate) active: Vec<BTreeMap<u32, Exception>>,
+    pub(crate) frequencies: Vec<FrequencyRow>,
 }
 
 /// The rows of a file that has ids, or its first fault.
@@ -227,7 +231,7 @@ fn read_days<F: Files>(
     })
 }
 
-/// The rows of the seven files of the folder, or the first fault, file by file.
+/// The rows of the eight files of the folder, or the first fault, file by file.
 pub(crate) fn read_tables<F: Files>(
     alloc: Global,
     files: &mut F,
@@ -242,6 +246,7 @@ pub(crate) fn read_tables<F: Files>(
     let network = read_network(alloc, files, folder)?;
     let visits = arranged_visits(alloc, files, folder, &network.trips, &network.stops)?;
     let days = read_days(alloc, files, folder, &network.trips)?;
+    let frequencies = read_frequencies(alloc, files, folder, &network.trips)?;
     let NetworkTables {
         agencies,
         stops,
@@ -264,5 +269,6 @@ pub(crate) fn read_tables<F: Files>(
         exceptions,
         services,
         active,
+        frequencies,
     })
 }

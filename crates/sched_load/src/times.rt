@@ -6,7 +6,7 @@ ghost use Rattle.std.specs.Option.{ForSome};
 ghost use Rattle.sched_load_defs.specs.Times.{are_moves, are_times, share_between, is_stay, next_timed, known_times};
 ghost use Rattle.sched_load_defs.specs.Loading.{with_times};
 ghost use Rattle.sched_load.specs.Listed.{most_rows, times_seen};
-ghost use Rattle.sched_load.specs.Course.{AllFit, FitsPlace, Remembers, IsNearer, Knows, Steps, ahead_seen, given_of, place_in, places_in, stay_times};
+ghost use Rattle.sched_load.specs.Course.{Remembers, IsNearer, Knows, Steps, ahead_seen, given_of, place_in, places_in, stay_times};
 ghost use Rattle.sched_load.specs.declared.visits.Visit.{Visit};
 
 use crate::visits::{Stay, Visit};
@@ -160,8 +160,7 @@ fn step(course: Course, visit: Visit, rest: &[Visit]) -> (Course, Stay)
 /// The place of a visit.
 fn place_at(visit: Visit, stay: Stay) -> Place
     requires { visit.pickup ≤ 3 }
-    ensures value { result ≡ place_in (visit, stay_times stay) }
-    ensures fits { FitsPlace result }
+    ensures { result ≡ place_in (visit, stay_times stay) }
 {
     Place {
         stop: visit.stop,
@@ -177,8 +176,7 @@ pub(crate) fn places_of(alloc: Global, visits: &[Visit]) -> Result<Vec<Place>, A
     requires few { length visits.now ≤ most_rows }
     requires pickups { (i : ℕ) (visit : Visit) → slice_get visits.now i ≡ Some visit
         → visit.pickup ≤ 3 }
-    ensures value { IfOk result (λ places. places.items ≡ places_in visits.now) }
-    ensures fits { IfOk result (λ places. AllFit places.items) }
+    ensures { IfOk result (λ places. places.items ≡ places_in visits.now) }
 {
     let mut places = Vec::with_capacity(alloc, visits.len())?;
     let mut course = Course {

@@ -121,7 +121,7 @@ added_only = refl
 -- ---- numbers
 
 abbrev no_rows : Dataset
-no_rows = record { agencies = []; stops = []; routes = []; trips = []; stop_times = []; calendar = []; exceptions = [] }
+no_rows = record { agencies = []; stops = []; routes = []; trips = []; stop_times = []; calendar = []; exceptions = []; frequencies = [] }
 
 -- an empty agency_id is the only agency's, and of two agencies none
 only_agency : agency_of (record no_rows { agencies = agency (codes "A") ∷ [] }) [] ≡ Some 0

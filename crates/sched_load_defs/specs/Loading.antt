@@ -75,8 +75,8 @@ timetable_where told conf = do
   rule ← zone_of conf.zone
   rows ← dataset_where told
   dataset ← with_times rows
-  load_answer_of
-  (with_frequencies dataset.frequencies (timetable_of rule conf.first conf.days dataset))
+  load_answer_of (with_frequencies dataset.frequencies
+      (timetable_of rule conf.first conf.days dataset))
 
 -- the timetable of a folder, or the first fault
 unfoldable pub timetable : List (List ℕ × List ℕ) → List ℕ → PlanConf → Result Timetable LoadFault

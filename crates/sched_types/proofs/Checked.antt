@@ -1,14 +1,15 @@
 -- A timetable of literals is a timetable where tests of its lists compute to true.
-use Rattle.std.proofs.Common.{◌≡◌, ℕ, ◌+◌, ◌^◌, Bool, true, nat_lt, nat_le, ◌==◌, Some, List, [], ◌∷◌, length, map, sum_by, slice_get, refl, Less, Equal, Greater, arith}
+use Rattle.std.proofs.Common.{◌≡◌, ℕ, ◌+◌, ◌^◌, Bool, true, false, nat_lt, nat_le, ◌==◌, ◌&&◌, ◌||◌, ◌<◌, ◌⊎◌, inl, inr, Some, List, [], ◌∷◌, length, map, sum_by, slice_get, refl, Less, Equal, Greater, arith}
 use Rattle.std.specs.Cmp.Lexicographic.{slice_cmp}
 use Rattle.std.specs.List.{list_all}
 use Rattle.std.specs.Ordering.{nat_cmp, is_lt}
 use Rattle.std.specs.declared.cmp.Ordering.{Ordering}
-use Rattle.std.proofs.lemmas.Bool.{ltb-true, leb-true, eqb-true}
+use Rattle.std.proofs.lemmas.Bool.{and_parts, ltb-true, leb-true, eqb-true}
 use Rattle.text_defs.specs.Dates.{is_day}
+use Rattle.sched_types.specs.declared.rows.PlanDerived.{PlanDerived}
 use Rattle.sched_types.specs.declared.rows.PlanParts.{PlanParts}
 use Rattle.sched_types.specs.Parts.{table_of}
-use Rattle.sched_types.specs.Timetable.{Timetable, IsTimetable, RisesById}
+use Rattle.sched_types.specs.Timetable.{Timetable, IsTimetable, RisesById, RiseByStart, pattern_places}
 use Rattle.sched_types.proofs.Checks.{all_at, nested_at, all_pairs, pairs_at, nested_pairs_at, given_below, given_below-is, is_small, is_small-is}
 
 -- ids that rise
@@ -22,6 +23,21 @@ is_less Greater e = cc
 
 rises-is : {X : Type 0} (id : X → List ℕ) (xs : List X) → rises id xs ≡ true → RisesById id xs
 rises-is id xs e = record { rise = λ i j x y h at then. is_less (slice_cmp nat_cmp (id x) (id y)) (pairs_at (λ x y. is_lt (slice_cmp nat_cmp (id x) (id y))) xs e i j x y h at then) }
+
+-- derived trips of which the first goes before the second
+abbrev pub starts_before : PlanDerived → PlanDerived → Bool
+starts_before a b = nat_lt a.pattern b.pattern || ((a.pattern == b.pattern) && nat_lt a.start b.start)
+
+is_before : (a b : PlanDerived) → starts_before a b ≡ true → (a.pattern < b.pattern) ⊎ ((a.pattern ≡ b.pattern) × (a.start < b.start))
+is_before a b e = by_pattern (nat_lt a.pattern b.pattern) refl e where
+  by_pattern : (lower : Bool) → nat_lt a.pattern b.pattern ≡ lower → (lower || ((a.pattern == b.pattern) && nat_lt a.start b.start)) ≡ true → (a.pattern < b.pattern) ⊎ ((a.pattern ≡ b.pattern) × (a.start < b.start))
+  by_pattern true lower passes = inl (ltb-true a.pattern b.pattern lower)
+  by_pattern false lower passes =
+      let parts = and_parts (a.pattern == b.pattern) (nat_lt a.start b.start) passes in
+      inr (eqb-true a.pattern b.pattern parts.0, ltb-true a.start b.start parts.1)
+
+starts-rise : (derived : List PlanDerived) → all_pairs starts_before derived ≡ true → RiseByStart derived
+starts-rise derived e = record { rise = λ i j a b h at then. is_before a b (pairs_at starts_before derived e i j a b h at then) }
 
 -- the tests: of how many there are, of ids, of numbers that lead to rows, of columns, of places and of days
 abbrev pub tests : Timetable → List Bool
@@ -57,6 +73,11 @@ tests t =
     ∷ nat_le 19700101 t.first
     ∷ nat_le t.first 29991231
     ∷ list_all is_small t.bases
+    ∷ nat_lt (length t.trips + length t.patterns) (2 ^ 32)
+    ∷ nat_lt (sum_by length t.places + pattern_places t) (2 ^ 32)
+    ∷ rises (λ pattern. pattern.id) t.patterns
+    ∷ all_pairs starts_before t.derived
+    ∷ list_all (λ found. nat_lt found.trip (length t.trips)) t.derived
     ∷ []
 
 abbrev pub passes : Timetable → Bool
@@ -77,6 +98,11 @@ checked t e = record {
   stops_rise = rises-is (λ stop. stop.id) t.stops (test 9 (rises (λ stop. stop.id) t.stops) refl);
   routes_rise = rises-is (λ route. route.id) t.routes (test 10 (rises (λ route. route.id) t.routes) refl);
   trips_rise = rises-is (λ trip. trip.id) t.trips (test 11 (rises (λ trip. trip.id) t.trips) refl);
+  few_rows = ltb-true (length t.trips + length t.patterns) (2 ^ 32) (test 31 (nat_lt (length t.trips + length t.patterns) (2 ^ 32)) refl);
+  few_places = ltb-true (sum_by length t.places + pattern_places t) (2 ^ 32) (test 32 (nat_lt (sum_by length t.places + pattern_places t) (2 ^ 32)) refl);
+  patterns_rise = rises-is (λ pattern. pattern.id) t.patterns (test 33 (rises (λ pattern. pattern.id) t.patterns) refl);
+  derived_rise = starts-rise t.derived (test 34 (all_pairs starts_before t.derived) refl);
+  derived_trip_is = λ i found at. ltb-true found.trip (length t.trips) (all_at (λ found. nat_lt found.trip (length t.trips)) t.derived (test 35 (list_all (λ found. nat_lt found.trip (length t.trips)) t.derived) refl) i found at);
   parent_is = λ i parent stop at given. given_below-is (length t.stops) parent stop.parent (all_at (λ stop. given_below (length t.stops) stop.parent) t.stops (test 12 (list_all (λ stop. given_below (length t.stops) stop.parent) t.stops) refl) i stop at) given;
   agency_is = λ i agency route at given. given_below-is (length t.agencies) agency route.agency (all_at (λ route. given_below (length t.agencies) route.agency) t.routes (test 13 (list_all (λ route. given_below (length t.agencies) route.agency) t.routes) refl) i route at) given;
   route_is = λ i trip at. ltb-true trip.route (length t.routes) (all_at (λ trip. nat_lt trip.route (length t.routes)) t.trips (test 14 (list_all (λ trip. nat_lt trip.route (length t.routes)) t.trips) refl) i trip at);
@@ -104,7 +130,8 @@ checked t e = record {
 pub checked_parts : (t : Timetable) → passes t ≡ true → (p : PlanParts) → p.agencies.items ≡ t.agencies
     → p.stops.items ≡ t.stops → p.routes.items ≡ t.routes → p.trips.items ≡ t.trips
     → map (λ v. v.items) p.places.items ≡ t.places → map (λ v. v.items) p.active.items ≡ t.active
-    → p.first ≡ t.first → p.bases.items ≡ t.bases → IsTimetable (table_of p)
-checked_parts t e p agencies stops routes trips places active first bases =
-    let same : table_of p ≡ t = rw (agencies, stops, routes, trips, places, active, first, bases) refl in
+    → p.first ≡ t.first → p.bases.items ≡ t.bases → p.patterns.items ≡ t.patterns → p.derived.items ≡ t.derived
+    → IsTimetable (table_of p)
+checked_parts t e p agencies stops routes trips places active first bases patterns derived =
+    let same : table_of p ≡ t = rw (agencies, stops, routes, trips, places, active, first, bases, patterns, derived) refl in
     rw same (checked t e)

@@ -8,4 +8,5 @@ pub mod Checks
 pub mod Checked
 pub mod TimetableLaws
 pub mod DepartureOrder
+pub mod DerivedLemmas
 pub mod CheckedSchedules

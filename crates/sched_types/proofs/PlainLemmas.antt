@@ -17,10 +17,15 @@ plain_is = record {
   few_times = omega arith;
   few_days = omega arith;
   places_each = refl;
+  few_rows = omega arith;
+  few_places = omega arith;
   agencies_rise = record { rise = λ i j x y h e f. cc };
   stops_rise = record { rise = λ i j x y h e f. cc };
   routes_rise = record { rise = λ i j x y h e f. cc };
   trips_rise = record { rise = λ i j x y h e f. cc };
+  patterns_rise = record { rise = λ i j x y h e f. cc };
+  derived_rise = record { rise = λ i j a b h e f. cc };
+  derived_trip_is = λ i found e. cc;
   parent_is = λ i parent stop e f. cc;
   agency_is = λ i agency route e f. cc;
   route_is = λ i trip e. cc;
@@ -46,9 +51,9 @@ no_order : AreInOrder [] [] []
 no_order = record { sorted = λ k d low high. absurd (omega arith); same = λ wanted. refl }
 
 -- so is each plan whose lists are empty and whose window begins so
-pub plain_sound : (p : Inside) → p.agencies.items ≡ [] → p.stops.items ≡ [] → p.routes.items ≡ [] → p.trips.items ≡ [] → p.places.items ≡ [] → p.active.items ≡ [] → p.bases.items ≡ [] → p.first ≡ 19700101 → p.children.items ≡ [] → p.dates.items ≡ [] → p.departures.items ≡ [] → IsSound p
-plain_sound p agencies stops routes trips places active bases first children dates departures = record {
-  table = let same : table_in p ≡ no_timetable = rw (agencies, stops, routes, trips, places, active, bases, first) refl in rw same plain_is;
+pub plain_sound : (p : Inside) → p.agencies.items ≡ [] → p.stops.items ≡ [] → p.routes.items ≡ [] → p.trips.items ≡ [] → p.places.items ≡ [] → p.active.items ≡ [] → p.bases.items ≡ [] → p.first ≡ 19700101 → p.patterns.items ≡ [] → p.derived.items ≡ [] → p.children.items ≡ [] → p.dates.items ≡ [] → p.departures.items ≡ [] → IsSound p
+plain_sound p agencies stops routes trips places active bases first patterns derived children dates departures = record {
+  table = let same : table_in p ≡ no_timetable = rw (agencies, stops, routes, trips, places, active, bases, first, patterns, derived) refl in rw same plain_is;
   children = rw (children, stops) refl;
   dates = rw (dates, bases) refl;
   departures = rw (departures, trips, places) no_order;

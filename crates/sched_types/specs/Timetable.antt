@@ -121,8 +121,12 @@ abbrev pub has_derived : Timetable → ℕ → Bool
 has_derived t pattern = has_derived_in t.derived pattern
 
 -- the places of the derived trips, and those of the patterns
+abbrev pub places_derived : List (List Place) → List PlanDerived → ℕ
+places_derived places derived =
+    sum_by (λ found. length (unwrap_or (slice_get places found.trip) [])) derived
+
 abbrev pub derived_places : Timetable → ℕ
-derived_places t = sum_by (λ found. length (places_of t found.trip)) t.derived
+derived_places t = places_derived t.places t.derived
 
 abbrev pub pattern_places : Timetable → ℕ
 pattern_places t = sum_by (λ pattern. pattern.places) t.patterns
@@ -202,8 +206,6 @@ pub record IsTimetable (t : Timetable) : Type 0 where
       → trip.service < length t.active
   pub stop_is : (trip i : ℕ) (place : Place) → slice_get (places_of t trip) i ≡ Some place
       → place.stop < length t.stops
-  pub derived_pattern_is : (i : ℕ) (found : PlanDerived) → slice_get t.derived i ≡ Some found
-      → found.pattern < length t.patterns
   pub derived_trip_is : (i : ℕ) (found : PlanDerived) → slice_get t.derived i ≡ Some found
       → found.trip < length t.trips
   -- the values of the columns

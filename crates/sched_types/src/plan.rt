@@ -11,7 +11,7 @@ ghost use Rattle.sched_types.specs.Parts.{table_of};
 use crate::children::children_lists;
 use crate::dates::dates_from;
 use crate::departures::{Departure, by_departure, departing};
-use crate::derived::{derived_at, has_derived};
+use crate::derived::{derived_at, has_derived, with_patterns, without_derived};
 use crate::numbers::number_by_id;
 use crate::rows::{Counts, Place, PlanDerived, PlanParts, PlanPattern, Route, Run, Stop, Trip};
 use std::alloc::{AllocError, Global};
@@ -128,10 +128,33 @@ impl Plan {
             agencies: self.agencies.len() as u32,
             stops: self.stops.len() as u32,
             routes: self.routes.len() as u32,
-            trips: self.trips.len() as u32,
-            times: all_places(&self.places),
+            trips: self.trip_rows(),
+            times: self.time_rows(),
             days: self.bases.len() as u32,
         }
+    }
+
+    /// How many rows trips.txt has.
+    fn trip_rows(&self) -> u32
+        ensures { result ≡ (counts_of self.now).trips }
+    {
+        (self.trips.len().saturating_sub(self.derived.len()) + self.patterns.len()) as u32
+    }
+
+    /// How many rows stop_times.txt has.
+    fn time_rows(&self) -> u32
+        ensures { result ≡ (counts_of self.now).times }
+    {
+        let all = all_places(&self.places);
+        let own = without_derived(all, self.places.as_slice(), self.derived.as_slice());
+        with_patterns(own, self.patterns.as_slice())
+    }
+
+    /// How many places all trips have together, the derived trips among them and no pattern.
+    pub fn all_places(&self) -> u32
+        ensures { result ≡ sum_by length self.now.places }
+    {
+        all_places(&self.places)
     }
 
     /// The number of the stop with that id.

@@ -35,7 +35,7 @@ impl StopIndex {
     {
         let lists = by_stop(alloc, plan)?;
         Ok(StopIndex {
-            lists: flattened(alloc, lists, plan.counts().times)?,
+            lists: flattened(alloc, lists, plan.all_places())?,
             days_rise: days_rise(plan),
         })
     }

@@ -1,4 +1,4 @@
-//! A hub of two feeds, offered messages and looked at.
+//! A hub of two feeds is offered messages and looked at.
 
 use board_parts::Oracle;
 use hub_core::Refusal;

@@ -6,7 +6,7 @@ use hub_outside::{
 use std::alloc::Global;
 use std::cell::Cell;
 use std::io::{ErrorKind, Read, Write};
-use std::net::{OpenListener, SocketAddr, TcpListener, TcpStream};
+use std::net::{OpenListener, Shutdown, SocketAddr, TcpListener, TcpStream};
 use std::sync::Arc;
 use std::test::Fail;
 use std::time::Duration;
@@ -71,7 +71,8 @@ fn open_gate_holds_nobody(_rt: HostRuntime) -> Result<(), Fail> {
 fn tcp_door_hands_out_connections(rt: HostRuntime) -> Result<(), Fail> {
     let listener = TcpListener::bind(&rt, "127.0.0.1:0")?;
     let address = listener.local_addr()?;
-    let mut door = TcpDoor::new(Arc::new(rt.alloc(), listener)?, 1, rt);
+    let alloc = rt.alloc();
+    let mut door = TcpDoor::new(alloc, Arc::new(alloc, listener)?, 1, rt);
     let mut client = TcpStream::connect(&rt, address)?;
     client.write_all(b"ask")?;
     let DoorAnswer::Link(mut input, mut output) = door.next() else {
@@ -111,15 +112,16 @@ impl OpenListener for Flaky {
     }
 }
 
-/// A clock that counts its pauses and makes none.
-#[derive(Drop)]
+/// A clock that counts its pauses and makes none. It shows this moment.
+#[derive(Clone, Copy)]
 struct Counting<'a> {
     pauses: &'a Cell<u32>,
+    seconds: &'a Cell<u64>,
 }
 
 impl<'a> rt::Clock for Counting<'a> {
     fn monotonic(&self) -> io::Result<Duration> {
-        Ok(Duration::from_secs(0))
+        Ok(Duration::from_secs(self.seconds.get()))
     }
 
     fn since_1970(&self) -> io::Result<Duration> {
@@ -141,12 +143,13 @@ fn asked(rt: &HostRuntime, failures: u32, kind: ErrorKind) -> Result<(&'static s
         failures: Cell::new(failures),
         kind,
     };
-    let pauses = Cell::new(0);
-    let mut door = TcpDoor::new(
-        Arc::new(rt.alloc(), flaky)?,
-        0,
-        Counting { pauses: &pauses },
-    );
+    let (pauses, seconds) = (Cell::new(0), Cell::new(0));
+    let clock = Counting {
+        pauses: &pauses,
+        seconds: &seconds,
+    };
+    let alloc = rt.alloc();
+    let mut door = TcpDoor::new(alloc, Arc::new(alloc, flaky)?, 0, clock);
     let answer = match door.next() {
         DoorAnswer::Link(input, output) => {
             door.done(input, output);
@@ -161,16 +164,132 @@ fn asked(rt: &HostRuntime, failures: u32, kind: ErrorKind) -> Result<(&'static s
 #[test]
 fn what_passes_is_waited_for(rt: HostRuntime) -> Result<(), Fail> {
     assert_eq!(rt; asked(&rt, 3, ErrorKind::ConnectionAborted)?, ("link", 3));
-    assert_eq!(rt; asked(&rt, 599, ErrorKind::Uncategorized)?, ("link", 599));
-    assert_eq!(rt; asked(&rt, 600, ErrorKind::Uncategorized)?, ("failed", 600));
+    assert_eq!(rt; asked(&rt, 1, ErrorKind::PermissionDenied)?, ("link", 1));
+    assert_eq!(rt; asked(&rt, 2, ErrorKind::Unsupported)?, ("link", 2));
+    assert_eq!(rt; asked(&rt, 9000, ErrorKind::Uncategorized)?, ("link", 9000));
     assert_eq!(rt; asked(&rt, 1, ErrorKind::InvalidInput)?, ("failed", 0));
     Ok(())
 }
 
 #[test]
 fn closed_door_fails(rt: HostRuntime) -> Result<(), Fail> {
-    let mut door: TcpDoor<TcpListener, HostRuntime> = TcpDoor::closed(rt);
+    let mut door: TcpDoor<TcpListener, HostRuntime> = TcpDoor::closed(rt.alloc(), rt);
     assert!(rt; matches!(door.next(), DoorAnswer::Failed));
     assert!(rt; matches!(door.next(), DoorAnswer::Failed));
+    Ok(())
+}
+
+/// The address of a listener that a door of so many connections has alone, and the door.
+fn door_alone<'a>(
+    rt: &HostRuntime,
+    most: u64,
+    clock: Counting<'a>,
+) -> Result<(SocketAddr, TcpDoor<TcpListener, Counting<'a>>), Fail> {
+    let listener = TcpListener::bind(rt, "127.0.0.1:0")?;
+    let address = listener.local_addr()?;
+    let listener = Arc::new(rt.alloc(), listener)?;
+    Ok((address, TcpDoor::new(rt.alloc(), listener, most, clock)))
+}
+
+#[test]
+fn a_door_that_is_done_lets_its_listener_go(rt: HostRuntime) -> Result<(), Fail> {
+    let (pauses, seconds) = (Cell::new(0), Cell::new(0));
+    let clock = Counting {
+        pauses: &pauses,
+        seconds: &seconds,
+    };
+    let (address, mut door) = door_alone(&rt, 1, clock)?;
+    let client = TcpStream::connect(&rt, address)?;
+    let DoorAnswer::Link(input, output) = door.next() else {
+        return Err(Fail::from(io::Error::from(ErrorKind::NotConnected)));
+    };
+    assert!(rt; TcpStream::connect(&rt, address).is_err());
+    drop(client);
+    door.done(input, output);
+    assert!(rt; matches!(door.next(), DoorAnswer::End));
+    Ok(())
+}
+
+#[test]
+fn an_answer_outlives_what_nobody_read(rt: HostRuntime) -> Result<(), Fail> {
+    let (pauses, seconds) = (Cell::new(0), Cell::new(0));
+    let clock = Counting {
+        pauses: &pauses,
+        seconds: &seconds,
+    };
+    let (address, mut door) = door_alone(&rt, 0, clock)?;
+    let mut client = TcpStream::connect(&rt, address)?;
+    client.write_all(&[b'x'; 60_000])?;
+    client.shutdown(Shutdown::Write)?;
+    let DoorAnswer::Link(mut input, mut output) = door.next() else {
+        return Err(Fail::from(io::Error::from(ErrorKind::NotConnected)));
+    };
+    let mut into = [0u8; 8];
+    assert_eq!(rt; input.read(&mut into), ReadAnswer::Got(8));
+    assert_eq!(rt; output.write(b"told"), WriteAnswer::Took(4));
+    door.done(input, output);
+    assert_eq!(rt; client.read(&mut into)?, 4);
+    assert_eq!(rt; client.read(&mut into)?, 0);
+    Ok(())
+}
+
+/// What a source and a sink answer whose clock shows these seconds at four reads, of which the first
+/// three give a byte each, and what a sink answers then and at that last moment.
+fn timed(rt: &HostRuntime, at: [u64; 4], last: u64) -> Result<([bool; 4], [bool; 2]), Fail> {
+    let (pauses, seconds) = (Cell::new(0), Cell::new(0));
+    let clock = Counting {
+        pauses: &pauses,
+        seconds: &seconds,
+    };
+    let (address, mut door) = door_alone(rt, 0, clock)?;
+    let mut client = TcpStream::connect(rt, address)?;
+    client.write_all(b"asks")?;
+    let DoorAnswer::Link(mut input, mut output) = door.next() else {
+        return Err(Fail::from(io::Error::from(ErrorKind::NotConnected)));
+    };
+    let mut into = [0u8; 1];
+    let mut read = [false; 4];
+    for (second, is_read) in at.iter().zip(&mut read) {
+        seconds.set(*second);
+        *is_read = input.read(&mut into) == ReadAnswer::Got(1);
+    }
+    let first = output.write(b"a") == WriteAnswer::Took(1);
+    seconds.set(last);
+    let second = output.write(b"b") == WriteAnswer::Took(1);
+    drop(client);
+    door.done(input, output);
+    Ok((read, [first, second]))
+}
+
+#[test]
+fn a_head_and_a_response_have_a_time(rt: HostRuntime) -> Result<(), Fail> {
+    let good = timed(&rt, [5, 5, 14, 14], 74)?;
+    assert_eq!(rt; good, ([true; 4], [true; 2]));
+    let late = timed(&rt, [5, 5, 14, 15], 75)?;
+    assert_eq!(rt; late, ([true, true, true, false], [true, false]));
+    Ok(())
+}
+
+#[test]
+fn a_new_head_has_its_own_time(rt: HostRuntime) -> Result<(), Fail> {
+    let (pauses, seconds) = (Cell::new(0), Cell::new(1));
+    let clock = Counting {
+        pauses: &pauses,
+        seconds: &seconds,
+    };
+    let (address, mut door) = door_alone(&rt, 0, clock)?;
+    let mut client = TcpStream::connect(&rt, address)?;
+    client.write_all(b"ab")?;
+    let DoorAnswer::Link(mut input, mut output) = door.next() else {
+        return Err(Fail::from(io::Error::from(ErrorKind::NotConnected)));
+    };
+    let mut into = [0u8; 1];
+    assert_eq!(rt; input.read(&mut into), ReadAnswer::Got(1));
+    assert_eq!(rt; output.write(b"told"), WriteAnswer::Took(4));
+    seconds.set(100);
+    assert_eq!(rt; input.read(&mut into), ReadAnswer::Got(1));
+    assert_eq!(rt; output.write(b"told"), WriteAnswer::Took(4));
+    drop(client);
+    door.done(input, output);
     Ok(())
 }

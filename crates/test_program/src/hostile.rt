@@ -10,7 +10,7 @@ const HEADER: &[u8] = b"\x0a\x09\x0a\x032.0\x10\x00\x18\x05";
 /// A message in two parts, and the line. Where the outer level of a message is at fault, that comes
 /// first, though the fault of an entity stands before it; and a field of another wire type is an
 /// unknown one. A version is printed with a space for each control character.
-const CASES: [(&[u8], &[u8], &str); 18] = [
+const CASES: [(&[u8], &[u8], &str); 20] = [
     (b"", b"", "refused malformed 0 missing FeedMessage 1\n"),
     (
         b"\x0a\x00",
@@ -69,6 +69,17 @@ const CASES: [(&[u8], &[u8], &str); 18] = [
     ),
     (HEADER, b"\x10\x01", "accepted 1\n"),
     (HEADER, b"\x4b\x08\x01\x4c", "accepted 1\n"),
+    // The last second of the year 9999, and the one after it.
+    (
+        b"\x0a\x0e\x0a\x032.0\x10\x00\x18\xff\x82\xd1\xff\xaf\x07",
+        b"",
+        "accepted 1\n",
+    ),
+    (
+        b"\x0a\x0e\x0a\x032.0\x10\x00\x18\x80\x83\xd1\xff\xaf\x07",
+        b"",
+        "refused stamp 253402300800\n",
+    ),
 ];
 
 /// Whether the message of these two parts is answered so.

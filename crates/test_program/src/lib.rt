@@ -14,6 +14,8 @@ mod city;
 #[cfg(test)]
 mod connections;
 #[cfg(test)]
+mod frequencies;
+#[cfg(test)]
 mod hostile;
 #[cfg(test)]
 mod lists;
@@ -29,3 +31,5 @@ mod runs;
 mod scripts;
 #[cfg(test)]
 mod server_word;
+#[cfg(test)]
+mod two_timetables;

@@ -1,4 +1,4 @@
-//! Hubs of four feeds, ingested into and looked at by one thread and by several.
+//! One thread and several ingest into hubs of four feeds, and look at them.
 
 ghost use Rattle.std.specs.Prelude.{◌≡◌, ◌≤◌, length, vec_len};
 ghost use Rattle.std.specs.List.{All};

@@ -1,4 +1,4 @@
-//! A request whose bytes come in two pieces, cut at each place in turn.
+//! A request whose bytes come in two pieces: it is cut at each place in turn.
 
 use crate::runs::run_city;
 use hub_outside::{MemoryDoor, MemoryLink, MemorySource, NoMemory, OpenGate};

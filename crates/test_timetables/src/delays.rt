@@ -90,6 +90,8 @@ fn line(alloc: Global) -> Result<Plan, NoMemory>
         active: vec![in alloc; vec![in alloc; 0]?]?,
         first: 20250330,
         bases: vec![in alloc; 1743285600]?,
+        patterns: Vec::new(alloc),
+        derived: Vec::new(alloc),
     };
     Plan::build(alloc, parts)
 }

@@ -44,7 +44,7 @@ fn tells_what_hinders(rt: HostRuntime) -> Result<(), Fail> {
     let mut files = city(alloc, Vec::new(alloc))?;
     let shown = outcome(alloc, &mut files, "town")?;
     assert_eq!(rt; shown.as_str(), "agency.txt is missing");
-    for call in 1..8 {
+    for call in 1..9 {
         let mut files = city(alloc, vec![in alloc; call]?)?;
         let shown = outcome(alloc, &mut files, "city")?;
         assert_eq!(rt; shown.as_str(), "a file could not be read");

@@ -33,6 +33,8 @@ fn autumn(alloc: Global) -> Result<Plan, NoMemory>
         active: vec![in alloc; vec![in alloc; 0, 1]?]?,
         first: 20251025,
         bases: vec![in alloc; 1761343200, 1761433200, 1761519600]?,
+        patterns: Vec::new(alloc),
+        derived: Vec::new(alloc),
     };
     Plan::build(alloc, parts)
 }

@@ -1,4 +1,4 @@
-//! A small timetable, asked for all that it has.
+//! A small timetable is asked for all that it has.
 
 use sample_city::{city, place};
 use sched_types::{Counts, NamedFeed, NamedPlan, Plan, PlanName, Plans, Run};

@@ -1,12 +1,17 @@
 // Trips with a trip_id.
-ghost use Rattle.std.specs.Prelude.{◌≡◌, Some, pos};
+ghost use Rattle.std.specs.Prelude.{◌≡◌, ◌<◌, Some, length, pos, IfOk};
 ghost use Rattle.sched_types.specs.Timetable.{day_with_date};
 ghost use Rattle.trip_match_defs.specs.declared.found.Found.{Found};
 ghost use Rattle.trip_match_defs.specs.Matching as rule;
-ghost use Rattle.trip_match_defs.specs.Matching.{first_rule, rule_4_trip_id, rule_5_nearest_day};
+ghost use Rattle.trip_match_defs.specs.Matching.{first_rule, rule_pattern, rule_4_trip_id, rule_5_nearest_day};
+ghost use Rattle.trip_match_defs.specs.Texts.{text_given};
+ghost use Rattle.trip_match.specs.Meaning.{IsMeant, IsStarted};
 
+use crate::descriptor::given;
 use crate::near::by_near;
+use rt_types::Text;
 use sched_types::{Plan, Run};
+use texts::read_time;
 use trip_match_defs::{Found, Why};
 
 /// The run of the trip on the day with that date.
@@ -26,17 +31,55 @@ fn run_on(plan: &Plan, trip: u32, date: u32) -> Found
     }
 }
 
-/// The run of the trip with that id on that date, or without a date on the nearest day.
-pub(crate) fn by_id(plan: &Plan, id: &str, date: Option<u32>, stamp: u64) -> Found
-    ensures { (later : Found) → result
-        ≡ first_rule (rule_4_trip_id plan.now (Some id.now) date)
-        (first_rule (rule_5_nearest_day plan.now (pos stamp) (Some id.now)) later) }
+/// The trip that a pattern gives at a start_time, or why it gives none.
+fn started(plan: &Plan, pattern: u32, time: &Option<Text>) -> Result<u32, Why>
+    requires { pattern < length plan.now.patterns }
+    ensures started { IsStarted plan.now pattern (text_given time.now) result }
+    ensures within { IfOk result (λ trip. trip < length plan.now.trips) }
 {
-    match plan.trip_of(id) {
-        Some(trip) => match date {
+    if !plan.has_derived(pattern) {
+        return Err(Why::NoTrip);
+    }
+    match given(time) {
+        Some(time) => match read_time(time.as_bytes()) {
+            Some(start) => plan.derived(pattern, start).ok_or(Why::NoTrip),
+            None => Err(Why::BadText),
+        },
+        None => Err(Why::Several),
+    }
+}
+
+/// The trip that a trip_id means: where it names a pattern, the one that starts at the start_time, and else the
+/// one with that id; or why none is meant.
+fn trip_meant(plan: &Plan, id: &str, time: &Option<Text>) -> Result<u32, Why>
+    ensures meant { IsMeant plan.now id.now (text_given time.now) result }
+    ensures within { IfOk result (λ trip. trip < length plan.now.trips) }
+{
+    match plan.pattern_of(id) {
+        Some(pattern) => started(plan, pattern, time),
+        None => plan.trip_of(id).ok_or(Why::NoTrip),
+    }
+}
+
+/// The run of the trip that the id and the time mean on that date, or without a date on the nearest day.
+pub(crate) fn by_id(
+    plan: &Plan,
+    id: &str,
+    time: &Option<Text>,
+    date: Option<u32>,
+    stamp: u64,
+) -> Found
+    ensures { (later : Found) → result
+        ≡ first_rule (rule_pattern plan.now (Some id.now) (text_given time.now))
+        (first_rule (rule_4_trip_id plan.now (Some id.now) (text_given time.now) date)
+        (first_rule (rule_5_nearest_day plan.now (pos stamp) (Some id.now) (text_given time.now))
+        later)) }
+{
+    match trip_meant(plan, id, time) {
+        Ok(trip) => match date {
             Some(date) => run_on(plan, trip, date),
             None => by_near(plan, trip, stamp),
         },
-        None => Found::NoMatch(Why::NoTrip),
+        Err(why) => Found::NoMatch(why),
     }
 }

@@ -2,8 +2,9 @@
 //!
 //! `find` answers exactly what `trip_match_defs` defines, where the crate above reads its contract: the run, that the
 //! trip was added, or why there is no match. It takes no memory. A trip is found by its trip_id by a binary
-//! search, and without one by route, direction and first departure in a list that the plan keeps. Without a
-//! start_date the days of the window, 400 at most, are gone over once.
+//! search, one of frequencies.txt by one more for its start_time, and without a trip_id by route, direction and
+//! first departure in a list that the plan keeps. Without a start_date the days of the window, 400 at most, are
+//! gone over once.
 //!
 //! The crate stands on `trip_match_defs`, on `sched_types` for the timetable, on `service_day` for the calendar and on
 //! `rt_types` for trip descriptors.

@@ -1,7 +1,7 @@
 // The rules in their order.
 ghost use Rattle.std.specs.Prelude.{◌≡◌, None, Option, List, ℕ, pos, if◌then◌else◌};
 ghost use Rattle.trip_match_defs.specs.Matching as rule;
-ghost use Rattle.trip_match_defs.specs.Matching.{first_rule, match_of, no_match, rule_1_relation, rule_3_added_trip, rule_4_trip_id, rule_5_nearest_day, rule_6_route_and_time};
+ghost use Rattle.trip_match_defs.specs.Matching.{first_rule, match_of, no_match, rule_1_relation, rule_3_added_trip, rule_pattern, rule_4_trip_id, rule_5_nearest_day, rule_6_route_and_time};
 ghost use Rattle.trip_match_defs.specs.Texts as text;
 ghost use Rattle.trip_match.specs.Reading.{IsRead};
 
@@ -57,14 +57,18 @@ fn added(trip: &TripRef) -> Found
 /// What the descriptor of a trip of the timetable is about.
 fn scheduled(plan: &Plan, trip: &TripRef, date: Option<u32>, stamp: u64) -> Found
     ensures { result
-        ≡ first_rule (rule_4_trip_id plan.now (text.text_given trip.now.trip_id) date)
-        (first_rule (rule_5_nearest_day plan.now (pos stamp) (text.text_given trip.now.trip_id))
+        ≡ first_rule (rule_pattern plan.now
+        (text.text_given trip.now.trip_id) (text.text_given trip.now.start_time))
+        (first_rule (rule_4_trip_id plan.now
+        (text.text_given trip.now.trip_id) (text.text_given trip.now.start_time) date)
+        (first_rule (rule_5_nearest_day plan.now (pos stamp)
+        (text.text_given trip.now.trip_id) (text.text_given trip.now.start_time))
         (rule_6_route_and_time plan.now
         (text.text_given trip.now.route_id) trip.now.direction_id date
-        (text.text_given trip.now.start_time))) }
+        (text.text_given trip.now.start_time)))) }
 {
     match given(&trip.trip_id) {
-        Some(id) => by_id(plan, id, date, stamp),
+        Some(id) => by_id(plan, id, &trip.start_time, date, stamp),
         None => by_departure(plan, trip, date),
     }
 }

@@ -5,6 +5,7 @@ use Rattle.rt_types.specs.declared.descriptor.TripRef.{TripRef}
 use Rattle.text_defs.specs.Dates.{is_day, next_day, date_plus, date_in}
 use Rattle.sched_types.specs.City.{city}
 use Rattle.trip_match_defs.specs.Autumn.{autumn}
+use Rattle.trip_match_defs.specs.Frequent.{frequent}
 use Rattle.trip_match_defs.specs.declared.found.Found.{Found}
 use Rattle.trip_match_defs.specs.declared.found.Found.TheVariants as found
 use Rattle.trip_match_defs.specs.declared.found.Why.TheVariants.{NoTrip, NoDay, NotActive, Several, Relation, BadText}
@@ -156,3 +157,74 @@ none_on_the_day = refl
 near_idle_day : match_of autumn (the_trip (codes "T1")) (1761519600 + 43200 + 129599) ≡ found.NoMatch NotActive
 unfolding match_of by_near date_in time_in is_day date_plus next_day
 near_idle_day = refl
+
+-- ---- trips of frequencies.txt: T2 starts at 08:00:00 and at 08:30:00, and T3 never
+
+abbrev starting : List ℕ → List ℕ → TripRef
+starting id time = record (on_date id (codes "20251026")) { start_time = Some time }
+
+eight : match_of frequent (starting (codes "T2") (codes "8:00:00")) 0 ≡ the_run 2 1
+unfolding match_of by_near date_in time_in is_day date_plus next_day
+eight = refl
+
+half_past_eight : match_of frequent (starting (codes "T2") (codes "08:30:00")) 0 ≡ the_run 3 1
+unfolding match_of by_near date_in time_in is_day date_plus next_day
+half_past_eight = refl
+
+-- without a date it is the run on the nearest day, as it is of any trip
+nearest_half_past_eight : match_of frequent (record (the_trip (codes "T2")) { start_time = Some (codes "08:30:00") }) 1761377000 ≡ the_run 3 0
+unfolding match_of by_near date_in time_in is_day date_plus next_day
+nearest_half_past_eight = refl
+
+no_such_start : match_of frequent (starting (codes "T2") (codes "08:15:00")) 0 ≡ found.NoMatch NoTrip
+unfolding match_of by_near date_in time_in is_day date_plus next_day
+no_such_start = refl
+
+no_start_time : match_of frequent (on_date (codes "T2") (codes "20251026")) 0 ≡ found.NoMatch Several
+unfolding match_of by_near date_in time_in is_day date_plus next_day
+no_start_time = refl
+
+-- an empty text is none
+empty_start_time : match_of frequent (starting (codes "T2") []) 0 ≡ found.NoMatch Several
+unfolding match_of by_near date_in time_in is_day date_plus next_day
+empty_start_time = refl
+
+bad_start_time : match_of frequent (starting (codes "T2") (codes "08:30")) 0 ≡ found.NoMatch BadText
+unfolding match_of by_near date_in time_in is_day date_plus next_day
+bad_start_time = refl
+
+-- whether there are trips goes before what the start_time is
+never : match_of frequent (on_date (codes "T3") (codes "20251026")) 0 ≡ found.NoMatch NoTrip
+unfolding match_of by_near date_in time_in is_day date_plus next_day
+never = refl
+
+never_at_a_bad_time : match_of frequent (starting (codes "T3") (codes "x")) 0 ≡ found.NoMatch NoTrip
+unfolding match_of by_near date_in time_in is_day date_plus next_day
+never_at_a_bad_time = refl
+
+-- a bad start_date goes before, and one on which it does not run goes after
+bad_date_of_pattern : match_of frequent (record (starting (codes "T2") (codes "x")) { start_date = Some (codes "x") }) 0 ≡ found.NoMatch BadText
+unfolding match_of by_near date_in time_in is_day date_plus next_day
+bad_date_of_pattern = refl
+
+idle_pattern : match_of frequent (record (starting (codes "T2") (codes "08:30:00")) { start_date = Some (codes "20251027") }) 0 ≡ found.NoMatch NotActive
+unfolding match_of by_near date_in time_in is_day date_plus next_day
+idle_pattern = refl
+
+pattern_outside : match_of frequent (record (starting (codes "T2") (codes "08:30:00")) { start_date = Some (codes "20251028") }) 0 ≡ found.NoMatch NoDay
+unfolding match_of by_near date_in time_in is_day date_plus next_day
+pattern_outside = refl
+
+-- an ADDED trip may have the pattern's id
+added_as_pattern : match_of frequent (record (the_trip (codes "T2")) { relation = Some Added }) 0 ≡ found.Added
+unfolding match_of by_near date_in time_in is_day date_plus next_day
+added_as_pattern = refl
+
+-- the id of a derived trip is that of a trip, and a start_time says nothing of trips that are no patterns
+by_derived_id : match_of frequent (on_date (codes "T2@08:30:00") (codes "20251026")) 0 ≡ the_run 3 1
+unfolding match_of by_near date_in time_in is_day date_plus next_day
+by_derived_id = refl
+
+start_time_of_another : match_of frequent (starting (codes "T1") (codes "x")) 0 ≡ the_run 1 1
+unfolding match_of by_near date_in time_in is_day date_plus next_day
+start_time_of_another = refl

@@ -1,3 +1,4 @@
 pub mod Texts
 pub mod Matching
 pub mod Autumn
+pub mod Frequent

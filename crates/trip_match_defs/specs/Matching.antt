@@ -58,9 +58,10 @@ rule_3_added_trip relation.Replacement id = None
 rule_3_added_trip relation.Duplicated id = None
 rule_3_added_trip relation.Deleted id = None
 
--- Before the fourth: a trip_id that frequencies.txt names is a pattern, of which the start_time says the trip
--- (GTFS Realtime, TripDescriptor, start_time: it must be given for trips of frequencies.txt). That a pattern
--- without trips has none, and that an absent start_time leaves several, are rules of this project.
+-- Between the third and the fourth: a trip_id that frequencies.txt names is a pattern, and the start_time says
+-- which of its trips is meant (GTFS Realtime, TripDescriptor, start_time: it must be given for trips of
+-- frequencies.txt). A pattern without trips and a start at which it has none are no trip; an absent start_time
+-- leaves several. That these are the answers is a rule of this project.
 abbrev pub unless_derived : Option ℕ → Option Found
 unless_derived None = no_match why.NoTrip
 unless_derived (Some trip) = None
@@ -82,6 +83,21 @@ abbrev pub rule_pattern : Timetable → Option (List ℕ) → Option (List ℕ) 
 rule_pattern t None time = None
 rule_pattern t (Some id) time = unless_pattern t (pattern_with t id) time
 
+-- The trip that is meant then: that of the pattern at the start_time, and else the one with the id.
+abbrev pub trip_with : Timetable → List ℕ → Option ℕ
+trip_with t id = number_of (λ trip. trip.id) t.trips id
+
+abbrev pub started_trip : Timetable → ℕ → Option (List ℕ) → Option ℕ
+started_trip t pattern time =
+    option_and_then (derived_trip t pattern) (option_and_then time_in time)
+
+abbrev pub trip_or_started : Timetable → List ℕ → Option (List ℕ) → Option ℕ → Option ℕ
+trip_or_started t id time None = trip_with t id
+trip_or_started t id time (Some pattern) = started_trip t pattern time
+
+abbrev pub trip_meant : Timetable → List ℕ → Option (List ℕ) → Option ℕ
+trip_meant t id time = trip_or_started t id time (pattern_with t id)
+
 -- 4. A trip with a trip_id is in the timetable; with a start_date it is the run on that day.
 abbrev pub run_on : Timetable → ℕ → Option ℕ → Found
 run_on t trip None = found.NoMatch why.NoDay
@@ -96,18 +112,6 @@ run_on_date t trip (Some date) = Some (run_on t trip (day_with_date t date))
 abbrev pub run_of_trip : Timetable → Option ℕ → Option ℕ → Option Found
 run_of_trip t None date = no_match why.NoTrip
 run_of_trip t (Some trip) date = run_on_date t trip date
-
-abbrev pub trip_with : Timetable → List ℕ → Option ℕ
-trip_with t id = number_of (λ trip. trip.id) t.trips id
-
--- the trip that is meant: that of a pattern at its start, and else the one with the id
-abbrev pub trip_meant_by : Timetable → List ℕ → Option (List ℕ) → Option ℕ → Option ℕ
-trip_meant_by t id time None = trip_with t id
-trip_meant_by t id time (Some pattern) =
-    option_and_then (derived_trip t pattern) (option_and_then time_in time)
-
-abbrev pub trip_meant : Timetable → List ℕ → Option (List ℕ) → Option ℕ
-trip_meant t id time = trip_meant_by t id time (pattern_with t id)
 
 abbrev pub rule_4_trip_id : Timetable → Option (List ℕ) → Option (List ℕ) → Option ℕ
     → Option Found

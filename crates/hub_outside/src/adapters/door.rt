@@ -1,36 +1,28 @@
 //! Connections of the system as links.
-ghost use Rattle.std.specs.Prelude.{◌≡◌, ◌≤◌, None};
-ghost use Rattle.hub_outside.specs.Adapters.{tcp_faults, tcp_most, tcp_taken};
+ghost use Rattle.std.specs.Prelude.{◌≡◌, ◌≤◌, None, true, false};
+ghost use Rattle.hub_outside.specs.Adapters.{tcp_faults, tcp_listens, tcp_most, tcp_taken};
 ghost use Rattle.hub_outside.specs.Decisions.{are_all, is_passing, CountsLinks};
 ghost use Rattle.hub_outside.specs.Doors.{HandsOut, MayGiveBack, GivesBack, HasDoorCause};
 
-use super::sink::StdSink;
-use super::source::StdSource;
+use super::link::{TcpSink, TcpSource, close, ends_of};
 use crate::doors::{Door, DoorAnswer};
-use std::io::{ErrorKind, Read, Write};
-use std::net::{OpenListener, OpenStream};
+use std::alloc::Global;
+use std::io::ErrorKind;
+use std::net::{OpenListener, TcpStream};
 use std::sync::Arc;
 use std::time::Duration;
-use std::{io, rt, thread};
+use std::{rt, thread};
 
-/// How many seconds a read of a connection may wait for its first byte. Whoever sends nothing for
-/// longer is served no further, and keeps no reader from those that wait.
-const READ_SECONDS: u64 = 10;
-
-/// How many seconds a write to a connection may wait for room.
-const WRITE_SECONDS: u64 = 30;
-
-/// How often a call tries to accept a connection, and how many milliseconds it waits in between: for
-/// a minute in all.
-const TRIES: u32 = 600;
-
+/// How many milliseconds pass before a door tries to accept a connection again.
 const PAUSE_MILLISECONDS: u64 = 100;
 
 /// A door over a listener of the system, which several doors may share. It ends after a given number
-/// of connections. Each connection has times within which a read has to give bytes and a write has to
-/// take some; where they pass, its source or its sink has failed.
+/// of connections, and lets the listener go with the last of them. Each connection has times within
+/// which its client has to ask and to take what it is told; where they pass, its source or its sink has
+/// failed.
 #[derive(Drop)]
 pub struct TcpDoor<L, C> {
+    alloc: Global,
     listener: Option<Arc<L>>,
     system: C,
     most: u64,
@@ -38,15 +30,17 @@ pub struct TcpDoor<L, C> {
     faults: u64,
 }
 
-impl<L: OpenListener + Drop, C: rt::Clock> TcpDoor<L, C> {
+impl<L: OpenListener<Stream = TcpStream> + Drop, C: rt::Clock + Copy> TcpDoor<L, C> {
     /// A door that hands out up to `most` connections of this listener, of which 0 sets no end. The
-    /// clock is what it waits by between two tries.
-    pub fn new(listener: Arc<L>, most: u64, system: C) -> TcpDoor<L, C>
+    /// clock is what it waits by between two tries, and what its connections are timed by: its
+    /// monotonic readings, so that a change of the date ends no connection.
+    pub fn new(alloc: Global, listener: Arc<L>, most: u64, system: C) -> TcpDoor<L, C>
         ensures most { tcp_most result ≡ most }
         ensures taken { tcp_taken result ≡ 0 }
         ensures faults { tcp_faults result ≡ 0 }
     {
         TcpDoor {
+            alloc,
             listener: Some(listener),
             system,
             most,
@@ -57,12 +51,13 @@ impl<L: OpenListener + Drop, C: rt::Clock> TcpDoor<L, C> {
 
     /// A door where there is no listener, as where its address can't be bound: each of its calls
     /// fails.
-    pub fn closed(system: C) -> TcpDoor<L, C>
+    pub fn closed(alloc: Global, system: C) -> TcpDoor<L, C>
         ensures most { tcp_most result ≡ 0 }
         ensures taken { tcp_taken result ≡ 0 }
         ensures faults { tcp_faults result ≡ 0 }
     {
         TcpDoor {
+            alloc,
             listener: None,
             system,
             most: 0,
@@ -72,43 +67,51 @@ impl<L: OpenListener + Drop, C: rt::Clock> TcpDoor<L, C> {
     }
 }
 
-impl<L: OpenListener + Drop, C: rt::Clock> Door for TcpDoor<L, C>
-where
-    L::Stream: Read + Write + OpenStream,
-{
-    type In = StdSource<L::Stream>;
+impl<L: OpenListener<Stream = TcpStream> + Drop, C: rt::Clock + Copy> Door for TcpDoor<L, C> {
+    type In = TcpSource<C>;
 
-    type Out = StdSink<L::Stream>;
+    type Out = TcpSink<C>;
 
     ghost links = { λ _. None };
 
     ghost faults = { tcp_faults };
 
-    /// Waits for the next connection. It fails where the listener does, or where for a minute no
-    /// connection could be had.
-    fn next(&mut self) -> DoorAnswer<StdSource<L::Stream>, StdSink<L::Stream>>
+    /// Waits for the next connection. It fails where there is no listener, or where the listener
+    /// itself fails; what passes is waited for, however long it lasts. With the last connection it
+    /// lets the listener go, which is closed once no door has it.
+    fn next(&mut self) -> DoorAnswer<TcpSource<C>, TcpSink<C>>
         ensures links { HandsOut result None None }
         ensures cause { HasDoorCause result (tcp_faults self.old) (tcp_faults self.new) }
         ensures counts { CountsLinks result (tcp_most self.old) (tcp_taken self.old)
             (tcp_taken self.new) }
         ensures most { tcp_most self.new ≡ tcp_most self.old }
+        ensures lets_go { are_all (tcp_most self.new) (tcp_taken self.new) ≡ true
+            → tcp_listens self.new ≡ false }
     {
         if are_all(self.most, self.taken) {
+            self.listener = None;
             return DoorAnswer::End;
         }
-        let Some((input, output)) = accepted(&self.listener, &self.system) else {
+        let Some((input, output)) = accepted(self.alloc, &self.listener, &self.system) else {
             self.faults = self.faults.saturating_add(1);
             return DoorAnswer::Failed;
         };
         self.taken = self.taken.saturating_add(1);
-        DoorAnswer::Link(StdSource::new(input), StdSink::new(output))
+        if are_all(self.most, self.taken) {
+            self.listener = None;
+        }
+        DoorAnswer::Link(input, output)
     }
 
-    /// Closes the connection. What its client sends from there on is not read.
-    fn done(&mut self, _input: StdSource<L::Stream>, _output: StdSink<L::Stream>)
+    /// Closes the connection so that what was written last still arrives (RFC 9112, section 9.6): no
+    /// more is sent, and what its client still sends is read and dropped for up to a second, up to
+    /// 64 KiB. Where the client has closed already, or an end has failed, it is closed at once.
+    fn done(&mut self, input: TcpSource<C>, output: TcpSink<C>)
         ensures cause { tcp_faults self.old ≤ tcp_faults self.new }
         ensures same { self.new ≡ self.old }
-    {}
+    {
+        close(input, output);
+    }
 }
 
 /// Whether so many connections are all that a door is to hand out.
@@ -119,29 +122,28 @@ fn are_all(most: u64, taken: u64) -> bool
 }
 
 /// The two ends of the next connection; or none, where there is no listener or it fails.
-fn accepted<L: OpenListener + Drop, C: rt::Clock>(
+fn accepted<L: OpenListener<Stream = TcpStream> + Drop, C: rt::Clock + Copy>(
+    alloc: Global,
     listener: &Option<Arc<L>>,
     system: &C,
-) -> Option<(L::Stream, L::Stream)>
-where
-    L::Stream: OpenStream,
-{
+) -> Option<(TcpSource<C>, TcpSink<C>)> {
     match listener {
-        Some(listener) => accept(&**listener, system),
+        Some(listener) => accept(alloc, &**listener, system),
         None => None,
     }
 }
 
 /// Accepts a connection and gives its two ends. What passes is waited for: a connection that can't
-/// be accepted or made ready is let go, and the next one is tried.
-fn accept<L: OpenListener, C: rt::Clock>(listener: &L, system: &C) -> Option<(L::Stream, L::Stream)>
-where
-    L::Stream: OpenStream,
-{
-    for _ in 0..TRIES {
+/// be accepted or made ready is let go, and the next one is tried, for as many tries as a u64 counts.
+fn accept<L: OpenListener<Stream = TcpStream>, C: rt::Clock + Copy>(
+    alloc: Global,
+    listener: &L,
+    system: &C,
+) -> Option<(TcpSource<C>, TcpSink<C>)> {
+    for _ in 0..u64::MAX {
         match listener.accept() {
             Ok((stream, _)) => {
-                if let Ok(ends) = ends_of(stream) {
+                if let Some(ends) = ends_of(alloc, stream, system) {
                     return Some(ends);
                 }
             }
@@ -156,16 +158,6 @@ where
     None
 }
 
-/// The two ends of a connection, with its times set, and with small responses sent at once
-/// (TCP_NODELAY).
-fn ends_of<T: OpenStream + Drop>(stream: T) -> io::Result<(T, T)> {
-    stream.set_read_timeout(Some(Duration::from_secs(READ_SECONDS)))?;
-    stream.set_write_timeout(Some(Duration::from_secs(WRITE_SECONDS)))?;
-    stream.set_nodelay(true)?;
-    let output = stream.try_clone()?;
-    Ok((stream, output))
-}
-
 /// Whether a connection that could not be accepted tells nothing of those that come next.
 fn is_passing(kind: ErrorKind) -> bool
     ensures { result ≡ is_passing kind }
@@ -178,8 +170,10 @@ fn is_passing(kind: ErrorKind) -> bool
         | ErrorKind::NetworkDown
         | ErrorKind::NetworkUnreachable
         | ErrorKind::OutOfMemory
+        | ErrorKind::PermissionDenied
         | ErrorKind::TimedOut
         | ErrorKind::Uncategorized
+        | ErrorKind::Unsupported
         | ErrorKind::WouldBlock => true,
         _ => false,
     }

@@ -50,7 +50,7 @@ impl<W: Write> Sink for StdSink<W> {
 }
 
 /// What a write that was not cut short answers.
-fn answer_of(write: io::Result<usize>) -> WriteAnswer
+pub(crate) fn answer_of(write: io::Result<usize>) -> WriteAnswer
     requires { is_cut_short write ≡ false }
     ensures { result ≡ answer_of_write write }
 {

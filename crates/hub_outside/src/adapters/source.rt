@@ -49,7 +49,7 @@ impl<R: Read> Source for StdSource<R> {
 }
 
 /// What a read that was not cut short answers.
-fn answer_of(read: io::Result<usize>) -> ReadAnswer
+pub(crate) fn answer_of(read: io::Result<usize>) -> ReadAnswer
     requires { is_cut_short read ≡ false }
     ensures { result ≡ answer_of_read read }
 {

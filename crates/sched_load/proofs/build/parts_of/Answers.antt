@@ -6,20 +6,22 @@ use Rattle.std.proofs.lemmas.List.{length-map}
 use Rattle.gtfs_rows.specs.Tables.{calendar}
 use Rattle.gtfs_rows.specs.declared.rows.TripRow.{TripRow}
 use Rattle.service_day.specs.declared.services.Exception.{Exception}
-use Rattle.sched_types.specs.Timetable.{IsTimetable, RisesById}
+use Rattle.sched_types.specs.Timetable.{RisesById}
+use Rattle.freq_parts.specs.Conditions.{IsPlain}
 use Rattle.sched_load_defs.specs.declared.fault.File.TheVariants as file
 use Rattle.sched_load_defs.specs.Numbers.{by_id}
 use Rattle.sched_load_defs.specs.Services.{active_days, flags_of}
 use Rattle.sched_load.specs.declared.visits.Visit.{Visit}
 use Rattle.sched_load.specs.Built.{AreSmall, places_of_trip, trip_in}
-use Rattle.sched_load.specs.Days.{active_by}
+use Rattle.sched_load.specs.Days.{EachSmall, active_by}
 use Rattle.sched_load.specs.Listed.{entries_of}
 use Rattle.sched_load.specs.Tables.{dataset_of}
 use Rattle.sched_load.proofs.ColumnLaws.{calendar_flags}
 use Rattle.sched_load.proofs.DayLemmas.{window_ends}
 use Rattle.sched_load.proofs.Laws.{file_within}
 use Rattle.sched_load.proofs.Numbered.{ids_rise}
-use Rattle.sched_load.proofs.PartLemmas.{active_are, agency_ids_are, few_agency_rows, fits_are, places_are, routes_are, table_made, visits_small}
+use Rattle.sched_load.proofs.PartLemmas.{active_are, agency_ids_are, few_agency_rows, places_are, routes_are, table_made, visits_small}
+use Rattle.sched_load.proofs.PlainTable.{plain_table}
 use Rattle.sched_load.proofs.TripLemmas.{known_rows}
 use Rattle.sched_load.proofs.Laws.{file_few}
 use Rattle.sched_load.proofs.Keyed.{listed_short}
@@ -83,21 +85,23 @@ returns-clause-table c = λ rows read.
     let d = dataset_of t rows in
     let services = c.as_slice-services.ensures.value ∙ read.services in
     let own = read.exceptions in
-    let places = c.in_ok-places.ensures.value ∙ ap (λ (vs : List Visit). map (places_of_trip vs) (range_with_len 0 c.len.result)) c.as_slice.ensures.value ∙ ap (λ n. map (places_of_trip t.visits.items) (range_with_len 0 n)) c.len.ensures ∙ places_are d t.visits.items (known_rows t rows read) read.visits in
+    let places = c.in_ok-places.ensures ∙ ap (λ (vs : List Visit). map (places_of_trip vs) (range_with_len 0 c.len.result)) c.as_slice.ensures.value ∙ ap (λ n. map (places_of_trip t.visits.items) (range_with_len 0 n)) c.len.ensures ∙ places_are d t.visits.items (known_rows t rows read) read.visits in
     let active = c.in_ok-active.ensures ∙ ap (λ ids. map (active_by t.calendar c.args.first c.args.days) (zip ids (entries_of c.as_slice-2.result.now))) c.as_slice-services.ensures.value ∙ ap (λ (ms : List (BTreeMap ℕ Exception Global)). map (active_by t.calendar c.args.first c.args.days) (zip t.services.items (entries_of ms))) c.as_slice-2.ensures.value ∙ ap (λ es. map (active_by t.calendar c.args.first c.args.days) (zip t.services.items es)) own ∙ active_are t.calendar t.exceptions.items c.args.first c.args.days t.services.items ∙ ap (map (active_days t.calendar t.exceptions.items c.args.first c.args.days)) read.services in
-    let table = table_made c.args.zone.now c.args.first c.args.days d c.in_ok-agencies.agencies.items c.in_ok-stops.stops.items c.in_ok-routes.routes.items c.in_ok-trips.trips.items (map (λ v. v.items) c.in_ok-places.places.items) (map (λ v. v.items) c.in_ok-active.active.items) c.in_ok-bases.bases.items
-    (c.in_ok-agencies.ensures ∙ agency_ids_are t.agencies) c.in_ok-stops.ensures (c.in_ok-routes.ensures ∙ routes_are d) (c.in_ok-trips.ensures ∙ ap (λ ids. map (trip_in t.routes ids) (by_id (λ (row : TripRow). row.trip_id) t.trips)) services) places active c.in_ok-bases.ensures.bases in
+    let table = table_made c.args.zone.now c.args.first c.args.days d c.in_ok-agencies.agencies.items c.in_ok-stops.stops.items c.in_ok-routes.routes.items c.in_ok-trips.trips.items (map (λ v. v.items) c.in_ok-places.places.items) (map (λ v. v.items) c.in_ok-active.active.items) c.in_ok-bases.bases.items c.new.result.items c.new-2.result.items
+    (c.in_ok-agencies.ensures ∙ agency_ids_are t.agencies) c.in_ok-stops.ensures (c.in_ok-routes.ensures ∙ routes_are d) (c.in_ok-trips.ensures ∙ ap (λ ids. map (trip_in t.routes ids) (by_id (λ (row : TripRow). row.trip_id) t.trips)) services) places active c.in_ok-bases.ensures.bases c.new.ensures.items c.new-2.ensures.items in
     table
 
-pub returns-clause-sound : goal.returns-clause-sound
-returns-clause-sound c =
+pub returns-clause-plain : goal.returns-clause-plain
+returns-clause-plain c =
     let read = c.requires.read.1 in
     let t = c.args.tables.now in
     let d = dataset_of t c.requires.read.0 in
     let services = c.as_slice-services.ensures.value ∙ read.services in
     let own = read.exceptions in
-    let places = c.in_ok-places.ensures.value ∙ ap (λ (vs : List Visit). map (places_of_trip vs) (range_with_len 0 c.len.result)) c.as_slice.ensures.value ∙ ap (λ n. map (places_of_trip t.visits.items) (range_with_len 0 n)) c.len.ensures ∙ places_are d t.visits.items (known_rows t c.requires.read.0 read) read.visits in
+    let places = c.in_ok-places.ensures ∙ ap (λ (vs : List Visit). map (places_of_trip vs) (range_with_len 0 c.len.result)) c.as_slice.ensures.value ∙ ap (λ n. map (places_of_trip t.visits.items) (range_with_len 0 n)) c.len.ensures ∙ places_are d t.visits.items (known_rows t c.requires.read.0 read) read.visits in
     let active = c.in_ok-active.ensures ∙ ap (λ ids. map (active_by t.calendar c.args.first c.args.days) (zip ids (entries_of c.as_slice-2.result.now))) c.as_slice-services.ensures.value ∙ ap (λ (ms : List (BTreeMap ℕ Exception Global)). map (active_by t.calendar c.args.first c.args.days) (zip t.services.items (entries_of ms))) c.as_slice-2.ensures.value ∙ ap (λ es. map (active_by t.calendar c.args.first c.args.days) (zip t.services.items es)) own ∙ active_are t.calendar t.exceptions.items c.args.first c.args.days t.services.items ∙ ap (map (active_days t.calendar t.exceptions.items c.args.first c.args.days)) read.services in
-    let table = table_made c.args.zone.now c.args.first c.args.days d c.in_ok-agencies.agencies.items c.in_ok-stops.stops.items c.in_ok-routes.routes.items c.in_ok-trips.trips.items (map (λ v. v.items) c.in_ok-places.places.items) (map (λ v. v.items) c.in_ok-active.active.items) c.in_ok-bases.bases.items
-    (c.in_ok-agencies.ensures ∙ agency_ids_are t.agencies) c.in_ok-stops.ensures (c.in_ok-routes.ensures ∙ routes_are d) (c.in_ok-trips.ensures ∙ ap (λ ids. map (trip_in t.routes ids) (by_id (λ (row : TripRow). row.trip_id) t.trips)) services) places active c.in_ok-bases.ensures.bases in
-    subst IsTimetable (sym table) (timetable_sound c.args.zone.now c.args.first c.args.days d read.sound c.requires.read.2 c.requires.valid (omega (arith, c.requires.early)) c.requires.late c.requires.few (fits_are c.args.zone.now c.args.first c.args.days d (map (λ v. v.items) c.in_ok-places.places.items) c.in_ok-bases.bases.items c.in_ok-places.ensures.fits places c.in_ok-bases.ensures.small c.in_ok-bases.ensures.bases))
+    let table = table_made c.args.zone.now c.args.first c.args.days d c.in_ok-agencies.agencies.items c.in_ok-stops.stops.items c.in_ok-routes.routes.items c.in_ok-trips.trips.items (map (λ v. v.items) c.in_ok-places.places.items) (map (λ v. v.items) c.in_ok-active.active.items) c.in_ok-bases.bases.items c.new.result.items c.new-2.result.items
+    (c.in_ok-agencies.ensures ∙ agency_ids_are t.agencies) c.in_ok-stops.ensures (c.in_ok-routes.ensures ∙ routes_are d) (c.in_ok-trips.ensures ∙ ap (λ ids. map (trip_in t.routes ids) (by_id (λ (row : TripRow). row.trip_id) t.trips)) services) places active c.in_ok-bases.ensures.bases c.new.ensures.items c.new-2.ensures.items in
+    let small = subst EachSmall c.in_ok-bases.ensures.bases c.in_ok-bases.ensures.small in
+    let sound = timetable_sound c.args.zone.now c.args.first c.args.days d read.sound c.requires.read.2 c.requires.valid (omega (arith, c.requires.early)) c.requires.late c.requires.few small in
+    subst IsPlain (sym table) (plain_table c.args.zone.now c.args.first c.args.days d read.sound c.requires.read.2 sound)

@@ -4,10 +4,9 @@ use Rattle.std.specs.List.{range_with_len}
 use Rattle.std.proofs.lemmas.List.{map-append}
 use Rattle.std.proofs.lemmas.List.FromFn.{map-range_with_len_more}
 use Rattle.sched_load.specs.declared.visits.Visit.{Visit}
-use Rattle.sched_load.specs.Built.{ListsFit, places_of_trip}
-use Rattle.sched_load.specs.Course.{AllFit, places_in}
+use Rattle.sched_load.specs.Built.{places_of_trip}
+use Rattle.sched_load.specs.Course.{places_in}
 use Rattle.sched_load.specs.Listed.{most_rows}
-use Rattle.sched_load.proofs.DayLemmas.{each_push}
 use Rattle.sched_load.proofs.PairLemmas.{kept_at}
 use Rattle.sched_load.proofs.PartLemmas.{filter_short}
 use Rattle.sched_load.proofs.build.places_lists.Goals as goal
@@ -26,8 +25,5 @@ pub loop-trip-preserved : goal.loop-trip-preserved
 loop-trip-preserved c =
     let more : 0 + c.loop-trip.trip ≡ c.loop-trip.trip = omega arith in
     let pushed = ap (map (λ v. v.items)) c.in_ok-push.ensures.items ∙ map-append (λ v. v.items) c.loop-trip.lists.items (c.in_ok-places_of.field-0 ∷ []) in
-    record {
-      lists = pushed ∙ ap (λ vs. vs ++ c.in_ok-places_of.field-0.items ∷ []) c.loop-trip.invariant.lists ∙ ap (λ ps. map (places_of_trip c.args.visits.now) (range_with_len 0 c.loop-trip.trip) ++ ps ∷ []) (c.in_ok-places_of.ensures.value ∙ ap places_in c.visits_of.ensures)
-          ∙ sym (map-range_with_len_more (places_of_trip c.args.visits.now) 0 c.loop-trip.trip c.loop-trip.trip more);
-      fits = subst ListsFit (sym pushed) (each_push AllFit (map (λ v. v.items) c.loop-trip.lists.items) c.in_ok-places_of.field-0.items c.loop-trip.invariant.fits c.in_ok-places_of.ensures.fits);
-    }
+    pushed ∙ ap (λ vs. vs ++ c.in_ok-places_of.field-0.items ∷ []) c.loop-trip.invariant ∙ ap (λ ps. map (places_of_trip c.args.visits.now) (range_with_len 0 c.loop-trip.trip) ++ ps ∷ []) (c.in_ok-places_of.ensures ∙ ap places_in c.visits_of.ensures)
+    ∙ sym (map-range_with_len_more (places_of_trip c.args.visits.now) 0 c.loop-trip.trip c.loop-trip.trip more)

@@ -1,6 +1,6 @@
 use Rattle.std.proofs.Common.{refl}
 use Rattle.sched_load_defs.specs.Loading.{with_times, zone_of}
-use Rattle.sched_load_defs.specs.Numbers.{timetable_of}
+use Rattle.sched_load.specs.Built.{plan_told}
 use Rattle.sched_load.specs.Tables.{dataset_of}
 use Rattle.sched_load.proofs.Chain.{loaded, passed, step_alone, step_done, step_fails, step_value, timetable_is, told_same}
 use Rattle.sched_load.proofs.Stopping.{stops_alone, stops_built, stops_by, stops_loading, stops_passed}
@@ -89,4 +89,4 @@ returns-in_err-check_times-clause-stops g c =
 pub returns-clause-stops : goal.returns-clause-stops
 returns-clause-stops g c =
     let reads = c.in_ok-tables.ensures.reads in
-    stops_built (timetable_of c.in_ok-zone.zone c.args.conf.now.first c.args.conf.now.days (dataset_of c.in_ok-tables.tables reads.0)) c.build_plan.result _ (c.build_plan.ensures reads.0 reads.1)
+    stops_built (plan_told c.in_ok-zone.zone c.args.conf.now.first c.args.conf.now.days (dataset_of c.in_ok-tables.tables reads.0)) c.build_plan.result _ (c.build_plan.ensures reads.0 reads.1)

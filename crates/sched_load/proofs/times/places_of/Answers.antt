@@ -11,4 +11,4 @@ loop-i-preserved c =
     let visits = c.args.visits.now in
     let visit = get_or visits c.loop-i.i none in
     fills_more visits c.loop-i.i c.loop-i.course c.step.result.0 c.loop-i.places.items c.push.new.self.items visit c.step.result.1 c.place_at.result c.loop-i.invariant
-    (slice_get-get_or visits c.loop-i.i none c.loop-i-test.true) (steps_rest c.loop-i.course c.step.result.0 c.step.result.1 visit visits (c.loop-i.i + 1) c.step.ensures) c.place_at.ensures.value c.place_at.ensures.fits c.in_ok-push.ensures.items
+    (slice_get-get_or visits c.loop-i.i none c.loop-i-test.true) (steps_rest c.loop-i.course c.step.result.0 c.step.result.1 visit visits (c.loop-i.i + 1) c.step.ensures) c.place_at.ensures c.in_ok-push.ensures.items

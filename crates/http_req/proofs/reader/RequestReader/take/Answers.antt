@@ -13,5 +13,5 @@ returns-clause-answers_what_the_bytes_begin_with g c =
     begins_held c.args.self.now _ c.head_in.new.headers c.deref-2.result.now _ c.in-Some.spans c.in-Ok.request _
     (ap (λ xs. take (old.filled - old.start) (drop old.start xs)) c.deref.ensures.value ∙ c.self.view_is)
     (c.deref-2.ensures.value ∙ with_items_is old.headers c.head_in.new.headers same_room)
-    c.in-Some.ensures c.in-Ok.ensures
+    c.in-Some.ensures.found c.in-Ok.ensures
     (moved_on old.buffer.items old.start old.filled c.in-Some.spans.len ∙ ap (drop c.in-Some.spans.len) c.self.view_is)
