@@ -1,5 +1,5 @@
 -- What must be true of a timetable and of rows of frequencies.txt for the rows' trips to be put in.
-use Rattle.std.specs.Prelude.{◌≡◌, ℕ, ◌<◌, ◌≤◌, List, [], length, sum_by, slice_get, Some, IsTrue}
+use Rattle.std.specs.Prelude.{◌≡◌, ℕ, ◌<◌, ◌≤◌, [], length, sum_by, slice_get, Some, IsTrue}
 use Rattle.freq_runs.specs.Trips.{time_end}
 use Rattle.gtfs_rows.specs.declared.rows.FrequencyRow.{FrequencyRow}
 use Rattle.sched_types.specs.declared.rows.Place.{Place}

@@ -1,1 +1,4 @@
 pub mod Conditions
+pub mod Named
+pub mod Differ
+pub mod Joined

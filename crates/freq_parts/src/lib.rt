@@ -9,6 +9,11 @@
 //! `sched_types` for the lists.
 #![tactic(auto)]
 
+mod derived;
+mod lists;
+mod named;
 mod parts;
+mod patterns;
+mod timed;
 
 pub use parts::with_frequencies;

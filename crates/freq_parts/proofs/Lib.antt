@@ -1,0 +1,11 @@
+mod NamedLaws
+mod Sorting
+mod Zipped
+mod Listed
+mod Apart
+mod Derivation
+mod Shifted
+mod Fitting
+mod Joining
+mod Sound
+mod Whole
