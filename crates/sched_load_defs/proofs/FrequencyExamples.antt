@@ -20,8 +20,10 @@ use Rattle.sched_load_defs.proofs.OnFiles.{loading_on_files}
 -- the example with these rows of frequencies.txt
 abbrev outcome : List ℕ → Result Timetable LoadFault
 outcome rows = timetable
-    ((path_of city_folder file.Frequencies,
-      codes "trip_id,start_time,end_time,headway_secs,exact_times\n" ++ rows)
+    ((
+      path_of city_folder file.Frequencies,
+      codes "trip_id,start_time,end_time,headway_secs,exact_times\n" ++ rows,
+    )
     ∷ files_with stops_txt trips_txt stop_times_txt) city_folder city_conf
 
 abbrev in_outcome : {A : Type 0} → (Timetable → A) → Result Timetable LoadFault → Result A LoadFault
