@@ -24,6 +24,8 @@ mod forms;
 #[cfg(test)]
 mod frequencies;
 #[cfg(test)]
+mod headways;
+#[cfg(test)]
 mod matching;
 #[cfg(test)]
 mod plans;
