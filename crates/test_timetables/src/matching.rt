@@ -3,10 +3,12 @@
 ghost use Rattle.std.specs.Prelude.{◌≡◌, map, IfOk};
 ghost use Rattle.trip_match_defs.specs.Autumn as fall;
 ghost use Rattle.trip_match_defs.specs.Autumn.{autumn_places};
+ghost use Rattle.trip_match_defs.specs.Frequent as often;
+ghost use Rattle.trip_match_defs.specs.Frequent.{frequent_derived, frequent_patterns, frequent_places, frequent_trips};
 
 use rt_types::{Bytes, Text, TripRef, TripRelation};
-use sample_city::{NoMemory, city, place, routes, stops, trips};
-use sched_types::{Place, Plan, PlanName, PlanParts, Run};
+use sample_city::{NoMemory, city, place, routes, stops, trip, trips};
+use sched_types::{Place, Plan, PlanDerived, PlanName, PlanParts, PlanPattern, Run, Trip};
 use std::alloc::Global;
 use std::test::Fail;
 use trip_match::{Found, Why, find};
@@ -35,6 +37,77 @@ fn autumn(alloc: Global) -> Result<Plan, NoMemory>
         bases: vec![in alloc; 1761343200, 1761433200, 1761519600]?,
         patterns: Vec::new(alloc),
         derived: Vec::new(alloc),
+    };
+    Plan::build(alloc, parts)
+}
+
+/// T2 by its starts at eight and at half past eight, in the place of T2.
+fn frequent_trips(alloc: Global) -> Result<Vec<Trip>, NoMemory>
+    ensures { IfOk result (λ trips. trips.items ≡ frequent_trips) }
+{
+    let night = trip(alloc, "N1")?;
+    let first = trip(alloc, "T1")?;
+    let eight = trip(alloc, "T2@08:00:00")?;
+    let half_past = trip(alloc, "T2@08:30:00")?;
+    Ok(vec![in alloc; night, first, eight, half_past]?)
+}
+
+fn frequent_places(alloc: Global) -> Result<Vec<Vec<Place>>, NoMemory>
+    ensures { IfOk result (λ places. map (λ v. v.items) places.items ≡ frequent_places) }
+{
+    let night = vec![in alloc; place(0, 1, 90600, 90600), place(3, 2, 92400, 92400)]?;
+    let first = vec![in alloc; place(0, 1, 28800, 28800), place(3, 2, 30600, 30600)]?;
+    let eight = vec![in alloc; place(1, 1, 28800, 28800), place(3, 2, 30000, 30000)]?;
+    let half_past = vec![in alloc; place(1, 1, 30600, 30600), place(3, 2, 31800, 31800)]?;
+    Ok(vec![in alloc; night, first, eight, half_past]?)
+}
+
+/// T2, and T3 that never starts.
+fn frequent_patterns(alloc: Global) -> Result<Vec<PlanPattern>, NoMemory>
+    ensures { IfOk result (λ patterns. patterns.items ≡ frequent_patterns) }
+{
+    let second = PlanPattern {
+        id: PlanName::new(alloc, "T2")?,
+        places: 2,
+    };
+    let third = PlanPattern {
+        id: PlanName::new(alloc, "T3")?,
+        places: 2,
+    };
+    Ok(vec![in alloc; second, third]?)
+}
+
+fn frequent_derived(alloc: Global) -> Result<Vec<PlanDerived>, NoMemory>
+    ensures { IfOk result (λ derived. derived.items ≡ frequent_derived) }
+{
+    let eight = PlanDerived {
+        pattern: 0,
+        start: 28800,
+        trip: 2,
+    };
+    let half_past = PlanDerived {
+        pattern: 0,
+        start: 30600,
+        trip: 3,
+    };
+    Ok(vec![in alloc; eight, half_past]?)
+}
+
+/// On the days of the autumn, with patterns.
+fn frequent(alloc: Global) -> Result<Plan, NoMemory>
+    ensures { IfOk result (λ plan. plan ≡ often.frequent) }
+{
+    let parts = PlanParts {
+        agencies: vec![in alloc; PlanName::new(alloc, "A")?]?,
+        stops: stops(alloc)?,
+        routes: routes(alloc)?,
+        trips: frequent_trips(alloc)?,
+        places: frequent_places(alloc)?,
+        active: vec![in alloc; vec![in alloc; 0, 1]?]?,
+        first: 20251025,
+        bases: vec![in alloc; 1761343200, 1761433200, 1761519600]?,
+        patterns: frequent_patterns(alloc)?,
+        derived: frequent_derived(alloc)?,
     };
     Plan::build(alloc, parts)
 }
@@ -102,6 +175,20 @@ fn departing(alloc: Global, plan: &Plan, date: &str, time: &str) -> Result<Found
         unknown: Bytes::from_vec(Vec::new(alloc)),
     };
     Ok(find(plan, &trip, 0))
+}
+
+/// What is found of a trip by its id, its start_time and its date, where they are not empty, in the morning of
+/// 25 October 2025.
+fn starting(
+    alloc: Global,
+    plan: &Plan,
+    id: &str,
+    time: &str,
+    date: &str,
+) -> Result<Found, NoMemory> {
+    let mut trip = named(alloc, id, date, None)?;
+    trip.start_time = text(alloc, time)?;
+    Ok(find(plan, &trip, 1761377000))
 }
 
 fn run(trip: u32, day: u32) -> Found {
@@ -206,6 +293,52 @@ fn trips_are_found_without_their_ids(rt: HostRuntime) -> Result<(), Fail> {
     assert_eq!(rt;
         departing(alloc, &plan, "20251026", "")?,
         Found::NoMatch(Why::NoTrip)
+    );
+    Ok(())
+}
+
+#[test]
+fn the_start_time_says_which_trip_of_a_pattern(rt: HostRuntime) -> Result<(), Fail> {
+    let alloc = rt.alloc();
+    let plan = frequent(alloc)?;
+    let day = "20251026";
+    assert_eq!(rt; starting(alloc, &plan, "T2", "8:00:00", day)?, run(2, 1));
+    assert_eq!(rt; starting(alloc, &plan, "T2", "08:30:00", day)?, run(3, 1));
+    assert_eq!(rt; starting(alloc, &plan, "T2", "08:30:00", "")?, run(3, 0));
+    // The id of a derived trip is that of a trip, and of other trips the start_time says nothing.
+    assert_eq!(rt; starting(alloc, &plan, "T2@08:30:00", "", day)?, run(3, 1));
+    assert_eq!(rt; starting(alloc, &plan, "T1", "x", day)?, run(1, 1));
+    assert_eq!(rt;
+        starting(alloc, &plan, "T2", "8:00:00", "20251027")?,
+        Found::NoMatch(Why::NotActive)
+    );
+    Ok(())
+}
+
+#[test]
+fn each_reason_of_a_pattern_is_told(rt: HostRuntime) -> Result<(), Fail> {
+    let alloc = rt.alloc();
+    let plan = frequent(alloc)?;
+    let day = "20251026";
+    assert_eq!(rt;
+        starting(alloc, &plan, "T2", "", day)?,
+        Found::NoMatch(Why::Several)
+    );
+    assert_eq!(rt;
+        starting(alloc, &plan, "T2", "08:30", day)?,
+        Found::NoMatch(Why::BadText)
+    );
+    assert_eq!(rt;
+        starting(alloc, &plan, "T2", "08:30:01", day)?,
+        Found::NoMatch(Why::NoTrip)
+    );
+    assert_eq!(rt;
+        starting(alloc, &plan, "T3", "", day)?,
+        Found::NoMatch(Why::NoTrip)
+    );
+    assert_eq!(rt;
+        related(alloc, &plan, "T2", "", TripRelation::Added)?,
+        Found::Added
     );
     Ok(())
 }
