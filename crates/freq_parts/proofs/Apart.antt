@@ -156,7 +156,7 @@ module _ {X : Type 0} (id_of : X → List ℕ) where
   all_differ trips derived test up none = record {
     once = λ wanted.
         let tests : (x : X) → is_eq (text_cmp wanted (id_of x)) ≡ true → bytes_eq (id_of x) wanted ≡ true =
-            λ x e. nat_list_eq_equiv.symm (id_of x) wanted ∙ sym (is_eq-slice_cmp wanted (id_of x)) ∙ e in
+        λ x e. nat_list_eq_equiv.symm (id_of x) wanted ∙ sym (is_eq-slice_cmp wanted (id_of x)) ∙ e in
         omega (
           arith,
           count_fewer (λ x. bytes_eq (id_of x) wanted) (λ x. is_eq (text_cmp wanted (id_of x))) tests (filter test trips ++ derived),

@@ -115,15 +115,15 @@ are_rows t rows sound are =
     let patterns = filter (is_named rows) (timed_trips t) in
     All-map (IsRow (length patterns)) (frequency_of patterns) (enumerate_from 0 rows)
     (λ k d l.
-      let row = (get_or (enumerate_from 0 rows) k d).1 in
-      let names : Names t rows row = all_numbered (Names t rows) 0 rows (all_name t rows are) k d l in
-      let there = named_there row.trip_id (is_named rows) (λ timed e. ap (has_id (λ (r : FrequencyRow). r.trip_id) rows) e ∙ names.known) t.trips t.places sound.places_each names.row_of.trip_is in
-      record {
-        pattern_is = known_within patterns row.trip_id there;
-        headway_is = (names.row_of).headway_is;
-        start_is = (names.row_of).start_is;
-        end_is = (names.row_of).end_is;
-      })
+    let row = (get_or (enumerate_from 0 rows) k d).1 in
+    let names : Names t rows row = all_numbered (Names t rows) 0 rows (all_name t rows are) k d l in
+    let there = named_there row.trip_id (is_named rows) (λ timed e. ap (has_id (λ (r : FrequencyRow). r.trip_id) rows) e ∙ names.known) t.trips t.places sound.places_each names.row_of.trip_is in
+    record {
+      pattern_is = known_within patterns row.trip_id there;
+      headway_is = (names.row_of).headway_is;
+      start_is = (names.row_of).start_is;
+      end_is = (names.row_of).end_is;
+    })
 
 -- ---- derived trips with their patterns
 
@@ -198,10 +198,10 @@ starts_differ patterns taken derived are = record {
   once = λ wanted.
       let id = id_at patterns wanted.0 wanted.1 in
       let same : All (λ (d : Derived). is_eq (start_cmp wanted (key_of d)) ≡ true → bytes_eq d.id id ≡ true) derived =
-          λ k x l e.
-            let d = get_or derived k x in
-            let key = same_key wanted (key_of d) e in
-            ap (λ i. bytes_eq i id) (own_id patterns d (are.each k x l) ∙ ap (λ (w : ℕ × ℕ). id_at patterns w.0 w.1) (sym key)) ∙ nat_list_eq_equiv.refl id in
+      λ k x l e.
+      let d = get_or derived k x in
+      let key = same_key wanted (key_of d) e in
+      ap (λ i. bytes_eq i id) (own_id patterns d (are.each k x l) ∙ ap (λ (w : ℕ × ℕ). id_at patterns w.0 w.1) (sym key)) ∙ nat_list_eq_equiv.refl id in
       omega (
         arith,
         fewer (λ d. is_eq (start_cmp wanted (key_of d))) (λ d. bytes_eq d.id id) derived same,

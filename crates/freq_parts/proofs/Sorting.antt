@@ -59,9 +59,9 @@ module _ {K R : Type 0} {order : K → K → Ordering} (o : IsTotalOrder order) 
       by Greater e =
           let far = sorted_far (λ a b. is_lt (order (key a) (key b))) (ranks_by o key) rows up i j x (omega (arith, l)) (slice_get_within rows j y then) in
           let here : is_lt (order (key y) (key x)) ≡ false =
-              ap (λ r. is_lt (order (key r) (key x))) (sym (get_or_from_slice_get rows j y x then))
-              ∙ ap (λ r. is_lt (order (key (get_or rows j x)) (key r))) (sym (get_or_from_slice_get rows i x x at))
-              ∙ far in
+          ap (λ r. is_lt (order (key r) (key x))) (sym (get_or_from_slice_get rows j y x then))
+          ∙ ap (λ r. is_lt (order (key (get_or rows j x)) (key r))) (sym (get_or_from_slice_get rows i x x at))
+          ∙ far in
           absurd (less_is_lt (sym here ∙ ap is_lt (o.antisymm (key y) (key x) ∙ ap ordering_reverse e)))
 
   permuted : (rows listed : List R) → IsPermutation rows listed → Differ order key rows → Differ order key listed

@@ -83,8 +83,8 @@ no_rows t plain =
     let others = filter (λ one. not (is_named [] one)) timed in
     let up = timed_rise t sound in
     let whole : all_of patterns others [] ≡ timed =
-        ap (rows_by_key _ id_of) (append-nil others ∙ all_other timed)
-        ∙ listed-permutation _ nat_list_cmp_total text_same id_of timed timed (IsPermutation-refl timed) (record { rise = up.rise }) in
+    ap (rows_by_key _ id_of) (append-nil others ∙ all_other timed)
+    ∙ listed-permutation _ nat_list_cmp_total text_same id_of timed timed (IsPermutation-refl timed) (record { rise = up.rise }) in
     with_value [] t [] (nothing patterns (map (λ (trip : Trip). trip.id) t.trips))
     ∙ ap Ok (put_same t _ _ _ _
     (ap (map (λ (z : TimedTrip). z.0)) whole ∙ zip_first t.trips t.places sound.places_each)

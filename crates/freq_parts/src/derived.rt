@@ -25,11 +25,7 @@ fn at_time(place: Place, time: PlaceTime) -> Place
 }
 
 /// The places of a pattern at other times.
-fn at_times(
-    alloc: Global,
-    places: &[Place],
-    times: &[PlaceTime],
-) -> Result<Vec<Place>, AllocError>
+fn at_times(alloc: Global, places: &[Place], times: &[PlaceTime]) -> Result<Vec<Place>, AllocError>
     ensures { IfOk result (λ list. list.items ≡ map rule.at_time (zip places.now times.now)) }
 {
     let mut list = Vec::with_capacity(alloc, places.len())?;

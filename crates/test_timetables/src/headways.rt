@@ -59,7 +59,8 @@ fn shown(alloc: Global, rows: &[u8]) -> Result<String, AllocError> {
 /// T2 takes 19 minutes: its first place is left at 08:21:00, and its last one at 08:40:00.
 #[test]
 fn half_hours_take_the_place_of_the_trip(rt: HostRuntime) -> Result<(), Fail> {
-    let rows = b"trip_id,start_time,end_time,headway_secs,exact_times\nT2,09:00:00,09:31:00,1800,1\n";
+    let rows =
+        b"trip_id,start_time,end_time,headway_secs,exact_times\nT2,09:00:00,09:31:00,1800,1\n";
     let text = shown(rt.alloc(), rows)?;
     assert_eq!(rt;
         text.as_str(),
@@ -70,7 +71,8 @@ fn half_hours_take_the_place_of_the_trip(rt: HostRuntime) -> Result<(), Fail> {
 
 #[test]
 fn a_row_of_the_same_trips_is_a_duplicate(rt: HostRuntime) -> Result<(), Fail> {
-    let rows = b"trip_id,start_time,end_time,headway_secs,exact_times\nT2,09:00:00,09:31:00,1800,1\nT2,09:30:00,09:31:00,60,1\n";
+    let rows =
+        b"trip_id,start_time,end_time,headway_secs,exact_times\nT2,09:00:00,09:31:00,1800,1\nT2,09:30:00,09:31:00,60,1\n";
     let text = shown(rt.alloc(), rows)?;
     assert_eq!(rt; text.as_str(), "row 3 of frequencies.txt is there twice");
     Ok(())
@@ -78,7 +80,8 @@ fn a_row_of_the_same_trips_is_a_duplicate(rt: HostRuntime) -> Result<(), Fail> {
 
 #[test]
 fn rows_without_exact_times_give_no_trips(rt: HostRuntime) -> Result<(), Fail> {
-    let rows = b"trip_id,start_time,end_time,headway_secs,exact_times\nT2,09:00:00,09:31:00,1800,0\nT2,10:00:00,11:00:00,600,\n";
+    let rows =
+        b"trip_id,start_time,end_time,headway_secs,exact_times\nT2,09:00:00,09:31:00,1800,0\nT2,10:00:00,11:00:00,600,\n";
     let text = shown(rt.alloc(), rows)?;
     assert_eq!(rt; text.as_str(), "N1 90600 92400; T1 28800 30600; None");
     Ok(())
