@@ -11,7 +11,8 @@ abbrev pub text_cmp : List ℕ → List ℕ → Ordering
 text_cmp = slice_cmp nat_cmp
 
 -- each key is that of one row at most
-pub record Differ {K R : Type 0} (order : K → K → Ordering) (key : R → K) (rows : List R) : Type 0 where
+pub record Differ {K R : Type 0} (order : K → K → Ordering) (key : R → K) (rows : List R)
+    : Type 0 where
   pub once : (wanted : K) → count_by (λ row. is_eq (order wanted (key row))) rows ≤ 1
 
 -- the rows by rising keys: all of them, and no key twice
