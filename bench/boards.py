@@ -39,9 +39,10 @@ def update(trip, delay, stamp):
     return run(2, run(1, b"e%d" % trip) + run(3, about + stops + number(4, stamp)))
 
 
-def message(stamp, incrementality, trips):
+def message(stamp, incrementality, trips, later=0):
+    """A message of updates of trips, each with the delay of its trip and so many seconds more, modulo ten minutes."""
     header = run(1, run(1, b"2.0") + number(2, incrementality) + number(3, stamp))
-    body = header + b"".join(update(trip, trip * 37 % 600, stamp) for trip in trips)
+    body = header + b"".join(update(trip, (trip * 37 + later) % 600, stamp) for trip in trips)
     return b"M a %d\n%s\n" % (len(body), body)
 
 
@@ -54,11 +55,12 @@ def boards(count):
     return b"".join(b"B city S%d %d 86400 50 text\n" % (k % 100, MORNING) for k in range(count))
 
 
-def changes(count, updates):
-    """Messages of 20 updates, spread over those of the data set."""
+def changes(count, updates, more=0):
+    """Messages of 20 updates, spread over those of the data set. Delays are so many seconds more from message to message;
+    where they are none more, each says again what was said."""
     step = TRIPS // updates
     return b"".join(
-        message(MIDNIGHT + 1 + m, 1, [(m * 7919 + k * updates // 20) % updates * step for k in range(20)])
+        message(MIDNIGHT + 1 + m, 1, [(m * 7919 + k * updates // 20) % updates * step for k in range(20)], (m + 1) * more)
         for m in range(count))
 
 
@@ -92,10 +94,11 @@ def main():
             few, many = whole(2000) + boards(10), whole(2000) + boards(60)
             told(f"instructions of a board of 50 rows out of 20,000 trips and 2,000 updates, {days} days",
                  [(cost(program, conf, work, many) - cost(program, conf, work, few)) / 50 for program in PROGRAMS])
-        for updates in (2000, 20000):
-            few, many = whole(updates) + changes(10, updates), whole(updates) + changes(60, updates)
-            told(f"instructions of a message of 20 updates into a feed of {updates:,}",
-                 [(cost(program, week, work, many) - cost(program, week, work, few)) / 50 for program in PROGRAMS])
+        for what, more in (("that say again what was said", 0), ("whose delays change", 61)):
+            for updates in (2000, 20000):
+                few, many = (whole(updates) + changes(count, updates, more) for count in (10, 60))
+                told(f"instructions of a message of 20 updates {what}, into a feed of {updates:,}",
+                     [(cost(program, week, work, many) - cost(program, week, work, few)) / 50 for program in PROGRAMS])
         stale = message(253402300799, 1, [])
         for what, script in (("read and taken in", whole(3000)), ("read alone", stale + whole(3000))):
             told(f"instructions of a whole data set of 3,000 updates of 20 places, {what}",

@@ -53,14 +53,16 @@ fn in_turn(first: Ordering, second: Ordering, third: Ordering) -> Ordering
 fn slot_order(a: &LiveSlot, b: &LiveSlot) -> Ordering
     ensures { result ≡ slot_cmp a.now b.now }
 {
-    match a.at.cmp(&b.at) {
-        Ordering::Less => Ordering::Less,
-        Ordering::Greater => Ordering::Greater,
-        Ordering::Equal => in_turn(
+    if a.at < b.at {
+        Ordering::Less
+    } else if b.at < a.at {
+        Ordering::Greater
+    } else {
+        in_turn(
             a.run.trip.cmp(&b.run.trip),
             a.run.day.cmp(&b.run.day),
             a.place.cmp(&b.place),
-        ),
+        )
     }
 }
 
@@ -69,10 +71,12 @@ fn slot_order(a: &LiveSlot, b: &LiveSlot) -> Ordering
 fn row_order(a: &LiveRow, b: &LiveRow) -> Ordering
     ensures { result ≡ rule.row_cmp (rule.row_key a.now) (rule.row_key b.now) }
 {
-    match a.stop.cmp(&b.stop) {
-        Ordering::Less => Ordering::Less,
-        Ordering::Greater => Ordering::Greater,
-        Ordering::Equal => slot_order(&a.slot, &b.slot),
+    if a.stop < b.stop {
+        Ordering::Less
+    } else if b.stop < a.stop {
+        Ordering::Greater
+    } else {
+        slot_order(&a.slot, &b.slot)
     }
 }
 
@@ -101,6 +105,13 @@ impl Keyed for LiveRow {
 
     fn order(&self, other: &Self) -> Ordering {
         row_order(self, other)
+    }
+
+    /// All at once, since departures are plain values.
+    fn copies(items: &Vec<Self>, more: usize) -> Result<Vec<Self>, NoMemory> {
+        let mut same = Vec::with_capacity(*items.allocator(), items.len().saturating_add(more))?;
+        same.extend_from_slice(items.as_slice())?;
+        Ok(same)
     }
 
     ghost total = { rows_total };

@@ -1,10 +1,11 @@
 //! Items that have a key, and keys by which they are found.
 
-ghost use Rattle.std.specs.Prelude.{◌≡◌};
+ghost use Rattle.std.specs.Prelude.{◌≡◌, IfOk};
 ghost use Rattle.std.specs.Cmp.{IsTotalOrder};
 ghost use Rattle.std.specs.FinMap.{IsAntisymmetric};
 ghost use Rattle.std.specs.declared.cmp.Ordering.{Ordering};
 
+use crate::NoMemory;
 use copying::Copied;
 use std::cmp::Ordering;
 
@@ -21,6 +22,18 @@ pub trait Keyed: Copied {
     /// How its key stands to that of another item.
     fn order(&self, other: &Self) -> Ordering
         ensures { result ≡ key_cmp (key_of self.now) (key_of other.now) };
+
+    /// The same items, with room for so many more; or out of memory. Each is copied by itself, unless the type of the
+    /// items can have all of them copied at once.
+    fn copies(items: &Vec<Self>, more: usize) -> Result<Vec<Self>, NoMemory>
+        ensures { IfOk result (λ same. same.items ≡ items.now.items) }
+    {
+        let mut same = Vec::with_capacity(*items.allocator(), items.len().saturating_add(more))?;
+        for item in items {
+            same.push(item.copy()?)?;
+        }
+        Ok(same)
+    }
 
     // Keys are in a total order, in which no two of them tie.
     ghost total: { IsTotalOrder key_cmp };

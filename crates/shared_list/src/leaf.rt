@@ -116,11 +116,7 @@ impl<T: Keyed> Part for Vec<T> {
     }
 
     fn copied(&self, more: usize) -> Result<Self, NoMemory> {
-        let mut same = Vec::with_capacity(*self.allocator(), self.len().saturating_add(more))?;
-        for item in self {
-            same.push(item.copy()?)?;
-        }
-        Ok(same)
+        T::copies(self, more)
     }
 
     fn put_item(&mut self, item: T) -> Result<PutOutcome<Self, T>, NoMemory> {

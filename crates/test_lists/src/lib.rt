@@ -12,4 +12,6 @@ mod due_lists;
 #[cfg(test)]
 mod numbered;
 #[cfg(test)]
+mod plain_items;
+#[cfg(test)]
 mod tables;
