@@ -2,8 +2,11 @@
 """Clients of a hub that behave badly, for clients.sh.
 
 usage: clients.py silent ADDRESS COUNT   opens COUNT connections that say nothing and asks for the status on one more
-       clients.py slow ADDRESS           sends a request at one byte a second, and asks for another meanwhile
+       clients.py drip ADDRESS SECONDS   sends a request at one byte each SECONDS, and asks for another meanwhile
        clients.py gone ADDRESS COUNT     COUNT times: asks for a thousand feeds at once, reads a little and goes away
+       clients.py post ADDRESS           sends a POST with a body of 1 MB, and reads only then
+       clients.py last ADDRESS           asks for a thousand feeds and says more, and reads only then, slowly
+       clients.py deaf                   a sender that never answers: it says where, and stays until it is ended
 """
 import socket
 import struct
@@ -45,17 +48,89 @@ def silent(address, count):
     print(f"{sum(not it for it in closed)} of them were closed without a byte")
 
 
-def slow(address):
+def drip(address, seconds):
     with connect(address) as link:
         began = time.monotonic()
+        said = None
+        link.settimeout(seconds)
         for place in range(len(ASK)):
-            link.sendall(ASK[place:place + 1])
-            if place == 20:
-                print(f"another was answered meanwhile after {asked(address):.1f} s")
-            time.sleep(1)
-        said = answer(link)
-    head = said.split(b"\r\n", 1)[0].decode()
-    print(f"a request of {len(ASK)} bytes, one a second: {head} after {time.monotonic() - began:.0f} s")
+            try:
+                link.sendall(ASK[place:place + 1])
+                if place == 0:
+                    print(f"another was answered meanwhile after {asked(address):.1f} s")
+                said = link.recv(65536)
+                break
+            except TimeoutError:  # nothing yet
+                pass
+            except ConnectionError:
+                said = b""
+                break
+    print(f"a byte each {seconds} s: closed with {len(said)} bytes of answer after {time.monotonic() - began:.0f} s")
+
+
+def whole(said):
+    """How many responses there are, each whole."""
+    count = 0
+    while said:
+        head, _, rest = said.partition(b"\r\n\r\n")
+        length = next(int(line.split(b":")[1]) for line in head.split(b"\r\n") if line.lower().startswith(b"content-length:"))
+        if len(rest) < length:
+            break
+        said = rest[length:]
+        count += 1
+    return count
+
+
+def late(address, asks, room=None):
+    """What comes where all is sent before anything is read."""
+    host, port = address.rsplit(":", 1)
+    with socket.socket() as link:
+        if room:
+            link.setsockopt(socket.SOL_SOCKET, socket.SO_RCVBUF, room)
+        link.connect((host, int(port)))
+        link.settimeout(60)
+        try:
+            link.sendall(asks)
+        except ConnectionError:  # the hub reads no more
+            pass
+        time.sleep(0.5)
+        parts = []
+        try:
+            while part := link.recv(4096):
+                parts.append(part)
+        except ConnectionError:
+            print("reset at the end")
+        return b"".join(parts)
+
+
+def first_line(said):
+    return said.split(b"\r\n", 1)[0].decode()
+
+
+def post(address):
+    body = 1_000_000
+    head = b"POST /status HTTP/1.1\r\nHost: hub\r\nContent-Length: %d\r\n\r\n" % body
+    said = late(address, head + bytes(body))
+    print(f"{whole(said)} whole answer: {first_line(said)}")
+
+
+def last(address):
+    said = late(address, b"GET /feed/city HTTP/1.1\r\nHost: hub\r\n\r\n" * 1000 + bytes(2000), 4096)
+    print(f"{whole(said)} whole answers in {len(said)} bytes")
+
+
+def deaf():
+    server = socket.create_server(("127.0.0.1", 0), backlog=0)
+    address = server.getsockname()
+    links = []
+    for _ in range(8):  # as many as wait to be accepted; the system answers no further one
+        link = socket.socket()
+        link.setblocking(False)
+        link.connect_ex(address)
+        links.append(link)
+    time.sleep(0.5)
+    print(f"clients.py: deaf at {address[0]}:{address[1]}", file=sys.stderr, flush=True)
+    time.sleep(3600)
 
 
 def gone(address, count):
@@ -76,8 +151,9 @@ def gone(address, count):
 
 
 def main():
-    what, address, *rest = sys.argv[1:]
-    {"silent": silent, "slow": slow, "gone": gone}[what](address, *map(int, rest))
+    what, *rest = sys.argv[1:]
+    words = {"silent": silent, "drip": drip, "gone": gone, "post": post, "last": last, "deaf": deaf}
+    words[what](*rest[:1], *map(int, rest[1:]))
 
 
 main()

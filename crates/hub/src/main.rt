@@ -5,17 +5,22 @@
 //! feeds are boxed: only a program itself knows what its runtime is.
 //!
 //! Its stored run is `serve` on the messages of data/spool, with no address at which readers come in, so that it
-//! ends by itself. One of its feeds and the listener fail at opening, which standard error tells; so the status is 1.
+//! ends by itself. One of its feeds finds nobody to connect to, and the listener can't be bound, which standard error
+//! tells; so the status is 1.
 #![tactic(auto)]
 
 use feed_port::FeedPort;
 use hub_system::{NoMemory, SystemPort, run_program};
 use std::io;
 use std::process::ExitCode;
+use std::rt::Stderr;
 
 fn main(rt: HostRuntime) -> ExitCode {
     let alloc = rt.alloc();
-    let boxed = |port: SystemPort<HostRuntime>| -> Result<Box<dyn FeedPort + Send>, NoMemory> {
+    let boxed = |port: SystemPort<HostRuntime, Stderr>| -> Result<
+        Box<dyn FeedPort + Send>,
+        NoMemory,
+    > {
         match port {
             SystemPort::Nothing(port) => Ok(Box::new(alloc, port)?),
             SystemPort::Spool(port) => Ok(Box::new(alloc, port)?),

@@ -24,7 +24,7 @@ IsPollingPortOf feed port =
 
 -- The port is of the feed's kind. One with no messages has none ahead, that of a folder stands before
 -- its first file, and a stream was not read yet.
-abbrev pub IsPortOf : {R : Type 0} → FeedConf → SystemPort R → Type 0
+abbrev pub IsPortOf : {R E : Type 0} → FeedConf → SystemPort R E → Type 0
 IsPortOf feed (Nothing port) = (feed.kind ≡ kind.Nothing) × (messages_ahead port ≡ [])
 IsPortOf feed (Spool port) =
     (feed.kind ≡ kind.Spool) × (spool_folder port ≡ feed.place) × (spool_number port ≡ 1)

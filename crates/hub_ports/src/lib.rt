@@ -5,7 +5,9 @@
 //! binds the listener, [`reader_count`], [`doors_of`] and [`clocks_of`] make what readers need. What can't be had is
 //! told on standard error, one line each, and so is the address at which readers are answered (`specs/Lines`). The
 //! server goes on without what can't be had, since a port without a connection fails when it is asked, and so does a
-//! door without a listener. A feed that is polled is connected to when it is asked, by a [`TcpDial`].
+//! door without a listener. Nothing connects before it is asked for its first message, so by the thread that asks: a
+//! stream by a [`Connection`], which tells on standard error where there is none, and a feed that is polled by a
+//! [`TcpDial`].
 //!
 //! What the contracts say: each port is of its feed's kind (`specs/Opened`), there are as many ports as feeds, and as
 //! many doors and clocks as are asked for. What the system itself does, no contract knows.
@@ -21,7 +23,7 @@ mod listening;
 mod opening;
 mod telling;
 
-pub use connection::Connection;
+pub use connection::{Calling, Connection};
 pub use dialing::TcpDial;
 pub use listening::{clocks_of, doors_of, listen, reader_count};
 pub use opening::{SystemPort, open_port, open_ports};

@@ -6,31 +6,28 @@ ghost use Rattle.hub_config_defs.specs.Values.{host_length, host_of, path_of};
 ghost use Rattle.hub_ports.specs.Opened.{IsPortOf, IsPollingPortOf};
 
 use crate::NoMemory;
-use crate::connecting::connect;
 use crate::connection::Connection;
 use crate::dialing::TcpDial;
-use crate::telling::{no_connection_line, tell};
 use copying::Copied;
 use feed_port::{FeedPort, MemoryPort, SpoolPort, StreamPort};
 use hub_config_defs::{FeedConf, PortKind};
-use hub_outside::{Sink, StdFiles, StdSource};
+use hub_outside::{StdFiles, StdSource};
 use poll_port::PollPort;
 use std::alloc::Global;
+use std::io::Write;
 use std::net::{Net, TcpListener, TcpStream};
 use std::{rt, str};
 
-/// How many seconds the connection of a stream may take to be made.
-const CONNECT_SECONDS: u64 = 5;
-
-/// The port of a feed, by the kind that the configuration gives it.
+/// The port of a feed, by the kind that the configuration gives it. It tells on `E` that the connection
+/// of a stream can't be made.
 #[derive(Drop)]
-pub enum SystemPort<R> {
+pub enum SystemPort<R, E> {
     /// No message comes.
     Nothing(MemoryPort),
     /// Messages come as files of a folder.
     Spool(SpoolPort<StdFiles<R>>),
     /// Messages come over a TCP connection.
-    Stream(StreamPort<StdSource<Connection<TcpStream>>>),
+    Stream(StreamPort<StdSource<Connection<R, E>>>),
     /// Messages come as replies to polls.
     Poll(PollPort<TcpDial<R>>),
 }
@@ -41,15 +38,15 @@ pub fn open_ports<R, P, F, E>(
     alloc: Global,
     feeds: &[FeedConf],
     boxed: &F,
-    errors: &mut E,
+    errors: E,
 ) -> Result<Vec<P>, NoMemory>
 where
     R: rt::Files + rt::Clock + Net<Listener = TcpListener, Stream = TcpStream> + Send + Copy,
     R::File: Send,
     R::Dir: Send,
     P: FeedPort,
-    F: Fn(SystemPort<R>) -> Result<P, NoMemory>,
-    E: Sink,
+    F: Fn(SystemPort<R, E>) -> Result<P, NoMemory>,
+    E: Write + Send + Copy,
     requires { F.IsAlwaysCallable boxed.now }
     ensures { IfOk result (λ ports. vec_len ports ≡ length feeds.now) }
 {
@@ -60,19 +57,19 @@ where
     Ok(ports)
 }
 
-/// The port of a feed. Where the connection of a stream can't be made a line tells why, and its first
-/// ask fails.
+/// The port of a feed. No connection is made before its first ask. Where that of a stream can't be made
+/// then, a line tells why, and that ask fails.
 pub fn open_port<R, E>(
     rt: &R,
     alloc: Global,
     feed: &FeedConf,
-    errors: &mut E,
-) -> Result<SystemPort<R>, NoMemory>
+    errors: E,
+) -> Result<SystemPort<R, E>, NoMemory>
 where
     R: rt::Files + rt::Clock + Net<Listener = TcpListener, Stream = TcpStream> + Send + Copy,
     R::File: Send,
     R::Dir: Send,
-    E: Sink,
+    E: Write + Send + Copy,
     ensures { IfOk result (λ port. IsPortOf feed.now port) }
 {
     match feed.kind {
@@ -85,7 +82,8 @@ where
             Ok(SystemPort::Spool(port))
         }
         PortKind::Stream => {
-            let connection = connection_of(rt, alloc, feed, errors)?;
+            let (name, place) = (feed.name.as_str(), feed.place.as_str());
+            let connection = Connection::ahead(*rt, alloc, name, place, errors)?;
             Ok(SystemPort::Stream(StreamPort::new(StdSource::new(connection))))
         }
         PortKind::Poll => Ok(SystemPort::Poll(polling_port(rt, alloc, feed)?)),
@@ -169,22 +167,4 @@ fn one_at_least(tries: u32) -> u32
     ensures some { 1 ≤ result }
 {
     tries.max(1)
-}
-
-/// The connection of a feed, and none where it can't be made, which a line tells then.
-fn connection_of<R: Net<Listener = TcpListener, Stream = TcpStream>, E: Sink>(
-    rt: &R,
-    alloc: Global,
-    feed: &FeedConf,
-    errors: &mut E,
-) -> Result<Connection<TcpStream>, NoMemory> {
-    let place = feed.place.as_str();
-    match connect(rt, place, CONNECT_SECONDS) {
-        Ok(stream) => Ok(Connection::Made(stream)),
-        Err(cause) => {
-            let line = no_connection_line(alloc, feed.name.as_str(), place, cause)?;
-            tell(errors, line.as_slice());
-            Ok(Connection::Missing)
-        }
-    }
 }

@@ -73,14 +73,12 @@ fn level_all(seats: &mut [FeedSeat], publisher: &mut Publisher, desk: &mut Desk)
     }
 }
 
-/// Ends a hub of which nobody needs the history.
+/// Ends a hub of which nobody needs the history. It takes no memory.
 pub(crate) fn give_up<R: Wait>(rt: &R, locked: Locked) {
     let Locked {
         core: _,
         publisher,
         desk: _,
     } = locked;
-    if let Ok(ending) = publisher.close(rt) {
-        ending.end(rt);
-    }
+    publisher.abandon(rt);
 }

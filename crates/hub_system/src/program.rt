@@ -26,7 +26,8 @@ const SERVE: &str = "serve";
 /// exit status. Where the first word is `serve` it runs a hub until all its ports and doors have ended,
 /// and gives the status of `hub_serve::run_serve`, or that with which preparing it ended, or 6 where
 /// memory for what it opens is wanting. Else it gives what `hub_main::run_on_system` gives. `boxed` hands
-/// on the port of a feed, in a form that is one type for all kinds.
+/// on the port of a feed, in a form that is one type for all kinds. `errors` is written to by several
+/// threads, a whole line at once.
 pub fn run_program<R, P, F, I, O, E>(rt: &R, boxed: &F, input: I, output: O, errors: E) -> u8
 where
     R: rt::Files
@@ -42,18 +43,17 @@ where
     R::File: Send,
     R::Dir: Send,
     P: FeedPort + Send,
-    F: Fn(SystemPort<R>) -> Result<P, NoMemory>,
+    F: Fn(SystemPort<R, E>) -> Result<P, NoMemory>,
     I: Read + Drop,
     O: Write + Drop,
-    E: Write + Drop,
+    E: Write + Send + Copy,
     requires { F.IsAlwaysCallable boxed.now }
 {
     let alloc = rt.alloc();
     match words_of_serve(alloc, env::args(rt)) {
         Ok(Some(words)) => {
             let mut out = StdSink::new(output);
-            let mut errors = StdSink::new(errors);
-            serve(rt, alloc, words.as_slice(), boxed, &mut out, &mut errors)
+            serve(rt, alloc, words.as_slice(), boxed, &mut out, errors)
         }
         Ok(None) => run_on_system(alloc, env::args(rt), rt, input, output),
         Err(NoMemory) => ExitStatus::NoMemory.code(),
@@ -88,7 +88,7 @@ fn serve<R, P, F, K, E>(
     words: &[Text],
     boxed: &F,
     out: &mut K,
-    errors: &mut E,
+    errors: E,
 ) -> u8
 where
     R: rt::Files
@@ -102,9 +102,9 @@ where
     R::File: Send,
     R::Dir: Send,
     P: FeedPort + Send,
-    F: Fn(SystemPort<R>) -> Result<P, NoMemory>,
+    F: Fn(SystemPort<R, E>) -> Result<P, NoMemory>,
     K: Sink,
-    E: Sink,
+    E: Write + Send + Copy,
     requires { F.IsAlwaysCallable boxed.now }
 {
     let mut files = StdFiles::new(rt);
@@ -123,7 +123,7 @@ fn run_ready<R, P, F, K, E>(
     ready: ServeConf,
     boxed: &F,
     out: &mut K,
-    errors: &mut E,
+    errors: E,
 ) -> Result<u8, NoMemory>
 where
     R: rt::Files
@@ -137,9 +137,9 @@ where
     R::File: Send,
     R::Dir: Send,
     P: FeedPort + Send,
-    F: Fn(SystemPort<R>) -> Result<P, NoMemory>,
+    F: Fn(SystemPort<R, E>) -> Result<P, NoMemory>,
     K: Sink,
-    E: Sink,
+    E: Write + Send + Copy,
     requires boxed { F.IsAlwaysCallable boxed.now }
     requires feeds { length (arc_value ready.plans).feeds ≡ length ready.conf.feeds }
 {
@@ -148,7 +148,8 @@ where
     let readers = reader_count(conf.readers);
     // The doors alone keep the listener, so that it is closed once all of them have let it go.
     let mut doors = {
-        let listener = listen(rt, alloc, conf.listen.as_str(), errors)?;
+        let mut errors = StdSink::new(errors);
+        let listener = listen(rt, alloc, conf.listen.as_str(), &mut errors)?;
         doors_of(rt, alloc, &listener, readers, conf.connections)?
     };
     let clocks = clocks_of(rt, alloc, readers)?;

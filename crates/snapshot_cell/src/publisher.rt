@@ -22,7 +22,7 @@ use std::mem;
 use std::sync::{Arc, Wait};
 
 /// Who shows the views of a hub. A contract sees what it published, and the timetables and feeds.
-/// It is not dropped: it ends by `close`.
+/// It is not dropped: it ends by `close`, or by `abandon`.
 pub struct Publisher {
     pub(crate) author: Author,
     pub(crate) writer: Option<SnapWriter>,
@@ -123,5 +123,13 @@ impl Publisher {
         let line = author.line();
         let writer = show_to_all(rt, writer, &view, &line);
         Ok(Ending { line, writer })
+    }
+
+    /// Ends a publisher of which nobody needs the history: nothing more is published. It waits for
+    /// those that still read the copies, and takes no memory.
+    pub fn abandon<R: Wait>(self, rt: &R) {
+        let Publisher { author: _, writer } = self;
+        let Some(writer) = writer else { unreachable!() };
+        writer.take(rt);
     }
 }

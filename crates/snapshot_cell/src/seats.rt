@@ -10,7 +10,7 @@ ghost use Rattle.snapshot_cell.specs.Rule.{knowing};
 ghost use Rattle.snapshot_cell.specs.Seen.{Knows, fresh_pass};
 
 use crate::NoMemory;
-use crate::copies::{SnapWriter, show_to_all};
+use crate::copies::{SnapWriter, try_show};
 use crate::opening::Snapshots;
 use crate::pass::Pass;
 use crate::publisher::Publisher;
@@ -80,7 +80,8 @@ fn shown_of(view: &Arc<HubView, Global>, line: &Line) -> Result<Shown, NoMemory>
     })
 }
 
-/// The two copies, which show the view, with room for so many readers.
+/// The two copies, which show the view, with room for so many readers; or want of memory. Nobody reads
+/// yet, so there is none to be waited for.
 fn copies<R: Wait>(
     alloc: Global,
     rt: &R,
@@ -100,7 +101,13 @@ fn copies<R: Wait>(
     let first = shown_of(view, line)?;
     let second = shown_of(view, line)?;
     let writer = Writer::new(alloc, first, second, readers as usize)?;
-    Ok(show_to_all(rt, writer, view, line))
+    match try_show(rt, writer, view, line) {
+        Ok(writer) => Ok(writer),
+        Err(writer) => {
+            writer.take(rt);
+            Err(NoMemory)
+        }
+    }
 }
 
 /// So many passes.

@@ -9,7 +9,7 @@ use std::alloc::Global;
 use std::io::{ErrorKind, Write};
 use std::net::{Net, TcpListener, TcpStream};
 use std::test::Fail;
-use std::{io, rt};
+use std::{io, rt, thread};
 
 /// A feed `b` of that kind, with messages from that place.
 fn feed(alloc: Global, kind: PortKind, place: &str) -> Result<FeedConf, NoMemory> {
@@ -41,9 +41,28 @@ fn two_asks<P: FeedPort>(
     Ok((first, port.next(&mut into)))
 }
 
+/// A standard error on the loopback: what is written to the first is read from the second.
+fn errors_beside(rt: &HostRuntime) -> Result<(TcpStream, TcpStream), Fail> {
+    let listener = TcpListener::bind(rt, "127.0.0.1:0")?;
+    let written = TcpStream::connect(rt, listener.local_addr()?)?;
+    let (read, _) = listener.accept()?;
+    Ok((written, read))
+}
+
+/// What was written there until now. No more is written.
+fn told(alloc: Global, errors: (TcpStream, TcpStream)) -> Result<String, Fail> {
+    let (written, read) = errors;
+    drop(written);
+    Ok(io::read_to_string(alloc, read)?)
+}
+
 /// What the first two asks of a feed's port come to, whatever its kind.
-fn two_asks_of<R>(alloc: Global, port: SystemPort<R>) -> Result<(PortAnswer, PortAnswer), NoMemory>
+fn two_asks_of<R, E>(
+    alloc: Global,
+    port: SystemPort<R, E>,
+) -> Result<(PortAnswer, PortAnswer), NoMemory>
 where
+    E: Write + Send + Copy,
     R: rt::Files + rt::Clock + Net<Listener = TcpListener, Stream = TcpStream> + Send + Copy,
     R::File: Send,
     R::Dir: Send,
@@ -59,89 +78,101 @@ where
 #[test]
 fn ports_without_messages_end(rt: HostRuntime) -> Result<(), Fail> {
     let alloc = rt.alloc();
-    let mut errors = errors_of(alloc);
     let none = open_port(
         &rt,
         alloc,
         &feed(alloc, PortKind::Nothing, "")?,
-        &mut errors,
+        rt.stderr(),
     )?;
     assert_eq!(rt;
         two_asks_of(alloc, none)?,
         (PortAnswer::End, PortAnswer::End)
     );
     let spool = feed(alloc, PortKind::Spool, "no/such/folder")?;
-    let spool = open_port(&rt, alloc, &spool, &mut errors)?;
+    let spool = open_port(&rt, alloc, &spool, rt.stderr())?;
     assert_eq!(rt;
         two_asks_of(alloc, spool)?,
         (PortAnswer::End, PortAnswer::End)
     );
-    assert_eq!(rt; errors.bytes(), b"".as_slice());
     Ok(())
 }
 
 #[test]
 fn a_stream_gives_what_is_sent(rt: HostRuntime) -> Result<(), Fail> {
     let alloc = rt.alloc();
-    let mut errors = errors_of(alloc);
     let listener = TcpListener::bind(&rt, "127.0.0.1:0")?;
     let place = format!(in alloc; "{}", listener.local_addr()?)?;
     let feed = feed(alloc, PortKind::Stream, place.as_str())?;
-    let port = open_port(&rt, alloc, &feed, &mut errors)?;
+    let port = open_port(&rt, alloc, &feed, rt.stderr())?;
+    let Ok(sender) = thread::spawn(&rt, move || send(&listener, &[0, 0, 0, 2, 7, 8])) else {
+        return Err(Fail::from(io::Error::from(ErrorKind::OutOfMemory)));
+    };
+    let asked = two_asks_of(alloc, port)?;
+    assert!(rt; sender.join(&rt).is_ok());
+    assert_eq!(rt; asked, (PortAnswer::Message, PortAnswer::End));
+    Ok(())
+}
+
+/// Sends that to the next that connects, and closes the connection.
+fn send(listener: &TcpListener, bytes: &[u8]) -> io::Result<()> {
     let (mut sender, _) = listener.accept()?;
-    sender.write_all(&[0, 0, 0, 2, 7, 8])?;
-    drop(sender);
+    sender.write_all(bytes)
+}
+
+/// What is told of a stream from that place, before its first ask and after two, which fail.
+fn told_of(rt: &HostRuntime, place: &str) -> Result<String, Fail> {
+    let alloc = rt.alloc();
+    let errors = errors_beside(rt)?;
+    let feed = feed(alloc, PortKind::Stream, place)?;
+    let port = open_port(rt, alloc, &feed, &errors.0)?;
     assert_eq!(rt;
         two_asks_of(alloc, port)?,
-        (PortAnswer::Message, PortAnswer::End)
+        (PortAnswer::Failed, PortAnswer::End)
     );
-    assert_eq!(rt; errors.bytes(), b"".as_slice());
-    Ok(())
+    told(alloc, errors)
 }
 
 #[test]
 fn a_connection_that_cannot_be_made_is_told(rt: HostRuntime) -> Result<(), Fail> {
     let alloc = rt.alloc();
-    let mut errors = errors_of(alloc);
     let gone = TcpListener::bind(&rt, "127.0.0.1:0")?;
     let place = format!(in alloc; "{}", gone.local_addr()?)?;
     drop(gone);
-    let feed = feed(alloc, PortKind::Stream, place.as_str())?;
-    let port = open_port(&rt, alloc, &feed, &mut errors)?;
-    assert_eq!(rt;
-        two_asks_of(alloc, port)?,
-        (PortAnswer::Failed, PortAnswer::End)
-    );
     let line = format!(in alloc; "hub: feed b can't connect to {place}: refused\n")?;
-    assert_eq!(rt; errors.bytes(), line.as_bytes());
+    assert_eq!(rt; told_of(&rt, place.as_str())?, line);
+    Ok(())
+}
+
+#[test]
+fn nothing_is_connected_to_before_the_first_ask(rt: HostRuntime) -> Result<(), Fail> {
+    let alloc = rt.alloc();
+    let errors = errors_beside(&rt)?;
+    let feed = feed(alloc, PortKind::Stream, "no port")?;
+    let port = open_port(&rt, alloc, &feed, &errors.0)?;
+    drop(port);
+    assert_eq!(rt; told(alloc, errors)?.as_str(), "");
     Ok(())
 }
 
 #[test]
 fn a_feed_that_is_polled_fails_where_nobody_listens(rt: HostRuntime) -> Result<(), Fail> {
     let alloc = rt.alloc();
-    let mut errors = errors_of(alloc);
     let gone = TcpListener::bind(&rt, "127.0.0.1:0")?;
     let place = format!(in alloc; "{}/feed", gone.local_addr()?)?;
     drop(gone);
     let feed = feed(alloc, PortKind::Poll, place.as_str())?;
-    let port = open_port(&rt, alloc, &feed, &mut errors)?;
+    let port = open_port(&rt, alloc, &feed, rt.stderr())?;
     assert_eq!(rt;
         two_asks_of(alloc, port)?,
         (PortAnswer::Failed, PortAnswer::Failed)
     );
-    assert_eq!(rt; errors.bytes(), b"".as_slice());
     Ok(())
 }
 
 #[test]
 fn an_address_is_cleaned_and_judged(rt: HostRuntime) -> Result<(), Fail> {
-    let alloc = rt.alloc();
-    let mut errors = errors_of(alloc);
-    let feed = feed(alloc, PortKind::Stream, "no\nport")?;
-    let _port = open_port(&rt, alloc, &feed, &mut errors)?;
     let line = "hub: feed b can't connect to no port: not an address with a port\n";
-    assert_eq!(rt; errors.bytes(), line.as_bytes());
+    assert_eq!(rt; told_of(&rt, "no\nport")?.as_str(), line);
     Ok(())
 }
 
