@@ -22,9 +22,11 @@ mod dialing;
 mod listening;
 mod opening;
 mod telling;
+mod told;
 
 pub use connection::{Calling, Connection};
 pub use dialing::TcpDial;
 pub use listening::{clocks_of, doors_of, listen, reader_count};
 pub use opening::{SystemPort, open_port, open_ports};
 pub use std::alloc::AllocError as NoMemory;
+pub use told::ToldPort;
