@@ -219,8 +219,12 @@ fn a_message_that_is_too_long_is_told(rt: HostRuntime) -> Result<(), Fail> {
     let alloc = rt.alloc();
     let bytes = Vec::from_slice(alloc, &[1, 0, 0, 1])?;
     let source = MemorySource::new(bytes, Vec::new(alloc), Vec::new(alloc));
-    let lines = "hub: feed b has sent a message of more than 16777216 bytes\nhub: feed b has ended\n";
-    assert_eq!(rt; told_by(&rt, PortKind::Stream, StreamPort::new(source))?.as_str(), lines);
+    let lines =
+        "hub: feed b has sent a message of more than 16777216 bytes\nhub: feed b has ended\n";
+    assert_eq!(rt;
+        told_by(&rt, PortKind::Stream, StreamPort::new(source))?.as_str(),
+        lines
+    );
     Ok(())
 }
 
