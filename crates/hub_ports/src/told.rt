@@ -39,9 +39,9 @@ pub(crate) struct Teller<E> {
     errors: E,
 }
 
-/// The port of a feed, with the same answers. The first of them that is no message is told on `E`, and
-/// so is the first message that is too long: whoever reads the board of a server that goes on learns
-/// why it follows the feed no more.
+/// The port of a feed, with the same answers. Its end, or that it failed, is told on `E`, and so is its
+/// first message that is too long: whoever runs a server that goes on learns why its boards follow the
+/// feed no more.
 #[derive(Drop)]
 pub struct ToldPort<P, E> {
     port: P,
