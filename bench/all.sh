@@ -234,7 +234,9 @@ rows("`gen.sh`",
 rows("`serve.sh`",
      ("responses a second of one connection in memory: a board of one row, one as JSON, a stop that isn't there",
       joined(found("serve", r"s: ([\d,]+) a second"))),
-     ("times as long as `cat` takes to copy them", joined(found("serve", r"([\d,]+) times less"))))
+     ("times as long as `cat` takes to copy them", joined(found("serve", r"([\d,]+) times less"))),
+     ("a response; a connection with one request", joined(found("serve", r"([\d,]+) instructions a response")) + "; "
+      + joined(found("serve", r"([\d,]+) a connection with one request")) + " instructions"))
 rows("`looks.sh 4000000 2000`",
      ("looks a second of passes at a hub's snapshots, in one thread and in four",
       joined([looks(1, False, "cell"), looks(4, False, "cell")], ".0f") + " million"),

@@ -104,8 +104,17 @@ check "refuses the next one, while its feeds go on" is "$status" 7
 check "and runs" kill -0 "$hub_process"
 stop_process "$hub_process"
 
-echo "== a hub that ends by itself"
+echo "== a sender that ends"
+start_hub left "${feeds[@]}"
+wait_for has_accepted "$hub_address" notices trams
 stop_process "$sender_process"
+check "is told" wait_for grep -qx 'hub: feed trams has ended' "$work/left.err"
+sed 's/^/        /' "$work/left.err"
+check "and so is the spool, once each" is "$(grep -c ' has ended$' "$work/left.err")" 2
+check "while the hub goes on" curl -fsS --max-time 5 -o "$work/answer" "http://$hub_address/status"
+stop_process "$hub_process"
+
+echo "== a hub that ends by itself"
 start_hub ends "${feeds[0]}" "$no_trams" 's/^readers = .*/readers = 2/' '1iconnections = 2'
 for _ in 1 2 3 4; do curl -fsS --max-time 5 -o "$work/answer" "http://$hub_address/board/city/ST"; done
 status=0

@@ -44,8 +44,9 @@ stop_process "$sender_process"
 sleep 4
 check "trams that end are reported" feeds_are 1 3 notices=0
 check "and are not while they may be silent for longer" feeds_are 0 60
-hub_line=$(cat "$work/first.err")
-check "the hub said nothing else on standard error" is "$hub_line" "hub: listening on $first"
+hub_lines=$(sort "$work/first.err")
+check "the hub said so on standard error, and nothing else" is "$hub_lines" \
+  "$(printf '%s\n' 'hub: feed notices has ended' 'hub: feed trams has ended' "hub: listening on $first")"
 check "and nothing on standard output" is "$(cat "$work/first.out")" ""
 
 echo "== a hub that can't listen, or can't connect"

@@ -71,6 +71,8 @@ put notices calm
 launch_nginx "$folder"
 check "and follows once it is back" follows added
 check "the feed that may fail five times is over, and its notice stays" has_alert
+check "which the hub has told" grep -qx 'hub: feed notices has failed' "$work/hub.err"
+check "and nothing of the other one" is "$(grep -c '^hub: feed trams ' "$work/hub.err" || true)" 0
 
 echo "== until it was asked $polls times"
 while [ "$(polled)" -lt $((polls - 20)) ]; do

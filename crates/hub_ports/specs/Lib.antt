@@ -1,3 +1,4 @@
 pub mod Dials
 pub mod Lines
+pub mod News
 pub mod Opened

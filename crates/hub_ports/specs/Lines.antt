@@ -6,6 +6,8 @@ use Rattle.std.specs.declared.io.ErrorKind.{ErrorKind}
 use Rattle.std.specs.declared.io.ErrorKind.TheVariants.{AddrInUse, AddrNotAvailable, ConnectionRefused, HostUnreachable, InvalidInput, NetworkUnreachable, NotFound, OutOfMemory, PermissionDenied, TimedOut, Uncategorized}
 use Rattle.std.specs.declared.net.SocketAddr.{SocketAddr}
 use Rattle.text_defs.specs.Cleaned.{cleaned_text}
+use Rattle.hub_ports.specs.declared.told.FeedNews.{FeedNews}
+use Rattle.hub_ports.specs.declared.told.FeedNews.TheVariants as news
 
 -- a cause in a few words
 abbrev pub cause_text : ErrorKind → List ℕ
@@ -45,6 +47,19 @@ connecting_text feed = codes "hub: feed " ++ feed ++ codes " can't connect to "
 -- `hub: feed <feed> can't connect to <place>: <cause>`
 abbrev pub no_connection_line : List ℕ → List ℕ → ErrorKind → List ℕ
 no_connection_line feed place cause = fault_line (connecting_text feed) place cause
+
+-- what is told of a feed, in a few words
+abbrev pub news_text : FeedNews → List ℕ
+news_text news.TooLong = codes "has sent a message of more than 16777216 bytes"
+news_text news.Ended = codes "has ended"
+news_text news.Failed = codes "has failed"
+
+abbrev pub feed_line : List ℕ → List ℕ → List ℕ
+feed_line feed words = codes "hub: feed " ++ feed ++ codes " " ++ words ++ codes "\n"
+
+-- `hub: feed <feed> <news>`
+abbrev pub news_line : List ℕ → FeedNews → List ℕ
+news_line feed given = feed_line feed (news_text given)
 
 -- the output has so many bytes of the line behind what it had, from its first on
 abbrev pub Tells : Option (List ℕ) → Option (List ℕ) → List ℕ → Type 0

@@ -7,7 +7,8 @@
 //! server goes on without what can't be had, since a port without a connection fails when it is asked, and so does a
 //! door without a listener. Nothing connects before it is asked for its first message, so by the thread that asks: a
 //! stream by a [`Connection`], which tells on standard error where there is none, and a feed that is polled by a
-//! [`TcpDial`].
+//! [`TcpDial`]. What becomes of a feed while a server runs, its port tells there by a [`ToldPort`] around it: that it
+//! has ended, that it has failed, that it has sent a message that is too long, each once.
 //!
 //! What the contracts say: each port is of its feed's kind (`specs/Opened`), there are as many ports as feeds, and as
 //! many doors and clocks as are asked for. What the system itself does, no contract knows.
@@ -22,9 +23,11 @@ mod dialing;
 mod listening;
 mod opening;
 mod telling;
+mod told;
 
 pub use connection::{Calling, Connection};
 pub use dialing::TcpDial;
 pub use listening::{clocks_of, doors_of, listen, reader_count};
 pub use opening::{SystemPort, open_port, open_ports};
 pub use std::alloc::AllocError as NoMemory;
+pub use told::ToldPort;

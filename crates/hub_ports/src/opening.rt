@@ -8,6 +8,7 @@ ghost use Rattle.hub_ports.specs.Opened.{IsPortOf, IsPollingPortOf};
 use crate::NoMemory;
 use crate::connection::Connection;
 use crate::dialing::TcpDial;
+use crate::told::ToldPort;
 use copying::Copied;
 use feed_port::{FeedPort, MemoryPort, SpoolPort, StreamPort};
 use hub_config_defs::{FeedConf, PortKind};
@@ -32,14 +33,14 @@ pub enum SystemPort<R, E> {
     Poll(PollPort<TcpDial<R>>),
 }
 
-/// A port for each feed, in their order, as `boxed` hands it on.
+/// A port for each feed, in their order, as `boxed` hands it on. What becomes of each is told on `errors`.
 pub fn open_ports<R, P, F, E>(
     rt: &R,
     alloc: Global,
     feeds: &[FeedConf],
     boxed: &F,
     errors: E,
-) -> Result<Vec<P>, NoMemory>
+) -> Result<Vec<ToldPort<P, E>>, NoMemory>
 where
     R: rt::Files + rt::Clock + Net<Listener = TcpListener, Stream = TcpStream> + Send + Copy,
     R::File: Send,
@@ -52,7 +53,8 @@ where
 {
     let mut ports = Vec::with_capacity(alloc, feeds.len())?;
     for feed in feeds {
-        ports.push(boxed(open_port(rt, alloc, feed, errors)?)?)?;
+        let port = boxed(open_port(rt, alloc, feed, errors)?)?;
+        ports.push(ToldPort::new(alloc, port, feed, errors)?)?;
     }
     Ok(ports)
 }

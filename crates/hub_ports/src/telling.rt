@@ -6,6 +6,7 @@ ghost use Rattle.hub_ports.specs.Lines as lines;
 ghost use Rattle.hub_ports.specs.Lines.{Tells};
 
 use crate::NoMemory;
+use crate::told::FeedNews;
 use hub_outside::{Sink, write_all};
 use std::alloc::Global;
 use std::io::ErrorKind;
@@ -54,6 +55,30 @@ fn connecting_text(alloc: Global, feed: &str) -> Result<String, NoMemory>
     ensures { IfOk result (λ text. string_bytes text ≡ lines.connecting_text feed.now) }
 {
     format!(in alloc; "hub: feed {feed} can't connect to ")
+}
+
+/// `hub: feed <feed> <news>`, with an LF.
+pub(crate) fn news_line(alloc: Global, feed: &str, news: FeedNews) -> Result<String, NoMemory>
+    ensures { IfOk result (λ line. string_bytes line ≡ lines.news_line feed.now news) }
+{
+    feed_line(alloc, feed, news_text(news))
+}
+
+fn feed_line(alloc: Global, feed: &str, words: &str) -> Result<String, NoMemory>
+    ensures { IfOk result (λ line. string_bytes line ≡ lines.feed_line feed.now words.now) }
+{
+    format!(in alloc; "hub: feed {feed} {words}\n")
+}
+
+/// What is told of a feed, in a few words.
+fn news_text(news: FeedNews) -> &'static str
+    ensures { result.now ≡ lines.news_text news }
+{
+    match news {
+        FeedNews::TooLong => "has sent a message of more than 16777216 bytes",
+        FeedNews::Ended => "has ended",
+        FeedNews::Failed => "has failed",
+    }
 }
 
 /// What can't be done, the address with a space for each control character, and why.

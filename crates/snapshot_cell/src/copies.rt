@@ -39,7 +39,7 @@ pub(crate) fn try_show<R: Wait>(
         ≡ arc_value shared.now) }
     ensures place { IfOk result (λ writer. client_view writer.desk.place
         ≡ knowing writer.desk.shown.value (client_view first.desk.place)) }
-    ensures kept { IfErr result (λ writer. writer.desk.shown ≡ first.desk.shown) }
+    ensures kept { IfErr result (λ writer. writer.desk.shown.value ≡ first.desk.shown.value) }
     ensures stays { IfErr result (λ writer. client_view writer.desk.place
         ≡ client_view first.desk.place) }
 {

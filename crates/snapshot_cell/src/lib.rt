@@ -10,7 +10,7 @@
 //! - a pass that is told to let go of its view (`Oracle::release`) goes on to know the same history;
 //! - [`Publisher::show`] tells a pass all that was published, [`Publisher::tell`] a receipt of it;
 //! - [`Publisher::close`] marks the end, behind which nothing is published, and [`Pass::finish`] makes
-//!   a pass know the ended history.
+//!   a pass know the ended history; [`Publisher::abandon`] ends it where nobody needs the history.
 //!
 //! What holds a publisher is not dropped: it ends by [`Ending::end`], or within a call that finds no
 //! memory. The crate stands on `hub_history` for what is known of the history, and on `board_parts`

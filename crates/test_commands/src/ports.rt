@@ -1,9 +1,9 @@
 //! Ports, listeners and doors over the loopback, with ample memory.
 
-use feed_port::{FeedPort, LONGEST_MESSAGE, PortAnswer};
+use feed_port::{FeedPort, LONGEST_MESSAGE, MemoryPort, PortAnswer, StreamPort};
 use hub_config_defs::{FeedConf, PortKind};
-use hub_outside::{Buf, Door, DoorAnswer, MemorySink, NoMemory};
-use hub_ports::{SystemPort, doors_of, listen, open_port, reader_count};
+use hub_outside::{Buf, Door, DoorAnswer, MemorySink, MemorySource, NoMemory};
+use hub_ports::{SystemPort, ToldPort, doors_of, listen, open_port, reader_count};
 use rt_types::Text;
 use std::alloc::Global;
 use std::io::{ErrorKind, Write};
@@ -119,17 +119,14 @@ fn send(listener: &TcpListener, bytes: &[u8]) -> io::Result<()> {
     sender.write_all(bytes)
 }
 
-/// What is told of a stream from that place, before its first ask and after two, which fail.
-fn told_of(rt: &HostRuntime, place: &str) -> Result<String, Fail> {
+/// What the first two asks of a stream from that place come to, and what is told of it.
+fn told_of(rt: &HostRuntime, place: &str) -> Result<((PortAnswer, PortAnswer), String), Fail> {
     let alloc = rt.alloc();
     let errors = errors_beside(rt)?;
     let feed = feed(alloc, PortKind::Stream, place)?;
     let port = open_port(rt, alloc, &feed, &errors.0)?;
-    assert_eq!(rt;
-        two_asks_of(alloc, port)?,
-        (PortAnswer::Failed, PortAnswer::End)
-    );
-    told(alloc, errors)
+    let asked = two_asks_of(alloc, port)?;
+    Ok((asked, told(alloc, errors)?))
 }
 
 #[test]
@@ -139,7 +136,9 @@ fn a_connection_that_cannot_be_made_is_told(rt: HostRuntime) -> Result<(), Fail>
     let place = format!(in alloc; "{}", gone.local_addr()?)?;
     drop(gone);
     let line = format!(in alloc; "hub: feed b can't connect to {place}: refused\n")?;
-    assert_eq!(rt; told_of(&rt, place.as_str())?, line);
+    let (asked, told) = told_of(&rt, place.as_str())?;
+    assert_eq!(rt; asked, (PortAnswer::Failed, PortAnswer::End));
+    assert_eq!(rt; told, line);
     Ok(())
 }
 
@@ -172,7 +171,60 @@ fn a_feed_that_is_polled_fails_where_nobody_listens(rt: HostRuntime) -> Result<(
 #[test]
 fn an_address_is_cleaned_and_judged(rt: HostRuntime) -> Result<(), Fail> {
     let line = "hub: feed b can't connect to no port: not an address with a port\n";
-    assert_eq!(rt; told_of(&rt, "no\nport")?.as_str(), line);
+    let (asked, told) = told_of(&rt, "no\nport")?;
+    assert_eq!(rt; asked, (PortAnswer::Failed, PortAnswer::End));
+    assert_eq!(rt; told.as_str(), line);
+    Ok(())
+}
+
+/// What is told of a feed of that kind by two asks of its port.
+fn told_by<P: FeedPort>(rt: &HostRuntime, kind: PortKind, port: P) -> Result<String, Fail> {
+    let alloc = rt.alloc();
+    let errors = errors_beside(rt)?;
+    let feed = feed(alloc, kind, "")?;
+    let mut port = ToldPort::new(alloc, port, &feed, &errors.0)?;
+    two_asks(alloc, &mut port)?;
+    drop(port);
+    told(alloc, errors)
+}
+
+/// A port without messages, of which those asks fail.
+fn empty_port(alloc: Global, failing: &[u64]) -> Result<MemoryPort, NoMemory> {
+    let failing = Vec::from_slice(alloc, failing)?;
+    Ok(MemoryPort::new(Vec::new(alloc), failing))
+}
+
+#[test]
+fn the_end_of_a_feed_is_told_once(rt: HostRuntime) -> Result<(), Fail> {
+    let alloc = rt.alloc();
+    let line = "hub: feed b has ended\n";
+    let told = told_by(&rt, PortKind::Spool, empty_port(alloc, &[])?)?;
+    assert_eq!(rt; told.as_str(), line);
+    // One without messages has nothing to end.
+    let told = told_by(&rt, PortKind::Nothing, empty_port(alloc, &[])?)?;
+    assert_eq!(rt; told.as_str(), "");
+    Ok(())
+}
+
+#[test]
+fn a_feed_that_has_failed_is_told_once(rt: HostRuntime) -> Result<(), Fail> {
+    let port = empty_port(rt.alloc(), &[1])?;
+    let line = "hub: feed b has failed\n";
+    assert_eq!(rt; told_by(&rt, PortKind::Poll, port)?.as_str(), line);
+    Ok(())
+}
+
+#[test]
+fn a_message_that_is_too_long_is_told(rt: HostRuntime) -> Result<(), Fail> {
+    let alloc = rt.alloc();
+    let bytes = Vec::from_slice(alloc, &[1, 0, 0, 1])?;
+    let source = MemorySource::new(bytes, Vec::new(alloc), Vec::new(alloc));
+    let lines =
+        "hub: feed b has sent a message of more than 16777216 bytes\nhub: feed b has ended\n";
+    assert_eq!(rt;
+        told_by(&rt, PortKind::Stream, StreamPort::new(source))?.as_str(),
+        lines
+    );
     Ok(())
 }
 
