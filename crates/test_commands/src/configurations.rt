@@ -1,6 +1,7 @@
 //! Configurations and faults from outside, written by hand after the table of keys.
 
 use hub_config::{ConfFault, NoMemory, PortKind, fault_line, read_conf};
+use hub_config_defs::FeedConf;
 use std::alloc::Global;
 use std::test::Fail;
 
@@ -37,18 +38,31 @@ fn city_has(alloc: Global, before: &str, after: &str, line: &str) -> Result<bool
     has_fault(alloc, text.as_str(), line)
 }
 
+/// The numbers of a feed: of its schedule, `max_age`, `every`, `polls` and `tries`.
+fn numbers_of(feed: &FeedConf) -> [u64; 5] {
+    [
+        u64::from(feed.schedule),
+        feed.max_age,
+        feed.every,
+        feed.polls,
+        u64::from(feed.tries),
+    ]
+}
+
 #[test]
 fn reads_the_city(rt: HostRuntime) -> Result<(), Fail> {
     let conf = read_conf(rt.alloc(), CITY.as_bytes())?;
-    assert_eq!(rt; conf.readers, 2);
-    assert_eq!(rt; conf.listen.as_str(), "127.0.0.1:8080");
-    assert_eq!(rt; conf.connections, 0);
     let schedules = conf.schedules.as_slice();
     assert_eq!(rt; schedules.len(), 1);
-    assert_eq!(rt; schedules[0].zone.as_str(), "CET-1CEST,M3.5.0,M10.5.0/3");
-    assert_eq!(rt; schedules[0].first, 20_250_329);
-    assert_eq!(rt; schedules[0].days, 3);
-    assert_eq!(rt; schedules[0].prefix.as_str(), "");
+    let schedule = &schedules[0];
+    let texts = [
+        conf.listen.as_str(),
+        schedule.zone.as_str(),
+        schedule.prefix.as_str(),
+    ];
+    assert_eq!(rt; texts, ["127.0.0.1:8080", "CET-1CEST,M3.5.0,M10.5.0/3", ""]);
+    assert_eq!(rt; (conf.readers, conf.connections), (2, 0));
+    assert_eq!(rt; (schedule.first, schedule.days), (20_250_329, 3));
     Ok(())
 }
 
@@ -57,14 +71,10 @@ fn reads_its_feeds(rt: HostRuntime) -> Result<(), Fail> {
     let conf = read_conf(rt.alloc(), CITY.as_bytes())?;
     let feeds = conf.feeds.as_slice();
     assert_eq!(rt; feeds.len(), 2);
-    assert_eq!(rt; feeds[1].name.as_str(), "b");
-    assert_eq!(rt; feeds[1].schedule, 0);
-    assert_eq!(rt; feeds[1].kind, PortKind::Nothing);
-    assert_eq!(rt; feeds[1].place.as_str(), "");
-    assert_eq!(rt; feeds[1].max_age, 0);
-    assert_eq!(rt; feeds[1].every, 10);
-    assert_eq!(rt; feeds[1].polls, 0);
-    assert_eq!(rt; feeds[1].tries, 10);
+    let feed = &feeds[1];
+    assert_eq!(rt; [feed.name.as_str(), feed.place.as_str()], ["b", ""]);
+    assert_eq!(rt; feed.kind, PortKind::Nothing);
+    assert_eq!(rt; numbers_of(feed), [0, 0, 10, 0, 10]);
     Ok(())
 }
 
@@ -74,18 +84,19 @@ const FULL: &str =
 #[test]
 fn reads_every_key(rt: HostRuntime) -> Result<(), Fail> {
     let conf = read_conf(rt.alloc(), FULL.as_bytes())?;
-    assert_eq!(rt; conf.readers, 64);
-    assert_eq!(rt; conf.connections, 1_000_000_000);
-    assert_eq!(rt; conf.schedules.as_slice().len(), 2);
+    assert_eq!(rt; (conf.readers, conf.connections), (64, 1_000_000_000));
     let feeds = conf.feeds.as_slice();
+    assert_eq!(rt; conf.schedules.as_slice().len(), 2);
     assert_eq!(rt; feeds.len(), 1);
-    assert_eq!(rt; feeds[0].schedule, 1);
-    assert_eq!(rt; feeds[0].kind, PortKind::Poll);
-    assert_eq!(rt; feeds[0].place.as_str(), "127.0.0.1:9//x?y");
-    assert_eq!(rt; feeds[0].max_age, 31_622_400);
-    assert_eq!(rt; feeds[0].every, 86_400);
-    assert_eq!(rt; feeds[0].polls, 1_000_000_000);
-    assert_eq!(rt; feeds[0].tries, 1000);
+    let feed = &feeds[0];
+    assert_eq!(rt;
+        (feed.kind, feed.place.as_str()),
+        (PortKind::Poll, "127.0.0.1:9//x?y")
+    );
+    assert_eq!(rt;
+        numbers_of(feed),
+        [1, 31_622_400, 86_400, 1_000_000_000, 1000]
+    );
     Ok(())
 }
 

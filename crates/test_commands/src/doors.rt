@@ -44,10 +44,13 @@ fn memory_door_hands_out_its_links(rt: HostRuntime) -> Result<(), Fail> {
     let alloc = rt.alloc();
     let links = vec![in alloc; link_of(alloc, b"one")?, link_of(alloc, b"two")?]?;
     let mut door = MemoryDoor::new(alloc, links, vec![in alloc; 2]?)?;
-    assert_eq!(rt; ask(&mut door, b"1"), "link");
-    assert_eq!(rt; ask(&mut door, b"2"), "failed");
-    assert_eq!(rt; ask(&mut door, b"3"), "link");
-    assert_eq!(rt; ask(&mut door, b"4"), "end");
+    let answers = [
+        ask(&mut door, b"1"),
+        ask(&mut door, b"2"),
+        ask(&mut door, b"3"),
+        ask(&mut door, b"4"),
+    ];
+    assert_eq!(rt; answers, ["link", "failed", "link", "end"]);
     let mut written = String::new(alloc);
     for link in door.links_done() {
         if link.output.bytes() == b"1".as_slice() {
@@ -67,6 +70,28 @@ fn open_gate_holds_nobody(_rt: HostRuntime) -> Result<(), Fail> {
     Ok(())
 }
 
+/// What a door's next link reads and then answers to `told`, and the first three bytes that it read.
+fn serve_one<C: rt::Clock + Copy>(
+    door: &mut TcpDoor<TcpListener, C>,
+) -> Option<(ReadAnswer, [u8; 3], WriteAnswer)> {
+    let DoorAnswer::Link(mut input, mut output) = door.next() else {
+        return None;
+    };
+    let mut into = [0u8; 8];
+    let read = input.read(&mut into);
+    let written = output.write(b"told");
+    door.done(input, output);
+    Some((read, [into[0], into[1], into[2]], written))
+}
+
+/// How many bytes two reads of a client give, and the first four.
+fn two_reads(client: &mut TcpStream) -> io::Result<([usize; 2], [u8; 4])> {
+    let mut into = [0u8; 8];
+    let first = client.read(&mut into)?;
+    let bytes = [into[0], into[1], into[2], into[3]];
+    Ok(([first, client.read(&mut into)?], bytes))
+}
+
 #[test]
 fn tcp_door_hands_out_connections(rt: HostRuntime) -> Result<(), Fail> {
     let listener = TcpListener::bind(&rt, "127.0.0.1:0")?;
@@ -75,18 +100,9 @@ fn tcp_door_hands_out_connections(rt: HostRuntime) -> Result<(), Fail> {
     let mut door = TcpDoor::new(alloc, Arc::new(alloc, listener)?, 1, rt);
     let mut client = TcpStream::connect(&rt, address)?;
     client.write_all(b"ask")?;
-    let DoorAnswer::Link(mut input, mut output) = door.next() else {
-        return Err(Fail::from(io::Error::from(ErrorKind::NotConnected)));
-    };
-    let mut into = [0u8; 8];
-    assert_eq!(rt; input.read(&mut into), ReadAnswer::Got(3));
-    assert_eq!(rt; &into[..3], b"ask".as_slice());
-    assert_eq!(rt; output.write(b"told"), WriteAnswer::Took(4));
-    door.done(input, output);
-    let got = client.read(&mut into)?;
-    assert_eq!(rt; got, 4);
-    assert_eq!(rt; &into[..4], b"told".as_slice());
-    assert_eq!(rt; client.read(&mut into)?, 0);
+    let served = (ReadAnswer::Got(3), *b"ask", WriteAnswer::Took(4));
+    assert_eq!(rt; serve_one(&mut door), Some(served));
+    assert_eq!(rt; two_reads(&mut client)?, ([4, 0], *b"told"));
     assert!(rt; matches!(door.next(), DoorAnswer::End));
     Ok(())
 }
@@ -163,11 +179,15 @@ fn asked(rt: &HostRuntime, failures: u32, kind: ErrorKind) -> Result<(&'static s
 
 #[test]
 fn what_passes_is_waited_for(rt: HostRuntime) -> Result<(), Fail> {
-    assert_eq!(rt; asked(&rt, 3, ErrorKind::ConnectionAborted)?, ("link", 3));
-    assert_eq!(rt; asked(&rt, 1, ErrorKind::PermissionDenied)?, ("link", 1));
-    assert_eq!(rt; asked(&rt, 2, ErrorKind::Unsupported)?, ("link", 2));
-    assert_eq!(rt; asked(&rt, 9000, ErrorKind::Uncategorized)?, ("link", 9000));
-    assert_eq!(rt; asked(&rt, 1, ErrorKind::InvalidInput)?, ("failed", 0));
+    for (failures, kind, answer) in [
+        (3, ErrorKind::ConnectionAborted, ("link", 3)),
+        (1, ErrorKind::PermissionDenied, ("link", 1)),
+        (2, ErrorKind::Unsupported, ("link", 2)),
+        (9000, ErrorKind::Uncategorized, ("link", 9000)),
+        (1, ErrorKind::InvalidInput, ("failed", 0)),
+    ] {
+        assert_eq!(rt; asked(&rt, failures, kind)?, answer, "{failures} failures");
+    }
     Ok(())
 }
 
@@ -221,15 +241,9 @@ fn an_answer_outlives_what_nobody_read(rt: HostRuntime) -> Result<(), Fail> {
     let mut client = TcpStream::connect(&rt, address)?;
     client.write_all(&[b'x'; 60_000])?;
     client.shutdown(Shutdown::Write)?;
-    let DoorAnswer::Link(mut input, mut output) = door.next() else {
-        return Err(Fail::from(io::Error::from(ErrorKind::NotConnected)));
-    };
-    let mut into = [0u8; 8];
-    assert_eq!(rt; input.read(&mut into), ReadAnswer::Got(8));
-    assert_eq!(rt; output.write(b"told"), WriteAnswer::Took(4));
-    door.done(input, output);
-    assert_eq!(rt; client.read(&mut into)?, 4);
-    assert_eq!(rt; client.read(&mut into)?, 0);
+    let served = (ReadAnswer::Got(8), *b"xxx", WriteAnswer::Took(4));
+    assert_eq!(rt; serve_one(&mut door), Some(served));
+    assert_eq!(rt; two_reads(&mut client)?, ([4, 0], *b"told"));
     Ok(())
 }
 
@@ -284,11 +298,11 @@ fn a_new_head_has_its_own_time(rt: HostRuntime) -> Result<(), Fail> {
         return Err(Fail::from(io::Error::from(ErrorKind::NotConnected)));
     };
     let mut into = [0u8; 1];
-    assert_eq!(rt; input.read(&mut into), ReadAnswer::Got(1));
-    assert_eq!(rt; output.write(b"told"), WriteAnswer::Took(4));
+    let first = (input.read(&mut into), output.write(b"told"));
     seconds.set(100);
-    assert_eq!(rt; input.read(&mut into), ReadAnswer::Got(1));
-    assert_eq!(rt; output.write(b"told"), WriteAnswer::Took(4));
+    let second = (input.read(&mut into), output.write(b"told"));
+    let served = (ReadAnswer::Got(1), WriteAnswer::Took(4));
+    assert_eq!(rt; (first, second), (served, served));
     drop(client);
     door.done(input, output);
     Ok(())

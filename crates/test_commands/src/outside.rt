@@ -21,19 +21,34 @@ fn buffer_keeps_its_room(rt: HostRuntime) -> Result<(), Fail> {
     Ok(())
 }
 
+/// What five reads of a source answer, and the first two bytes after the third.
+fn five_reads(source: &mut MemorySource) -> ([ReadAnswer; 5], [u8; 2]) {
+    let mut into = [0u8; 8];
+    let first = source.read(&mut into);
+    let second = source.read(&mut into);
+    let third = source.read(&mut into);
+    let bytes = [into[0], into[1]];
+    let fourth = source.read(&mut into);
+    let fifth = source.read(&mut into);
+    ([first, second, third, fourth, fifth], bytes)
+}
+
 #[test]
 fn memory_source_gives_pieces(rt: HostRuntime) -> Result<(), Fail> {
     let bytes = b"abcd".to_vec(rt.alloc())?;
     let pieces = vec![in rt.alloc(); 0, 9, 2]?;
     let failing = vec![in rt.alloc(); 2]?;
     let mut source = MemorySource::new(bytes, pieces, failing);
-    let mut into = [0u8; 8];
-    assert_eq!(rt; source.read(&mut into), ReadAnswer::Got(1));
-    assert_eq!(rt; source.read(&mut into), ReadAnswer::Failed);
-    assert_eq!(rt; source.read(&mut into), ReadAnswer::Got(2));
-    assert_eq!(rt; &into[..2], b"bc".as_slice());
-    assert_eq!(rt; source.read(&mut into), ReadAnswer::Got(1));
-    assert_eq!(rt; source.read(&mut into), ReadAnswer::End);
+    let (answers, bytes) = five_reads(&mut source);
+    let expected = [
+        ReadAnswer::Got(1),
+        ReadAnswer::Failed,
+        ReadAnswer::Got(2),
+        ReadAnswer::Got(1),
+        ReadAnswer::End,
+    ];
+    assert_eq!(rt; answers, expected);
+    assert_eq!(rt; bytes, *b"bc");
     Ok(())
 }
 
@@ -42,9 +57,13 @@ fn memory_sink_takes_pieces(rt: HostRuntime) -> Result<(), Fail> {
     let pieces = vec![in rt.alloc(); 2]?;
     let failing = vec![in rt.alloc(); 3]?;
     let mut sink = MemorySink::new(rt.alloc(), pieces, failing);
-    assert_eq!(rt; sink.write(b"abc"), WriteAnswer::Took(2));
-    assert_eq!(rt; sink.write(b"cd"), WriteAnswer::Took(2));
-    assert_eq!(rt; sink.write(b"e"), WriteAnswer::Failed);
+    let answers = [sink.write(b"abc"), sink.write(b"cd"), sink.write(b"e")];
+    let expected = [
+        WriteAnswer::Took(2),
+        WriteAnswer::Took(2),
+        WriteAnswer::Failed,
+    ];
+    assert_eq!(rt; answers, expected);
     assert_eq!(rt; sink.bytes(), b"abcd".as_slice());
     Ok(())
 }
@@ -58,32 +77,28 @@ fn memory_files_are_found(rt: HostRuntime) -> Result<(), Fail> {
     let failing = vec![in rt.alloc(); 4]?;
     let mut files = MemoryFiles::new(vec![in rt.alloc(); stops]?, failing);
     let mut into = Buf::new(rt.alloc());
-    assert_eq!(rt;
-        files.read_file("city/stops.txt", 7, &mut into),
-        FileAnswer::Read
-    );
+    let whole = files.read_file("city/stops.txt", 7, &mut into);
     assert_eq!(rt; into.as_slice(), b"stop_id".as_slice());
-    assert_eq!(rt;
+    let answers = [
+        whole,
         files.read_file("city/stops.txt", 6, &mut into),
-        FileAnswer::TooLong(7)
-    );
-    assert_eq!(rt;
         files.read_file("stops.txt", 7, &mut into),
-        FileAnswer::Absent
-    );
-    assert_eq!(rt;
         files.read_file("city/stops.txt", 7, &mut into),
-        FileAnswer::Failed
-    );
+    ];
+    let expected = [
+        FileAnswer::Read,
+        FileAnswer::TooLong(7),
+        FileAnswer::Absent,
+        FileAnswer::Failed,
+    ];
+    assert_eq!(rt; answers, expected);
     Ok(())
 }
 
 #[test]
 fn clocks_show_moments(rt: HostRuntime) -> Result<(), Fail> {
     let mut fixed = FixedClock::new(vec![in rt.alloc(); 5, 3]?);
-    assert_eq!(rt; fixed.now(), 5);
-    assert_eq!(rt; fixed.now(), 3);
-    assert_eq!(rt; fixed.now(), 3);
+    assert_eq!(rt; [fixed.now(), fixed.now(), fixed.now()], [5, 3, 3]);
     let moment = SystemClock::new(&rt).now();
     // It is past the year 2020, and no leap of the clock is tested.
     assert!(rt; moment > 1_577_836_800 && moment < LAST_MOMENT);
@@ -150,13 +165,14 @@ fn nothing_is_in_a_plain_file(rt: HostRuntime) -> Result<(), Fail> {
 fn std_reader_and_writer(rt: HostRuntime) -> Result<(), Fail> {
     let mut source = StdSource::new(b"ab".as_slice());
     let mut into = [0u8; 4];
-    assert_eq!(rt; source.read(&mut into), ReadAnswer::Got(2));
+    let first = source.read(&mut into);
     assert_eq!(rt; &into[..2], b"ab".as_slice());
-    assert_eq!(rt; source.read(&mut into), ReadAnswer::End);
+    let reads = [first, source.read(&mut into)];
+    assert_eq!(rt; reads, [ReadAnswer::Got(2), ReadAnswer::End]);
     let mut room = [0u8; 2];
     let mut sink = StdSink::new(room.as_mut_slice());
-    assert_eq!(rt; sink.write(b"abc"), WriteAnswer::Took(2));
-    assert_eq!(rt; sink.write(b"c"), WriteAnswer::Failed);
+    let writes = [sink.write(b"abc"), sink.write(b"c")];
+    assert_eq!(rt; writes, [WriteAnswer::Took(2), WriteAnswer::Failed]);
     Ok(())
 }
 
@@ -166,21 +182,23 @@ fn std_files_are_read(rt: HostRuntime) -> Result<(), Fail> {
     fs::write(&rt, path.as_str(), "stop_id")?;
     let mut files = StdFiles::new(&rt);
     let mut into = Buf::new(rt.alloc());
-    assert_eq!(rt;
-        files.read_file(path.as_str(), 7, &mut into),
-        FileAnswer::Read
-    );
+    let whole = files.read_file(path.as_str(), 7, &mut into);
     assert_eq!(rt; into.as_slice(), b"stop_id".as_slice());
-    assert_eq!(rt;
-        files.read_file(path.as_str(), 6, &mut into),
-        FileAnswer::TooLong(7)
-    );
+    let too_long = files.read_file(path.as_str(), 6, &mut into);
     fs::remove_file(&rt, path.as_str())?;
-    assert_eq!(rt;
+    let answers = [
+        whole,
+        too_long,
         files.read_file(path.as_str(), 7, &mut into),
-        FileAnswer::Absent
-    );
-    assert_eq!(rt; files.read_file("/", 7, &mut into), FileAnswer::Failed);
+        files.read_file("/", 7, &mut into),
+    ];
+    let expected = [
+        FileAnswer::Read,
+        FileAnswer::TooLong(7),
+        FileAnswer::Absent,
+        FileAnswer::Failed,
+    ];
+    assert_eq!(rt; answers, expected);
     assert_eq!(rt; into.as_slice(), b"".as_slice());
     Ok(())
 }

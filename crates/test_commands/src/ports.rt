@@ -75,25 +75,23 @@ where
     }
 }
 
+/// What the first two asks of a feed of that kind come to, whose port is opened here.
+fn opened(
+    rt: &HostRuntime,
+    kind: PortKind,
+    place: &str,
+) -> Result<(PortAnswer, PortAnswer), NoMemory> {
+    let alloc = rt.alloc();
+    let feed = feed(alloc, kind, place)?;
+    let port = open_port(rt, alloc, &feed, rt.stderr())?;
+    two_asks_of(alloc, port)
+}
+
 #[test]
 fn ports_without_messages_end(rt: HostRuntime) -> Result<(), Fail> {
-    let alloc = rt.alloc();
-    let none = open_port(
-        &rt,
-        alloc,
-        &feed(alloc, PortKind::Nothing, "")?,
-        rt.stderr(),
-    )?;
-    assert_eq!(rt;
-        two_asks_of(alloc, none)?,
-        (PortAnswer::End, PortAnswer::End)
-    );
-    let spool = feed(alloc, PortKind::Spool, "no/such/folder")?;
-    let spool = open_port(&rt, alloc, &spool, rt.stderr())?;
-    assert_eq!(rt;
-        two_asks_of(alloc, spool)?,
-        (PortAnswer::End, PortAnswer::End)
-    );
+    let ends = (PortAnswer::End, PortAnswer::End);
+    assert_eq!(rt; opened(&rt, PortKind::Nothing, "")?, ends);
+    assert_eq!(rt; opened(&rt, PortKind::Spool, "no/such/folder")?, ends);
     Ok(())
 }
 
@@ -159,12 +157,8 @@ fn a_feed_that_is_polled_fails_where_nobody_listens(rt: HostRuntime) -> Result<(
     let gone = TcpListener::bind(&rt, "127.0.0.1:0")?;
     let place = format!(in alloc; "{}/feed", gone.local_addr()?)?;
     drop(gone);
-    let feed = feed(alloc, PortKind::Poll, place.as_str())?;
-    let port = open_port(&rt, alloc, &feed, rt.stderr())?;
-    assert_eq!(rt;
-        two_asks_of(alloc, port)?,
-        (PortAnswer::Failed, PortAnswer::Failed)
-    );
+    let asked = opened(&rt, PortKind::Poll, place.as_str())?;
+    assert_eq!(rt; asked, (PortAnswer::Failed, PortAnswer::Failed));
     Ok(())
 }
 

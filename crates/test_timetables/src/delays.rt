@@ -217,14 +217,15 @@ fn a_delay_holds_up_to_the_next_one(rt: HostRuntime) -> Result<(), Fail> {
     ]?;
     let states = told(alloc, &trip_update(alloc, None, updates))?;
     assert_eq!(rt; states.len(), 20);
-    assert_eq!(rt; departs(&states, 2), None);
-    assert_eq!(rt; leaves(&states, 2), 1743314460);
-    assert_eq!(rt; departs(&states, 7), Some(300));
-    assert_eq!(rt; leaves(&states, 7), 1743315060);
-    assert_eq!(rt; departs(&states, 9), Some(60));
-    assert_eq!(rt; leaves(&states, 9), 1743314940);
-    assert_eq!(rt; departs(&states, 10), None);
-    assert_eq!(rt; leaves(&states, 10), 1743314940);
+    for (sequence, delay, left) in [
+        (2, None, 1743314460),
+        (7, Some(300), 1743315060),
+        (9, Some(60), 1743314940),
+        (10, None, 1743314940),
+    ] {
+        let told = (departs(&states, sequence), leaves(&states, sequence));
+        assert_eq!(rt; told, (delay, left), "at {sequence}");
+    }
     Ok(())
 }
 
@@ -238,11 +239,10 @@ fn a_skipped_place_passes_its_delay_on(rt: HostRuntime) -> Result<(), Fail> {
         update_of(alloc, 10, None, Some(StopRelation::NoData)),
     ]?;
     let states = told(alloc, &trip_update(alloc, None, updates))?;
-    assert!(rt; !skips(&states, 4));
-    assert!(rt; skips(&states, 5));
-    assert!(rt; !skips(&states, 6));
-    assert_eq!(rt; departs(&states, 6), Some(300));
-    assert_eq!(rt; leaves(&states, 6), 1743315000);
+    let skipped = [skips(&states, 4), skips(&states, 5), skips(&states, 6)];
+    assert_eq!(rt; skipped, [false, true, false]);
+    let told = (departs(&states, 6), leaves(&states, 6));
+    assert_eq!(rt; told, (Some(300), 1743315000));
     Ok(())
 }
 
@@ -270,14 +270,18 @@ fn each_relation_has_its_effect(rt: HostRuntime) -> Result<(), Fail> {
         update_of(alloc, 14, None, Some(StopRelation::NoData)),
     ]?;
     let states = told(alloc, &trip_update(alloc, Some(9), updates))?;
-    assert_eq!(rt; departs(&states, 1), Some(9));
-    assert_eq!(rt; departs(&states, 2), Some(9));
-    assert_eq!(rt; departs(&states, 4), Some(60));
-    assert_eq!(rt; departs(&states, 6), Some(60));
-    assert_eq!(rt; departs(&states, 8), None);
-    assert_eq!(rt; departs(&states, 11), None);
-    assert_eq!(rt; departs(&states, 13), Some(-30));
-    assert_eq!(rt; departs(&states, 20), None);
+    for (sequence, delay) in [
+        (1, Some(9)),
+        (2, Some(9)),
+        (4, Some(60)),
+        (6, Some(60)),
+        (8, None),
+        (11, None),
+        (13, Some(-30)),
+        (20, None),
+    ] {
+        assert_eq!(rt; departs(&states, sequence), delay, "at {sequence}");
+    }
     Ok(())
 }
 
@@ -294,8 +298,8 @@ fn a_stop_is_found_by_its_id(rt: HostRuntime) -> Result<(), Fail> {
         alloc,
         &trip_update(alloc, None, vec![in alloc; other, first]?),
     )?;
-    assert_eq!(rt; departs(&states, 1), Some(5));
-    assert_eq!(rt; departs(&states, 20), Some(5));
+    let delays = [departs(&states, 1), departs(&states, 20)];
+    assert_eq!(rt; delays, [Some(5), Some(5)]);
     Ok(())
 }
 
@@ -317,6 +321,16 @@ fn moved_to(states: &[StopState], place: usize) -> Option<u32> {
     }
 }
 
+/// The stops to which the four places of the city's trip are moved.
+fn stops_of(states: &[StopState]) -> [Option<u32>; 4] {
+    [
+        moved_to(states, 0),
+        moved_to(states, 1),
+        moved_to(states, 2),
+        moved_to(states, 3),
+    ]
+}
+
 #[test]
 fn an_assigned_stop_holds_for_its_place_alone(rt: HostRuntime) -> Result<(), Fail> {
     let alloc = rt.alloc();
@@ -324,12 +338,9 @@ fn an_assigned_stop_holds_for_its_place_alone(rt: HostRuntime) -> Result<(), Fai
     let update = trip_update(alloc, None, vec![in alloc; first]?);
     let states = told_in_city(alloc, &update)?;
     assert_eq!(rt; states.len(), 4);
-    assert_eq!(rt; moved_to(&states, 0), Some(1));
-    assert_eq!(rt; departs(&states, 1), Some(300));
-    assert_eq!(rt; moved_to(&states, 1), None);
-    assert_eq!(rt; departs(&states, 2), Some(300));
-    assert_eq!(rt; moved_to(&states, 2), None);
-    assert_eq!(rt; moved_to(&states, 3), None);
+    assert_eq!(rt; stops_of(&states), [Some(1), None, None, None]);
+    let delays = [departs(&states, 1), departs(&states, 2)];
+    assert_eq!(rt; delays, [Some(300), Some(300)]);
     Ok(())
 }
 
@@ -346,9 +357,6 @@ fn only_scheduled_updates_assign_stops(rt: HostRuntime) -> Result<(), Fail> {
     ]?;
     let states = told_in_city(alloc, &trip_update(alloc, None, updates))?;
     assert!(rt; skips(&states, 1));
-    assert_eq!(rt; moved_to(&states, 0), None);
-    assert_eq!(rt; moved_to(&states, 1), None);
-    assert_eq!(rt; moved_to(&states, 2), Some(0));
-    assert_eq!(rt; moved_to(&states, 3), None);
+    assert_eq!(rt; stops_of(&states), [None, None, Some(0), None]);
     Ok(())
 }

@@ -199,12 +199,20 @@ fn run(trip: u32, day: u32) -> Found {
 fn a_night_trip_is_that_of_the_day_before(rt: HostRuntime) -> Result<(), Fail> {
     let alloc = rt.alloc();
     let plan = city(alloc)?;
-    assert_eq!(rt; by_name(alloc, &plan, "N1", "", 1743293700)?, run(0, 0));
-    // The last second of winter time and the first of summer time.
-    assert_eq!(rt; by_name(alloc, &plan, "N1", "", 1743296399)?, run(0, 0));
-    assert_eq!(rt; by_name(alloc, &plan, "N1", "", 1743296400)?, run(0, 0));
-    assert_eq!(rt; by_name(alloc, &plan, "N1", "", 1743335700)?, run(0, 0));
-    assert_eq!(rt; by_name(alloc, &plan, "N1", "", 1743335701)?, run(0, 1));
+    for (stamp, found) in [
+        (1743293700, run(0, 0)),
+        // The last second of winter time and the first of summer time.
+        (1743296399, run(0, 0)),
+        (1743296400, run(0, 0)),
+        (1743335700, run(0, 0)),
+        (1743335701, run(0, 1)),
+    ] {
+        assert_eq!(rt;
+            by_name(alloc, &plan, "N1", "", stamp)?,
+            found,
+            "at {stamp}"
+        );
+    }
     Ok(())
 }
 
@@ -212,10 +220,18 @@ fn a_night_trip_is_that_of_the_day_before(rt: HostRuntime) -> Result<(), Fail> {
 fn an_hour_that_comes_twice_is_of_one_day(rt: HostRuntime) -> Result<(), Fail> {
     let alloc = rt.alloc();
     let plan = autumn(alloc)?;
-    assert_eq!(rt; by_name(alloc, &plan, "N1", "", 1761438600)?, run(0, 0));
-    assert_eq!(rt; by_name(alloc, &plan, "N1", "", 1761442200)?, run(0, 0));
-    assert_eq!(rt; by_name(alloc, &plan, "N1", "", 1761479701)?, run(0, 1));
-    assert_eq!(rt; by_name(alloc, &plan, "T1", "20251026", 0)?, run(1, 1));
+    for (id, date, stamp, found) in [
+        ("N1", "", 1761438600, run(0, 0)),
+        ("N1", "", 1761442200, run(0, 0)),
+        ("N1", "", 1761479701, run(0, 1)),
+        ("T1", "20251026", 0, run(1, 1)),
+    ] {
+        assert_eq!(rt;
+            by_name(alloc, &plan, id, date, stamp)?,
+            found,
+            "{id} at {stamp}"
+        );
+    }
     Ok(())
 }
 
@@ -223,26 +239,16 @@ fn an_hour_that_comes_twice_is_of_one_day(rt: HostRuntime) -> Result<(), Fail> {
 fn each_reason_is_told(rt: HostRuntime) -> Result<(), Fail> {
     let alloc = rt.alloc();
     let plan = autumn(alloc)?;
-    assert_eq!(rt;
-        by_name(alloc, &plan, "T9", "20251026", 0)?,
-        Found::NoMatch(Why::NoTrip)
-    );
-    assert_eq!(rt;
-        by_name(alloc, &plan, "T1", "20251028", 0)?,
-        Found::NoMatch(Why::NoDay)
-    );
-    assert_eq!(rt;
-        by_name(alloc, &plan, "T1", "", u64::MAX)?,
-        Found::NoMatch(Why::NoDay)
-    );
-    assert_eq!(rt;
-        by_name(alloc, &plan, "T1", "20251027", 0)?,
-        Found::NoMatch(Why::NotActive)
-    );
-    assert_eq!(rt;
-        by_name(alloc, &plan, "T9", "20250229", 0)?,
-        Found::NoMatch(Why::BadText)
-    );
+    for (id, date, stamp, why) in [
+        ("T9", "20251026", 0, Why::NoTrip),
+        ("T1", "20251028", 0, Why::NoDay),
+        ("T1", "", u64::MAX, Why::NoDay),
+        ("T1", "20251027", 0, Why::NotActive),
+        ("T9", "20250229", 0, Why::BadText),
+    ] {
+        let found = by_name(alloc, &plan, id, date, stamp)?;
+        assert_eq!(rt; found, Found::NoMatch(why), "{id} on {date}");
+    }
     Ok(())
 }
 
@@ -250,26 +256,24 @@ fn each_reason_is_told(rt: HostRuntime) -> Result<(), Fail> {
 fn relations_go_before_dates(rt: HostRuntime) -> Result<(), Fail> {
     let alloc = rt.alloc();
     let plan = autumn(alloc)?;
-    assert_eq!(rt;
-        related(alloc, &plan, "T1", "x", TripRelation::Replacement)?,
-        Found::NoMatch(Why::Relation)
-    );
-    assert_eq!(rt;
-        related(alloc, &plan, "X", "x", TripRelation::Added)?,
-        Found::NoMatch(Why::BadText)
-    );
-    assert_eq!(rt;
-        related(alloc, &plan, "X", "", TripRelation::Added)?,
-        Found::Added
-    );
-    assert_eq!(rt;
-        related(alloc, &plan, "", "", TripRelation::Added)?,
-        Found::NoMatch(Why::NoTrip)
-    );
-    assert_eq!(rt;
-        related(alloc, &plan, "T1", "20251026", TripRelation::Canceled)?,
-        run(1, 1)
-    );
+    for (id, date, relation, found) in [
+        (
+            "T1",
+            "x",
+            TripRelation::Replacement,
+            Found::NoMatch(Why::Relation),
+        ),
+        ("X", "x", TripRelation::Added, Found::NoMatch(Why::BadText)),
+        ("X", "", TripRelation::Added, Found::Added),
+        ("", "", TripRelation::Added, Found::NoMatch(Why::NoTrip)),
+        ("T1", "20251026", TripRelation::Canceled, run(1, 1)),
+    ] {
+        assert_eq!(rt;
+            related(alloc, &plan, id, date, relation)?,
+            found,
+            "{id} on {date}"
+        );
+    }
     Ok(())
 }
 
@@ -277,23 +281,19 @@ fn relations_go_before_dates(rt: HostRuntime) -> Result<(), Fail> {
 fn trips_are_found_without_their_ids(rt: HostRuntime) -> Result<(), Fail> {
     let alloc = rt.alloc();
     let plan = autumn(alloc)?;
-    assert_eq!(rt; departing(alloc, &plan, "20251026", "25:10:00")?, run(0, 1));
-    assert_eq!(rt;
-        departing(alloc, &plan, "20251026", "8:00:00")?,
-        Found::NoMatch(Why::Several)
-    );
-    assert_eq!(rt;
-        departing(alloc, &plan, "20251026", "08:00:01")?,
-        Found::NoMatch(Why::NoTrip)
-    );
-    assert_eq!(rt;
-        departing(alloc, &plan, "20251028", "08:00")?,
-        Found::NoMatch(Why::BadText)
-    );
-    assert_eq!(rt;
-        departing(alloc, &plan, "20251026", "")?,
-        Found::NoMatch(Why::NoTrip)
-    );
+    for (date, time, found) in [
+        ("20251026", "25:10:00", run(0, 1)),
+        ("20251026", "8:00:00", Found::NoMatch(Why::Several)),
+        ("20251026", "08:00:01", Found::NoMatch(Why::NoTrip)),
+        ("20251028", "08:00", Found::NoMatch(Why::BadText)),
+        ("20251026", "", Found::NoMatch(Why::NoTrip)),
+    ] {
+        assert_eq!(rt;
+            departing(alloc, &plan, date, time)?,
+            found,
+            "{date} {time}"
+        );
+    }
     Ok(())
 }
 
@@ -302,16 +302,21 @@ fn the_start_time_says_which_trip_of_a_pattern(rt: HostRuntime) -> Result<(), Fa
     let alloc = rt.alloc();
     let plan = frequent(alloc)?;
     let day = "20251026";
-    assert_eq!(rt; starting(alloc, &plan, "T2", "8:00:00", day)?, run(2, 1));
-    assert_eq!(rt; starting(alloc, &plan, "T2", "08:30:00", day)?, run(3, 1));
-    assert_eq!(rt; starting(alloc, &plan, "T2", "08:30:00", "")?, run(3, 0));
-    // The id of a derived trip is that of a trip, and of other trips the start_time says nothing.
-    assert_eq!(rt; starting(alloc, &plan, "T2@08:30:00", "", day)?, run(3, 1));
-    assert_eq!(rt; starting(alloc, &plan, "T1", "x", day)?, run(1, 1));
-    assert_eq!(rt;
-        starting(alloc, &plan, "T2", "8:00:00", "20251027")?,
-        Found::NoMatch(Why::NotActive)
-    );
+    for (id, time, date, found) in [
+        ("T2", "8:00:00", day, run(2, 1)),
+        ("T2", "08:30:00", day, run(3, 1)),
+        ("T2", "08:30:00", "", run(3, 0)),
+        // The id of a derived trip is that of a trip, and of other trips the start_time says nothing.
+        ("T2@08:30:00", "", day, run(3, 1)),
+        ("T1", "x", day, run(1, 1)),
+        ("T2", "8:00:00", "20251027", Found::NoMatch(Why::NotActive)),
+    ] {
+        assert_eq!(rt;
+            starting(alloc, &plan, id, time, date)?,
+            found,
+            "{id} {time} {date}"
+        );
+    }
     Ok(())
 }
 
@@ -320,22 +325,15 @@ fn each_reason_of_a_pattern_is_told(rt: HostRuntime) -> Result<(), Fail> {
     let alloc = rt.alloc();
     let plan = frequent(alloc)?;
     let day = "20251026";
-    assert_eq!(rt;
-        starting(alloc, &plan, "T2", "", day)?,
-        Found::NoMatch(Why::Several)
-    );
-    assert_eq!(rt;
-        starting(alloc, &plan, "T2", "08:30", day)?,
-        Found::NoMatch(Why::BadText)
-    );
-    assert_eq!(rt;
-        starting(alloc, &plan, "T2", "08:30:01", day)?,
-        Found::NoMatch(Why::NoTrip)
-    );
-    assert_eq!(rt;
-        starting(alloc, &plan, "T3", "", day)?,
-        Found::NoMatch(Why::NoTrip)
-    );
+    for (id, time, why) in [
+        ("T2", "", Why::Several),
+        ("T2", "08:30", Why::BadText),
+        ("T2", "08:30:01", Why::NoTrip),
+        ("T3", "", Why::NoTrip),
+    ] {
+        let found = starting(alloc, &plan, id, time, day)?;
+        assert_eq!(rt; found, Found::NoMatch(why), "{id} {time}");
+    }
     assert_eq!(rt;
         related(alloc, &plan, "T2", "", TripRelation::Added)?,
         Found::Added

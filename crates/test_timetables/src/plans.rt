@@ -10,27 +10,35 @@ fn is_shared<T: Send + Sync>(_value: &T) {}
 #[test]
 fn rows_are_found_by_their_ids(rt: HostRuntime) -> Result<(), Fail> {
     let plan = city(rt.alloc())?;
-    assert_eq!(rt; plan.stop_of("ST"), Some(4));
-    assert_eq!(rt; plan.stop_of("S"), None);
-    assert_eq!(rt; plan.trip_of("T2"), Some(2));
-    assert_eq!(rt; plan.trip_of("T3"), None);
-    assert_eq!(rt; plan.route_of("R7"), Some(0));
-    assert_eq!(rt; plan.route_of(""), None);
-    assert_eq!(rt; plan.agency_of("A"), Some(0));
-    assert_eq!(rt; plan.agency_of("a"), None);
+    let found = [
+        plan.stop_of("ST"),
+        plan.trip_of("T2"),
+        plan.route_of("R7"),
+        plan.agency_of("A"),
+    ];
+    assert_eq!(rt; found, [Some(4), Some(2), Some(0), Some(0)]);
+    let unknown = [
+        plan.stop_of("S"),
+        plan.trip_of("T3"),
+        plan.route_of(""),
+        plan.agency_of("a"),
+    ];
+    assert_eq!(rt; unknown, [None; 4]);
     Ok(())
 }
 
 #[test]
 fn rows_are_read_by_their_numbers(rt: HostRuntime) -> Result<(), Fail> {
     let plan = city(rt.alloc())?;
-    assert_eq!(rt; plan.stop(4).name.as_str(), "Market");
-    assert_eq!(rt; plan.children(4), [0, 1].as_slice());
-    assert_eq!(rt; plan.children(0), [].as_slice());
-    assert_eq!(rt; plan.trip(1).id.as_str(), "T1");
-    assert_eq!(rt; plan.route(0).short.as_str(), "7");
-    assert_eq!(rt; plan.places(1), 4);
-    assert_eq!(rt; plan.stop_times(1).len(), 4);
+    let names = [
+        plan.stop(4).name.as_str(),
+        plan.trip(1).id.as_str(),
+        plan.route(0).short.as_str(),
+    ];
+    assert_eq!(rt; names, ["Market", "T1", "7"]);
+    let children = [plan.children(4), plan.children(0)];
+    assert_eq!(rt; children, [[0, 1].as_slice(), [].as_slice()]);
+    assert_eq!(rt; [plan.places(1) as usize, plan.stop_times(1).len()], [4, 4]);
     assert_eq!(rt; plan.place(1, 1), place(2, 2, 29400, 29400));
     let counts = Counts {
         agencies: 1,
@@ -47,24 +55,37 @@ fn rows_are_read_by_their_numbers(rt: HostRuntime) -> Result<(), Fail> {
 #[test]
 fn days_and_runs_are_told(rt: HostRuntime) -> Result<(), Fail> {
     let plan = city(rt.alloc())?;
-    assert_eq!(rt; plan.day_of(20250331), Some(2));
-    assert_eq!(rt; plan.day_of(20250401), None);
-    assert_eq!(rt; plan.day_of(20250328), None);
-    assert_eq!(rt; plan.date(1), 20250330);
-    assert_eq!(rt; plan.base(1), 1743285600);
-    assert!(rt; plan.runs(Run { trip: 0, day: 2 }));
-    assert!(rt; !plan.runs(Run { trip: 0, day: 3 }));
-    assert!(rt; !plan.runs(Run { trip: 3, day: 0 }));
+    let days = [
+        plan.day_of(20250331),
+        plan.day_of(20250401),
+        plan.day_of(20250328),
+    ];
+    assert_eq!(rt; days, [Some(2), None, None]);
+    assert_eq!(rt; (plan.date(1), plan.base(1)), (20250330, 1743285600));
+    let runs = [
+        plan.runs(Run { trip: 0, day: 2 }),
+        plan.runs(Run { trip: 0, day: 3 }),
+        plan.runs(Run { trip: 3, day: 0 }),
+    ];
+    assert_eq!(rt; runs, [true, false, false]);
     Ok(())
 }
 
 #[test]
 fn trips_are_found_by_their_departures(rt: HostRuntime) -> Result<(), Fail> {
     let plan = city(rt.alloc())?;
-    assert_eq!(rt; plan.departing(0, 0, 28800), [1].as_slice());
-    assert_eq!(rt; plan.departing(0, 0, 90600), [0].as_slice());
-    assert_eq!(rt; plan.departing(0, 1, 28800), [].as_slice());
-    assert_eq!(rt; plan.departing(0, 0, 29400), [].as_slice());
+    for (direction, time, trips) in [
+        (0, 28800, [1].as_slice()),
+        (0, 90600, [0].as_slice()),
+        (1, 28800, [].as_slice()),
+        (0, 29400, [].as_slice()),
+    ] {
+        assert_eq!(rt;
+            plan.departing(0, direction, time),
+            trips,
+            "{direction} {time}"
+        );
+    }
     Ok(())
 }
 
