@@ -1,18 +1,14 @@
 //! Tests of timetables: of the rows of their files, their zones and days, their look-ups, the loading of
-//! folders, trips by headway, the departures of a stop, which trip an update means, and what it tells of
-//! each place.
+//! folders, the trips of frequencies.txt, and the departures of a stop.
 //!
-//! They call `gtfs_rows`, `service_day`, `sched_types`, `freq_runs`, `sched_load_defs`, `sched_load`,
-//! `stop_index`, `trip_match` and `delay_rule` by their public contracts. Every test is proved safe, and
-//! then it is run.
+//! They call `gtfs_rows`, `service_day`, `sched_types`, `freq_runs`, `sched_load_defs`, `sched_load` and
+//! `stop_index` by their public contracts. Every test is proved safe, and then it is run.
 #![tactic(auto)]
 
 #[cfg(test)]
 mod city_files;
 #[cfg(test)]
 mod days;
-#[cfg(test)]
-mod delays;
 #[cfg(test)]
 mod departures;
 #[cfg(test)]
@@ -25,8 +21,6 @@ mod forms;
 mod frequencies;
 #[cfg(test)]
 mod headways;
-#[cfg(test)]
-mod matching;
 #[cfg(test)]
 mod plans;
 #[cfg(test)]

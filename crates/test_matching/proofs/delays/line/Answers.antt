@@ -3,8 +3,8 @@ use Rattle.sched_types.specs.declared.rows.Place.{Place}
 use Rattle.sched_types.specs.declared.rows.PlanParts.{PlanParts}
 use Rattle.sched_types.proofs.Checked.{checked_parts}
 use Rattle.delay_rule_defs.specs.Line.{line}
-use Rattle.test_timetables.proofs.Samples.{line_passes}
-use Rattle.test_timetables.proofs.delays.line.Goals as goal
+use Rattle.test_matching.proofs.Samples.{line_passes}
+use Rattle.test_matching.proofs.delays.line.Goals as goal
 
 pub build-requires : goal.build-requires
 build-requires c =

@@ -2,8 +2,8 @@ use Rattle.std.proofs.Common.{◌∙◌, ap, refl, ◌∷◌, [], List, ℕ}
 use Rattle.sched_types.specs.declared.rows.PlanParts.{PlanParts}
 use Rattle.sched_types.proofs.Checked.{checked_parts}
 use Rattle.trip_match_defs.specs.Frequent.{frequent}
-use Rattle.test_timetables.proofs.Samples.{frequent_passes}
-use Rattle.test_timetables.proofs.matching.frequent.Goals as goal
+use Rattle.test_matching.proofs.Samples.{frequent_passes}
+use Rattle.test_matching.proofs.matching.frequent.Goals as goal
 
 pub build-requires : goal.build-requires
 build-requires c =

@@ -2,8 +2,8 @@ use Rattle.std.proofs.Common.{◌∙◌, ap, refl, ◌∷◌, [], List, ℕ}
 use Rattle.sched_types.specs.declared.rows.PlanParts.{PlanParts}
 use Rattle.sched_types.proofs.Checked.{checked_parts}
 use Rattle.trip_match_defs.specs.Autumn.{autumn}
-use Rattle.test_timetables.proofs.Samples.{autumn_passes}
-use Rattle.test_timetables.proofs.matching.autumn.Goals as goal
+use Rattle.test_matching.proofs.Samples.{autumn_passes}
+use Rattle.test_matching.proofs.matching.autumn.Goals as goal
 
 pub build-requires : goal.build-requires
 build-requires c =
