@@ -15,6 +15,7 @@ import datetime
 import mmap
 import os
 import re
+import select
 import socket
 import struct
 import subprocess
@@ -236,18 +237,20 @@ class Waiting:
                 hub.kill()
 
     def outcome(self, hub):
-        asked, since, began = 0, time.monotonic(), time.monotonic()
-        while hub.poll() is None and time.monotonic() - since < 0.3:  # asks for no more: waits for clients
+        asked, listens, began = 0, False, time.monotonic()
+        since = began
+        while hub.poll() is None and not (listens and time.monotonic() - since > 0.3):
             if time.monotonic() - began > SECONDS / 6:
-                return "asked for memory for ever", asked
+                return "neither ended nor waits without asking for memory", asked
             time.sleep(0.01)
+            listens = listens or bool(select.select([hub.stderr], [], [], 0)[0])
             if asked != self.orders["asked"]:
                 asked, since = self.orders["asked"], time.monotonic()
         if hub.poll() is not None:
             said = hub.stdout.read()
             return f"status {hub.returncode}" + (f", and it printed {said!r}" if said else ""), asked
         self.orders["first"] = 0
-        said = re.search(r"listening on 127\.0\.0\.1:(\d+)$", hub.stderr.readline().strip())
+        said = re.fullmatch(r"hub: listening on 127\.0\.0\.1:(\d+)\n", hub.stderr.readline())
         if not said or not self.answers(("127.0.0.1", int(said[1]))):
             return "neither ended nor answered", asked
         return "answered", asked
