@@ -1,9 +1,9 @@
 #!/usr/bin/env bash
 # Tries clients that a hub meets in the open: as many silent connections as it has readers, clients that send a byte now
 # and then, clients that go away in the midst of their answers, clients that send more than is read; senders that don't
-# answer; a hub that has no descriptors for longer than a minute; and how a hub ends by itself, with its lines. Ends by
-# itself, with status 0 exactly where all was as it should be. HUB names the program, where it is not ./hub.
-# Needs curl, prlimit and python3.
+# answer; a hub that has no descriptors for longer than a minute; one whose standard error is closed or has no reader; and
+# how a hub ends by itself, with its lines. Ends by itself, with status 0 exactly where all was as it should be. HUB names
+# the program, where it is not ./hub. Needs curl, prlimit and python3.
 set -euo pipefail
 top=$(cd "$(dirname "$0")/../.." && pwd)
 . "$top/samples/serve/functions.sh"
@@ -103,6 +103,28 @@ curl -sS --max-time 5 -o "$work/answer" "http://$hub_address/status" 2> "$work/r
 check "refuses the next one, while its feeds go on" is "$status" 7
 check "and runs" kill -0 "$hub_process"
 stop_process "$hub_process"
+
+echo "== a hub that can't tell"
+# A pipe that is open for writing, whose reader is gone.
+mkfifo "$work/no_reader"
+exec 8<> "$work/no_reader" 9> "$work/no_reader" 8>&-
+for how in closed no_reader; do
+  # It can't say where it listens.
+  hub_address=127.0.0.1:$(free_port)
+  sed "s/^listen = .*/listen = \"$hub_address\"/" "$work/many.toml" > "$work/$how.toml"
+  case $how in
+    closed) "$hub" serve "$work/$how.toml" 2>&- 7>&- 9>&- & ;;
+    no_reader) "$hub" serve "$work/$how.toml" 2>&9 7>&- & ;;
+  esac
+  hub_process=$!
+  started+=("$hub_process")
+  wait_for curl -fs --max-time 5 -o "$work/answer" "http://$hub_address/status"
+  wait_for has_accepted "$hub_address" notices trams
+  check "standard error, $how: it goes on" kill -0 "$hub_process"
+  check "and answers" curl -fsS --max-time 5 -o "$work/answer" "http://$hub_address/board/city/ST"
+  stop_process "$hub_process"
+done
+exec 9>&-
 
 echo "== a sender that ends"
 start_hub left "${feeds[@]}"

@@ -5,6 +5,8 @@ be.
 usage: no_memory.py rows PROGRAM LIBRARY FOLDER    worked inputs, each time with another request refused, alone and
                                                    with all after it
        no_memory.py start PROGRAM LIBRARY FOLDER   a server that ends since it can't listen, with each request refused
+       no_memory.py open PROGRAM LIBRARY FOLDER    a server up to where it waits for clients, with each request refused,
+                                                   alone and with all after it
        no_memory.py serve PROGRAM LIBRARY FOLDER   a server under load, with one request in a thousand refused
 
 LIBRARY is no_memory.c as a shared library; FOLDER is for files of its own.
@@ -13,6 +15,7 @@ import datetime
 import mmap
 import os
 import re
+import select
 import socket
 import struct
 import subprocess
@@ -49,11 +52,15 @@ class Orders:
     def __setitem__(self, field, value):
         struct.pack_into("=Q", self.numbers, 8 * self.FIELDS.index(field), value)
 
+    def begin(self, first=0, onward=0):
+        """Nothing is asked yet, and the request of that number is to be refused, alone or with all after it."""
+        for field, value in zip(self.FIELDS, (0, 0, first, onward, 0)):
+            self[field] = value
+
     def run(self, words, script, first=0, onward=0):
         """The status and the output of the program, of whose requests the one of that number is refused; None for the
         status where it didn't end."""
-        for field, value in zip(self.FIELDS, (0, 0, first, onward, 0)):
-            self[field] = value
+        self.begin(first, onward)
         try:
             ran = subprocess.run([self.program, *words], input=script, stdout=subprocess.PIPE,
                                  stderr=subprocess.DEVNULL, env=self.environment, cwd=TOP, timeout=SECONDS)
@@ -206,6 +213,69 @@ def start(program, library, folder):
     with ThreadPoolExecutor(places.count) as pool:
         case = ("a server that can't listen", ("serve", str(conf)), b"")
         return try_input(places, pool, case, status=1, modes=(ALONE,), judge=end_of_start)
+
+
+class Waiting:
+    """Runs of a server up to where it waits for clients, with some of its requests refused up to there."""
+
+    def __init__(self, program, library, folder):
+        self.conf = folder / "hub.toml"
+        city = (TOP / "samples/city.toml").read_text()
+        feeds = re.sub(r'(?<=schedule = "city"\n)', 'kind = "none"\n', city)
+        self.conf.write_text('listen = "127.0.0.1:0"\nreaders = 2\n' + feeds)
+        self.program = program
+        self.orders = Orders(program, library, folder / "orders")
+
+    def run(self, first=0, onward=0):
+        """How it went, and how many requests there were before its first client."""
+        self.orders.begin(first, onward)
+        with subprocess.Popen([self.program, "serve", self.conf], env=self.orders.environment, cwd=TOP, text=True,
+                              stdout=subprocess.PIPE, stderr=subprocess.PIPE) as hub:
+            try:
+                return self.outcome(hub)
+            finally:
+                hub.kill()
+
+    def outcome(self, hub):
+        asked, listens, began = 0, False, time.monotonic()
+        since = began
+        while hub.poll() is None and not (listens and time.monotonic() - since > 0.3):
+            if time.monotonic() - began > SECONDS / 6:
+                return "neither ended nor waits without asking for memory", asked
+            time.sleep(0.01)
+            listens = listens or bool(select.select([hub.stderr], [], [], 0)[0])
+            if asked != self.orders["asked"]:
+                asked, since = self.orders["asked"], time.monotonic()
+        if hub.poll() is not None:
+            said = hub.stdout.read()
+            return f"status {hub.returncode}" + (f", and it printed {said!r}" if said else ""), asked
+        self.orders["first"] = 0
+        said = re.fullmatch(r"hub: listening on 127\.0\.0\.1:(\d+)\n", hub.stderr.readline())
+        if not said or not self.answers(("127.0.0.1", int(said[1]))):
+            return "neither ended nor answered", asked
+        return "answered", asked
+
+    @staticmethod
+    def answers(address):
+        """Whether it answers, by one of two readers, of which the other may have failed."""
+        try:
+            return any(ask(address, 0)["responses"] == REQUESTS for _ in range(4))
+        except OSError:
+            return False
+
+
+def opening(program, library, folder):
+    """A server that listens. Where a request is refused, alone or with all after it, it ends with status 6, or answers
+    once memory is there again; it never asks for memory without end."""
+    waiting = Waiting(program, library, folder)
+    wanted, requests = waiting.run()
+    print(f"a server up to its first client: {wanted}, {requests} requests for memory")
+    well = wanted == "answered"
+    for onward, what in (ALONE, ALL_AFTER):
+        counts = Counter(waiting.run(first, onward)[0] for first in range(1, requests + 1))
+        print(f"    {what}: " + ", ".join(f"{how} {count}" for how, count in sorted(counts.items())))
+        well = well and not set(counts) - {"status 6", "answered"}
+    return well
 
 
 READERS, CONNECTIONS, REQUESTS = 4, 500, 8  # readers, connections of each, requests on each
@@ -372,7 +442,7 @@ def serve(program, library, folder):
 
 def main():
     what, program, library, folder = sys.argv[1:]
-    well = {"rows": rows, "start": start, "serve": serve}[what](program, library, Path(folder))
+    well = {"rows": rows, "start": start, "open": opening, "serve": serve}[what](program, library, Path(folder))
     sys.exit(not well)
 
 
