@@ -232,8 +232,8 @@ rows("`gen.sh`",
      ("a board of 1,000 trips and of 20,000", joined(boards[:1] + boards[-1:] if boards[1:] else [None], ".2g") + " million instructions"),
      ("slopes of a stop time and of a message", span(found("gen", r"slope ([\d.]+)"), ".2f")))
 rows("`serve.sh`",
-     ("responses a second of one connection in memory: a board of one row, one as JSON, a stop that isn't there",
-      joined(found("serve", r"s: ([\d,]+) a second"))),
+     ("responses a second of a processor, of one connection in memory: a board of one row, one as JSON, a stop that isn't there",
+      joined(found("serve", r"s of a processor: ([\d,]+) a second"))),
      ("times as long as `cat` takes to copy them", joined(found("serve", r"([\d,]+) times less"))),
      ("a response; a connection with one request", joined(found("serve", r"([\d,]+) instructions a response")) + "; "
       + joined(found("serve", r"([\d,]+) a connection with one request")) + " instructions"))
