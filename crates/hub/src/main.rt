@@ -15,50 +15,38 @@ use hub_main::{Prepared, ServeConf, prepare_serve, run_on_system, words_of};
 use hub_outside::{StdFiles, StdSink};
 use hub_system::{NoMemory, SystemPort, serve_on_system};
 use hub_words::asks_for_server;
-use rt_types::Text;
-use std::alloc::Global;
 use std::process::ExitCode;
 use std::rt::Stderr;
 use std::{env, io};
 
-/// The port of a feed of any kind, as one type.
-type AnyPort = Box<dyn FeedPort + Send>;
-
 fn main(rt: HostRuntime) -> ExitCode {
-    ExitCode::from(run(&rt).unwrap_or(ExitStatus::NoMemory.code()))
-}
-
-/// Runs what the words of the command line say, and gives the exit status; or want of memory for the
-/// words, or for what the server opens.
-fn run(rt: &HostRuntime) -> Result<u8, NoMemory> {
     let alloc = rt.alloc();
-    let words = words_of(alloc, env::args(rt))?;
-    if asks_for_server(&words) {
-        serve(rt, alloc, &words)
-    } else {
-        Ok(run_on_system(alloc, &words, rt, rt.stdin(), io::writer(rt)))
+    let Ok(words) = words_of(alloc, env::args(&rt)) else {
+        return ExitCode::from(ExitStatus::NoMemory.code());
+    };
+    if !asks_for_server(&words) {
+        let status = run_on_system(alloc, &words, &rt, rt.stdin(), io::writer(&rt));
+        return ExitCode::from(status);
     }
-}
-
-/// Prepares a hub by the words, and runs it.
-fn serve(rt: &HostRuntime, alloc: Global, words: &[Text]) -> Result<u8, NoMemory> {
-    let mut files = StdFiles::new(rt);
-    let mut out = StdSink::new(io::writer(rt));
-    let boxed = |port: SystemPort<HostRuntime, Stderr>| boxed_port(alloc, port);
-    match prepare_serve(alloc, words, &mut files, &mut out) {
-        Prepared::Ready(ServeConf { plans, conf }) => {
-            serve_on_system(rt, alloc, plans, &conf, &boxed, &mut out, rt.stderr())
+    let boxed = |port: SystemPort<HostRuntime, Stderr>| -> Result<
+        Box<dyn FeedPort + Send>,
+        NoMemory,
+    > {
+        match port {
+            SystemPort::Nothing(port) => Ok(Box::new(alloc, port)?),
+            SystemPort::Spool(port) => Ok(Box::new(alloc, port)?),
+            SystemPort::Stream(port) => Ok(Box::new(alloc, port)?),
+            SystemPort::Poll(port) => Ok(Box::new(alloc, port)?),
         }
-        Prepared::Status(status) => Ok(status),
-    }
-}
-
-/// The port, boxed.
-fn boxed_port(alloc: Global, port: SystemPort<HostRuntime, Stderr>) -> Result<AnyPort, NoMemory> {
-    match port {
-        SystemPort::Nothing(port) => Ok(Box::new(alloc, port)?),
-        SystemPort::Spool(port) => Ok(Box::new(alloc, port)?),
-        SystemPort::Stream(port) => Ok(Box::new(alloc, port)?),
-        SystemPort::Poll(port) => Ok(Box::new(alloc, port)?),
-    }
+    };
+    let mut out = StdSink::new(io::writer(&rt));
+    let status = match prepare_serve(alloc, &words, &mut StdFiles::new(&rt), &mut out) {
+        Prepared::Ready(ServeConf { plans, conf }) => {
+            serve_on_system(&rt, alloc, plans, &conf, &boxed, &mut out, rt.stderr()).unwrap_or(
+                ExitStatus::NoMemory.code(),
+            )
+        }
+        Prepared::Status(status) => status,
+    };
+    ExitCode::from(status)
 }
