@@ -42,7 +42,8 @@ use Rattle.std.proofs.Common.{get_or}
 use Rattle.sched_load.specs.Days.{active_by, runs_by}
 use Rattle.sched_load.specs.Groups.{exception_of}
 use Rattle.sched_load.specs.Groups as groups
-use Rattle.sched_load.specs.Listed.{group_of, most_rows, visit_of}
+use Rattle.sched_load.specs.Listed.{group_of, visit_of}
+use Rattle.sched_load_defs.specs.Files.{most_rows}
 use Rattle.sched_load.specs.Tables.{IsConsistent}
 use Rattle.sched_load.proofs.BuildLemmas.{mapped_at}
 use Rattle.sched_load.proofs.ColumnLaws.{AtMost, pickup_types}

@@ -38,7 +38,7 @@ use Rattle.sched_load_defs.proofs.Moves.{InOrder, all_in_order}
 use Rattle.freq_runs.specs.Trips.{time_end}
 use Rattle.sched_load.specs.Days.{EachSmall}
 use Rattle.sched_load.specs.Tables.{IsConsistent}
-use Rattle.sched_load.specs.Listed.{most_rows}
+use Rattle.sched_load_defs.specs.Files.{most_rows}
 use Rattle.sched_load.proofs.BuildLemmas.{mapped_at}
 use Rattle.sched_load.proofs.ColumnLaws.{AtMost, route_types, trip_directions, pickup_types}
 use Rattle.sched_load.proofs.TimeColumns.{stop_times_early}

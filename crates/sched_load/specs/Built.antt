@@ -10,7 +10,7 @@ use Rattle.sched_types.specs.declared.rows.Trip.{Trip}
 use Rattle.sched_types.specs.declared.rows.Place.{Place}
 use Rattle.sched_load.specs.declared.visits.Visit.{Visit}
 use Rattle.sched_load.specs.Course.{places_in}
-use Rattle.sched_load.specs.Listed.{most_rows}
+use Rattle.sched_load_defs.specs.Files.{most_rows}
 use Rattle.sched_types.specs.Timetable.{Timetable, number_of}
 use Rattle.sched_load_defs.specs.declared.fault.LoadFault.{LoadFault}
 use Rattle.sched_load_defs.specs.declared.fault.LoadFault.TheVariants as fault

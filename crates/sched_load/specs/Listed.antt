@@ -24,10 +24,6 @@ abbrev pub file_rows : {R : Type 0} → Bool → File → Columns R → Option (
 file_rows required name columns bytes = if required then required_rows name columns bytes
     else optional_rows name columns bytes
 
--- the most rows of a file
-abbrev pub most_rows : ℕ
-most_rows = 4000000
-
 -- two rows have one id
 abbrev pub same_id : {R : Type 0} → (R → List ℕ) → R → R → Bool
 same_id id_of a b = bytes_eq (id_of a) (id_of b)

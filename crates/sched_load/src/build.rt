@@ -10,7 +10,7 @@ ghost use Rattle.freq_parts.specs.Conditions.{IsPlain};
 ghost use Rattle.sched_load_defs.specs.Frequencies.{load_fault_of};
 ghost use Rattle.sched_load_defs.specs.Numbers.{by_id, timetable_of};
 ghost use Rattle.sched_load.specs.Built.{IsBuilt, AreSmall, agency_in, places_of_trip, plan_told, route_in, stop_in, trip_in};
-ghost use Rattle.sched_load.specs.Listed.{most_rows};
+ghost use Rattle.sched_load_defs.specs.Files.{most_rows};
 ghost use Rattle.sched_load.specs.Tables.{AreRead, dataset_of};
 ghost use Rattle.sched_load.specs.InOrder.{WereInOrder};
 ghost use Rattle.std.specs.List.Sorted.{IsNonDecreasingBy};

@@ -7,7 +7,8 @@ ghost use Rattle.gtfs_rows.specs.StopTimes.{IsOpen, row_to_come, rows_to_come};
 ghost use Rattle.gtfs_rows.specs.Tables.{stop_times};
 ghost use Rattle.sched_load_defs.specs.Numbers.{by_id};
 ghost use Rattle.sched_load.specs.Gathering.{BelowAll};
-ghost use Rattle.sched_load.specs.Listed.{most_rows, stay_of};
+ghost use Rattle.sched_load.specs.Listed.{stay_of};
+ghost use Rattle.sched_load_defs.specs.Files.{most_rows};
 ghost use Rattle.sched_load.specs.Visits.{Gathers, IsVisit, Skips};
 
 use crate::table::Table;

@@ -2,7 +2,8 @@
 
 ghost use Rattle.std.specs.Prelude.{◌≡◌, ◌≤◌, ◌<◌, ◌+◌, ◌^◌, length, map, IfOk};
 ghost use Rattle.sched_load_defs.specs.References.{consistent, row_at};
-ghost use Rattle.sched_load.specs.Listed.{Orders, most_rows, same_id, texts_seen};
+ghost use Rattle.sched_load.specs.Listed.{Orders, same_id, texts_seen};
+ghost use Rattle.sched_load_defs.specs.Files.{most_rows};
 
 use crate::judges::Judge;
 use crate::rows::IdRow;

@@ -4,7 +4,8 @@ ghost use Rattle.std.specs.Prelude.{◌≡◌, ◌≤◌, ◌<◌, ℕ, List, ma
 ghost use Rattle.sched_types.specs.Timetable.{RisesById, number_of};
 ghost use Rattle.gtfs_rows.specs.declared.rows.ExceptionRow.{ExceptionRow};
 ghost use Rattle.sched_load_defs.specs.References.{consistent_exceptions, has_id};
-ghost use Rattle.sched_load.specs.Listed.{most_rows, texts_seen};
+ghost use Rattle.sched_load.specs.Listed.{texts_seen};
+ghost use Rattle.sched_load_defs.specs.Files.{most_rows};
 ghost use Rattle.sched_load.specs.Groups.{Groups, exceptions_of};
 ghost use Rattle.sched_load.specs.Services.{ids_gathered, services_of};
 

@@ -5,7 +5,8 @@ ghost use Rattle.std.specs.List.{list_any};
 ghost use Rattle.sched_types.specs.Timetable.{number_of};
 ghost use Rattle.sched_load_defs.specs.Numbers.{by_id};
 ghost use Rattle.sched_load_defs.specs.References.{has_id};
-ghost use Rattle.sched_load.specs.Listed.{IsOrder, most_rows};
+ghost use Rattle.sched_load.specs.Listed.{IsOrder};
+ghost use Rattle.sched_load_defs.specs.Files.{most_rows};
 
 use crate::rows::IdRow;
 use std::cmp::Ordering;

@@ -2,12 +2,12 @@
 
 ghost use Rattle.std.specs.Prelude.{◌≡◌, ◌≤◌, ℕ, List, Option, IfOk, Ok, length, true, [], ◌||◌, bytes_eq};
 ghost use Rattle.hub_outside.specs.Files.{file_at};
-ghost use Rattle.sched_load_defs.specs.Files.{path_of, stored_in};
+ghost use Rattle.sched_load_defs.specs.Files.{path_of, stored_in, most_rows};
 ghost use Rattle.sched_load_defs.specs.Loading.{dataset_in};
 ghost use Rattle.sched_load_defs.specs.References.{consistent, consistent_stop_times, consistent_stops, has_id, with_parents};
 ghost use Rattle.sched_load.specs.Answer.{AnswersFromFiles, and_next};
 ghost use Rattle.sched_load.specs.Stages.{AreDays, IsNetwork, day_rows_in, days_where, network_where};
-ghost use Rattle.sched_load.specs.Listed.{file_rows, most_rows, same_id};
+ghost use Rattle.sched_load.specs.Listed.{file_rows, same_id};
 ghost use Rattle.sched_load.specs.Parents.{Checks};
 ghost use Rattle.sched_load.specs.Stops.{StopsFile, StopsPart, StopsTables, StopsWith};
 ghost use Rattle.sched_load.specs.Tables.{ReadsTables};
