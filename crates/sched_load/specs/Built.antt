@@ -18,7 +18,7 @@ use Rattle.service_day.specs.Zone.{TzText}
 use Rattle.sched_load_defs.specs.Frequencies.{load_answer_of, with_frequencies}
 use Rattle.sched_load_defs.specs.Loading.{with_times}
 use Rattle.sched_load_defs.specs.Numbers.{Dataset, by_id, known_number, timetable_of}
-use Rattle.sched_load.specs.Answer.{RefusesAlone}
+use Rattle.row_tables.specs.Alone.{RefusesAlone}
 
 -- the times of all trips are in order
 abbrev pub IsInOrder : Dataset → Type 0

@@ -19,13 +19,13 @@ ghost use Rattle.sched_load.specs.declared.visits.Visit.{Visit};
 
 use crate::days::{active_lists, bases_of};
 use crate::services::service_number;
-use crate::table::Table;
 use crate::tables::Tables;
 use crate::times::places_of;
 use crate::visits::{Visit, visits_of};
 use freq_parts::with_frequencies;
 use freq_runs::DeriveFault;
 use gtfs_rows::{AgencyRow, RouteRow, RowFault, StopRow, TripRow};
+use row_tables::Table;
 use sched_load_defs::{File, LoadFault};
 use sched_types::{Place, Plan, PlanName, PlanParts, Route, Stop, Trip};
 use service_day::Zone;

@@ -14,11 +14,10 @@ ghost use Rattle.sched_load.specs.Listed.{file_rows};
 ghost use Rattle.sched_load.specs.Stops.{StopsFile, StopsWith};
 
 use crate::gather::gather_bytes;
-use crate::rows::FileRow;
-use crate::table::Table;
 use crate::visits::Gathered;
 use gtfs_rows::{RowFault, StopRow, TripRow};
 use hub_outside::{Buf, FileAnswer, Files};
+use row_tables::{FileRow, Table};
 use sched_load_defs::{File, LoadFault};
 use std::alloc::{AllocError, Global};
 

@@ -12,10 +12,9 @@ ghost use Rattle.sched_load.specs.Parents.{Checks};
 ghost use Rattle.sched_load.specs.Stops.{StopsFile, StopsWith};
 
 use crate::files::read_rows;
-use crate::id_order::row_number;
-use crate::table::Table;
 use gtfs_rows::{Column, FrequencyRow, TripRow};
 use hub_outside::Files;
+use row_tables::{Table, row_number};
 use sched_load_defs::{File, LoadFault};
 use std::alloc::Global;
 

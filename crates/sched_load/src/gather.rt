@@ -11,9 +11,9 @@ ghost use Rattle.sched_load.specs.Listed.{stay_of};
 ghost use Rattle.sched_load_defs.specs.Files.{most_rows};
 ghost use Rattle.sched_load.specs.Visits.{Gathers, IsVisit, Skips};
 
-use crate::table::Table;
 use crate::visits::{Gathered, Stay, Visit};
 use gtfs_rows::{Column, RowFault, StopRow, StopTimeRow, StopTimes, TripRow};
+use row_tables::Table;
 use std::alloc::Global;
 
 /// The times of a row, of which an empty one takes the other.

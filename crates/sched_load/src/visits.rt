@@ -11,8 +11,8 @@ ghost use Rattle.gtfs_rows.specs.declared.rows.StopRow.{StopRow};
 ghost use Rattle.gtfs_rows.specs.declared.rows.TripRow.{TripRow};
 ghost use Rattle.gtfs_rows.specs.declared.rows.StopTimeRow.{StopTimeRow};
 
-use crate::id_order::row_number;
 use gtfs_rows::Column;
+use row_tables::row_number;
 use sched_load_defs::{File, LoadFault};
 use std::alloc::{AllocError, Global};
 use std::collections::BTreeMap;
