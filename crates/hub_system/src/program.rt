@@ -2,13 +2,14 @@
 
 ghost use Rattle.std.specs.Prelude.{◌≡◌, length};
 ghost use Rattle.std.specs.Arc.{arc_value};
+ghost use Rattle.hub_config_defs.specs.Right.{IsLegal};
 
 use crate::NoMemory;
 use exit_status::ExitStatus;
 use feed_port::FeedPort;
 use hub_main::{Prepared, ServeConf, prepare_serve, run_on_system};
 use hub_outside::{OpenGate, Sink, StdFiles, StdSink};
-use hub_ports::{SystemPort, clocks_of, doors_of, listen, open_ports, reader_count};
+use hub_ports::{SystemPort, clocks_of, doors_of, listen, open_ports};
 use hub_serve::run_serve;
 use rt_types::Text;
 use std::alloc::Global;
@@ -142,10 +143,11 @@ where
     E: Write + Send + Copy,
     requires boxed { F.IsAlwaysCallable boxed.now }
     requires feeds { length (arc_value ready.plans).feeds ≡ length ready.conf.feeds }
+    requires legal { IsLegal ready.conf }
 {
     let ServeConf { plans, conf } = ready;
     let mut ports = open_ports(rt, alloc, conf.feeds.as_slice(), boxed, errors)?;
-    let readers = reader_count(conf.readers);
+    let readers = conf.readers;
     // The doors alone keep the listener, so that it is closed once all of them have let it go.
     let mut doors = {
         let mut errors = StdSink::new(errors);

@@ -1,8 +1,8 @@
 use Rattle.std.proofs.Common.{◌≡◌}
-use Rattle.sched_load.specs.Listed.{same_id, texts_seen}
-use Rattle.sched_load.proofs.Faults.{Judged}
-use Rattle.sched_load.proofs.Places.{places_taken}
-use Rattle.sched_load.proofs.id_order.order_of.Given as goal
+use Rattle.row_tables.specs.Order.{same_id, texts_seen}
+use Rattle.row_tables.proofs.Faults.{Judged}
+use Rattle.row_tables.proofs.Places.{places_taken}
+use Rattle.row_tables.proofs.id_order.order_of.Given as goal
 
 abbrev pub invariant-loop-place : goal.invariant-loop-place
 invariant-loop-place g l = record {

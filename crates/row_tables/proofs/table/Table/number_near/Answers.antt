@@ -2,9 +2,8 @@ use Rattle.std.proofs.Common.{◌∙◌, ap, sym}
 use Rattle.sched_types.specs.Timetable.{number_of}
 use Rattle.sched_types.proofs.TimetableLaws.{own_number}
 use Rattle.sched_load_defs.specs.Numbers.{by_id}
-use Rattle.sched_load.proofs.Grouping.{text_from}
-use Rattle.sched_load.proofs.Numbered.{ids_rise}
-use Rattle.sched_load.proofs.table.Table.number_near.Goals as goal
+use Rattle.row_tables.proofs.Numbered.{ids_rise, text_from}
+use Rattle.row_tables.proofs.table.Table.number_near.Goals as goal
 
 pub returns-then-eq-clause-value : goal.returns-then-eq-clause-value
 returns-then-eq-clause-value g c =

@@ -20,9 +20,9 @@ use Rattle.std.proofs.lemmas.Option.{none-some as none_some, same_Some, slice_ge
 use Rattle.order.proofs.Lists.{any_same, range_more}
 use Rattle.sched_load_defs.specs.Numbers.{rows_with_keys, rows_by_key}
 use Rattle.sched_load_defs.proofs.Listing.{find_keyed}
-use Rattle.sched_load.specs.Listed.{IsOrder, same_id, texts_seen}
-use Rattle.sched_load.proofs.Keyed.{any_found, keyed_push, listed_map}
-use Rattle.sched_load.proofs.Numbered.{text_same, turned}
+use Rattle.row_tables.specs.Order.{IsOrder, same_id, texts_seen}
+use Rattle.row_tables.proofs.Keyed.{any_found, keyed_push, listed_map}
+use Rattle.row_tables.proofs.Numbered.{text_same, turned}
 
 pub true_false : true ≡ false → ⊥
 true_false e = subst T e tt

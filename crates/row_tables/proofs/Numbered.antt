@@ -1,7 +1,8 @@
 -- Rows by their numbers, and the number of an id.
-use Rattle.std.proofs.Common.{◌≡◌, ℕ, zero, suc, ◌+◌, ◌<◌, ◌≤◌, Bool, false, cond, nat_lt, List, [], ◌∷◌, length, get_or, position, refl, sym, ap, subst, ◌∙◌, arith, inl, inr, ◌⊎◌}
+use Rattle.std.proofs.Common.{◌≡◌, ℕ, zero, suc, ◌+◌, ◌<◌, ◌≤◌, Bool, true, false, cond, nat_lt, List, [], ◌∷◌, length, get_or, position, refl, sym, ap, subst, ◌∙◌, arith, inl, inr, ◌⊎◌}
 use Rattle.std.specs.Prelude.{slice_get, find, bytes_eq, Option, Some, None, is_some, option_map}
 use Rattle.std.specs.Ordering.{is_eq, eq_by_cmp, nat_cmp, ordering_reverse}
+use Rattle.std.specs.Cmp.{tied_itself}
 use Rattle.std.specs.Cmp.Lexicographic.{slice_cmp}
 use Rattle.std.specs.List.{position_or_len}
 use Rattle.std.specs.declared.cmp.Ordering.{Ordering}
@@ -16,14 +17,21 @@ use Rattle.std.proofs.lemmas.Map.Text.{is_eq-slice_cmp}
 use Rattle.std.proofs.lemmas.Option.{slice_get-map, slice_get_within, slice_get_past, none-some as none_some, same_Some, slice_get-get_or}
 use Rattle.sched_types.specs.Timetable.{RisesById, number_of}
 use Rattle.sched_types.proofs.Found.{position_present, position_absent}
+use Rattle.sched_load_defs.proofs.Listing.{equal_is}
 use Rattle.sched_load_defs.specs.Numbers.{by_id}
 use Rattle.sched_load_defs.specs.References.{has_id}
-use Rattle.sched_load.specs.Listed.{IsOrder}
-use Rattle.sched_load.proofs.Keyed.{listed_rises, find_listed, any_found}
+use Rattle.row_tables.specs.Order.{IsOrder}
+use Rattle.row_tables.proofs.Keyed.{listed_rises, find_listed, any_found}
 
 -- texts that compare as equal are one
 pub text_same : (x y : List ℕ) → slice_cmp nat_cmp x y ≡ Equal → x ≡ y
 text_same = slice_cmp-IsAntisymmetric nat_cmp-IsAntisymmetric
+
+pub text_itself : (x : List ℕ) → bytes_eq x x ≡ true
+text_itself x = sym (is_eq-slice_cmp x x) ∙ ap is_eq (tied_itself nat_list_cmp_total x)
+
+pub text_from : (x y : List ℕ) → bytes_eq x y ≡ true → x ≡ y
+text_from x y e = text_same x y (equal_is _ (is_eq-slice_cmp x y ∙ e))
 
 -- ids of listed rows rise
 pub ids_rise : {R : Type 0} (id_of : R → List ℕ) (rows : List R) → RisesById id_of (by_id id_of rows)

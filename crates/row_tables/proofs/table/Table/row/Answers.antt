@@ -1,7 +1,7 @@
 use Rattle.std.proofs.Common.{◌<◌, length, subst, sym, arith}
 use Rattle.sched_load_defs.specs.Numbers.{by_id}
-use Rattle.sched_load.proofs.Numbered.{order_within, order_row}
-use Rattle.sched_load.proofs.table.Table.row.Goals as goal
+use Rattle.row_tables.proofs.Numbered.{order_within, order_row}
+use Rattle.row_tables.proofs.table.Table.row.Goals as goal
 
 pub index-requires-2 : goal.index-requires-2
 index-requires-2 g c =

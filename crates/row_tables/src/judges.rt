@@ -7,7 +7,7 @@ use crate::table::Table;
 use gtfs_rows::{AgencyRow, Column, RouteRow, TripRow};
 
 /// The rows that are known when the rows of a file are judged.
-pub(crate) trait Judge<R> {
+pub trait Judge<R> {
     ghost use Rattle.gtfs_rows.specs.declared.column.Column.{Column};
 
     ghost unknown_of: { Self → R → Option Column };
@@ -19,7 +19,7 @@ pub(crate) trait Judge<R> {
 
 /// Of a file that refers to no other.
 #[derive(Clone, Copy)]
-pub(crate) struct NoReference;
+pub struct NoReference;
 
 impl<R> Judge<R> for NoReference {
     ghost unknown_of = { λ _. refers_to_none };
@@ -31,8 +31,9 @@ impl<R> Judge<R> for NoReference {
 
 /// Of routes.txt.
 #[derive(Clone, Copy)]
-pub(crate) struct KnownAgencies<'a> {
-    pub(crate) agencies: &'a Table<AgencyRow>,
+pub struct KnownAgencies<'a> {
+    /// The rows of agency.txt.
+    pub agencies: &'a Table<AgencyRow>,
 }
 
 impl Judge<RouteRow> for KnownAgencies<'_> {
@@ -50,8 +51,9 @@ impl Judge<RouteRow> for KnownAgencies<'_> {
 
 /// Of trips.txt.
 #[derive(Clone, Copy)]
-pub(crate) struct KnownRoutes<'a> {
-    pub(crate) routes: &'a Table<RouteRow>,
+pub struct KnownRoutes<'a> {
+    /// The rows of routes.txt.
+    pub routes: &'a Table<RouteRow>,
 }
 
 impl Judge<TripRow> for KnownRoutes<'_> {

@@ -1,8 +1,8 @@
 use Rattle.std.proofs.Common.{◌∙◌, sym, Some, None}
 use Rattle.std.specs.Str.{bytes_eq}
 use Rattle.sched_load_defs.specs.Numbers.{by_id}
-use Rattle.sched_load.proofs.Numbered.{find_by_number, find_in_order}
-use Rattle.sched_load.proofs.table.Table.find.Goals as goal
+use Rattle.row_tables.proofs.Numbered.{find_by_number, find_in_order}
+use Rattle.row_tables.proofs.table.Table.find.Goals as goal
 
 pub returns-in-Some : goal.returns-in-Some
 returns-in-Some g c =

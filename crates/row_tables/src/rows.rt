@@ -13,7 +13,7 @@ use sched_load_defs::File;
 use std::alloc::Global;
 
 /// A row of a file.
-pub(crate) trait FileRow: Drop {
+pub trait FileRow: Drop {
     ghost use Rattle.gtfs_rows.specs.Tables.{Columns};
     ghost use Rattle.sched_load_defs.specs.declared.fault.File.{File};
 
@@ -38,7 +38,7 @@ pub(crate) trait FileRow: Drop {
 }
 
 /// A row that has an id of its own.
-pub(crate) trait IdRow: FileRow {
+pub trait IdRow: FileRow {
     ghost id_of: { Self → List ℕ };
 
     /// Its id.

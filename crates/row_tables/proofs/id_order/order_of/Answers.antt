@@ -1,9 +1,9 @@
 use Rattle.std.proofs.Common.{◌≡◌, ◌∙◌, length, refl, sym, ap, map, false, arith}
 use Rattle.std.proofs.lemmas.Option.{slice_get_read}
-use Rattle.sched_load.specs.Listed.{same_id}
-use Rattle.sched_load.proofs.Faults.{judged_unknown, judged_twin, judged_more, judged_all}
-use Rattle.sched_load.proofs.Places.{twin_is, placed_more, placed_all}
-use Rattle.sched_load.proofs.id_order.order_of.Goals as goal
+use Rattle.row_tables.specs.Order.{same_id}
+use Rattle.row_tables.proofs.Faults.{judged_unknown, judged_twin, judged_more, judged_all}
+use Rattle.row_tables.proofs.Places.{twin_is, placed_more, placed_all}
+use Rattle.row_tables.proofs.id_order.order_of.Goals as goal
 
 pub returns-in-Some : goal.returns-in-Some
 returns-in-Some g c =

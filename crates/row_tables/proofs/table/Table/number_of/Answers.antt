@@ -2,8 +2,8 @@ use Rattle.std.proofs.Common.{◌+◌, ◌-◌, ◌/◌, ap, sym, ◌∙◌, ari
 use Rattle.std.specs.Cmp.Lexicographic.{slice_cmp}
 use Rattle.std.specs.Ordering.{nat_cmp}
 use Rattle.sched_load_defs.specs.Numbers.{by_id}
-use Rattle.sched_load.proofs.Numbered.{ids_rise, between_right, between_left, between_found, between_none}
-use Rattle.sched_load.proofs.table.Table.number_of.Goals as goal
+use Rattle.row_tables.proofs.Numbered.{ids_rise, between_right, between_left, between_found, between_none}
+use Rattle.row_tables.proofs.table.Table.number_of.Goals as goal
 
 pub loop-low-preserved-in-Less : goal.loop-low-preserved-in-Less
 loop-low-preserved-in-Less g c =

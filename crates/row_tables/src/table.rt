@@ -5,7 +5,8 @@ ghost use Rattle.std.specs.List.{list_any};
 ghost use Rattle.sched_types.specs.Timetable.{number_of};
 ghost use Rattle.sched_load_defs.specs.Numbers.{by_id};
 ghost use Rattle.sched_load_defs.specs.References.{has_id};
-ghost use Rattle.sched_load.specs.Listed.{IsOrder, most_rows};
+ghost use Rattle.row_tables.specs.Order.{IsOrder};
+ghost use Rattle.sched_load_defs.specs.Files.{most_rows};
 
 use crate::rows::IdRow;
 use std::cmp::Ordering;
@@ -13,14 +14,14 @@ use std::marker::Model;
 
 /// The rows of a file in its order, with their places by rising bytes of their ids.
 #[derive(Drop)]
-pub(crate) struct Table<R: IdRow> {
+pub struct Table<R: IdRow> {
     rows: Vec<R>,
     order: Vec<u32>,
 }
 
 impl<R: IdRow> Model for Table<R> {
     ghost use Rattle.std.specs.Prelude.{List};
-    ghost use Rattle.sched_load.specs.Listed.{IsOrder};
+    ghost use Rattle.row_tables.specs.Order.{IsOrder};
 
     ghost Value = { List R };
 
@@ -31,7 +32,7 @@ impl<R: IdRow> Model for Table<R> {
 
 impl<R: IdRow> Table<R> {
     /// The rows, whose places in order are given.
-    pub(crate) fn new(rows: Vec<R>, order: Vec<u32>) -> Table<R>
+    pub fn new(rows: Vec<R>, order: Vec<u32>) -> Table<R>
         requires { IsOrder R.id_of rows.items order.items }
         ensures { result ≡ rows.items }
     {
@@ -39,21 +40,21 @@ impl<R: IdRow> Table<R> {
     }
 
     /// The rows in the order of their file.
-    pub(crate) fn rows(&self) -> &[R]
+    pub fn rows(&self) -> &[R]
         ensures { result.now ≡ self.now }
     {
         self.rows.as_slice()
     }
 
     /// How many ids there are.
-    pub(crate) fn len(&self) -> usize
+    pub fn len(&self) -> usize
         ensures { result ≡ length (by_id R.id_of self.now) }
     {
         self.order.len()
     }
 
     /// The row of that number by rising ids.
-    pub(crate) fn row(&self, number: usize) -> &R
+    pub fn row(&self, number: usize) -> &R
         requires { number < length (by_id R.id_of self.now) }
         ensures { slice_get (by_id R.id_of self.now) number ≡ Some result.now }
     {
@@ -61,7 +62,7 @@ impl<R: IdRow> Table<R> {
     }
 
     /// The number of the row with that id.
-    pub(crate) fn number_of(&self, id: &str) -> Option<usize>
+    pub fn number_of(&self, id: &str) -> Option<usize>
         ensures value { result ≡ number_of R.id_of (by_id R.id_of self.now) id.now }
         ensures within { IfSome result (λ number. number < length (by_id R.id_of self.now)) }
     {
@@ -79,7 +80,7 @@ impl<R: IdRow> Table<R> {
     }
 
     /// The same, where the row with that id often is that of the number `near`.
-    pub(crate) fn number_near(&self, near: usize, id: &str) -> Option<usize>
+    pub fn number_near(&self, near: usize, id: &str) -> Option<usize>
         ensures value { result ≡ number_of R.id_of (by_id R.id_of self.now) id.now }
         ensures within { IfSome result (λ number. number < length (by_id R.id_of self.now)) }
     {
@@ -90,14 +91,14 @@ impl<R: IdRow> Table<R> {
     }
 
     /// Whether a row has that id.
-    pub(crate) fn has(&self, id: &str) -> bool
+    pub fn has(&self, id: &str) -> bool
         ensures { result ≡ has_id R.id_of self.now id.now }
     {
         self.number_of(id).is_some()
     }
 
     /// The row with that id.
-    pub(crate) fn find(&self, id: &str) -> Option<&R>
+    pub fn find(&self, id: &str) -> Option<&R>
         ensures { option_copied result ≡ find (λ row. bytes_eq (R.id_of row) id.now) self.now }
     {
         match self.number_of(id) {

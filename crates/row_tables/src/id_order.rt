@@ -2,7 +2,8 @@
 
 ghost use Rattle.std.specs.Prelude.{◌≡◌, ◌≤◌, ◌<◌, ◌+◌, ◌^◌, length, map, IfOk};
 ghost use Rattle.sched_load_defs.specs.References.{consistent, row_at};
-ghost use Rattle.sched_load.specs.Listed.{Orders, most_rows, same_id, texts_seen};
+ghost use Rattle.row_tables.specs.Order.{Orders, same_id, texts_seen};
+ghost use Rattle.sched_load_defs.specs.Files.{most_rows};
 
 use crate::judges::Judge;
 use crate::rows::IdRow;
@@ -11,7 +12,7 @@ use std::alloc::{AllocError, Global};
 use std::collections::BTreeMap;
 
 /// The number of a row of data by its place: the header is row 1.
-pub(crate) fn row_number(place: usize) -> u32
+pub fn row_number(place: usize) -> u32
     requires { place < most_rows }
     ensures { result ≡ row_at place }
 {
@@ -32,7 +33,7 @@ fn values(alloc: Global, places: &BTreeMap<&str, u32>) -> Result<Vec<u32>, Alloc
 
 /// The places of the rows by rising ids, or the first row that refers to nothing or has the id of an
 /// earlier one.
-pub(crate) fn order_of<R: IdRow, J: Judge<R>>(
+pub fn order_of<R: IdRow, J: Judge<R>>(
     alloc: Global,
     rows: &[R],
     judge: &J,
