@@ -2,12 +2,13 @@
 
 ghost use Rattle.std.specs.Prelude.{◌≡◌, length};
 ghost use Rattle.std.specs.Arc.{arc_value};
+ghost use Rattle.hub_config_defs.specs.Right.{IsLegal};
 
 use crate::NoMemory;
 use feed_port::FeedPort;
 use hub_config_defs::HubConf;
 use hub_outside::{OpenGate, Sink, StdSink};
-use hub_ports::{SystemPort, clocks_of, doors_of, listen, open_ports, reader_count};
+use hub_ports::{SystemPort, clocks_of, doors_of, listen, open_ports};
 use hub_serve::run_serve;
 use sched_types::Plans;
 use std::alloc::Global;
@@ -47,9 +48,10 @@ where
     E: Write + Send + Copy,
     requires boxed { F.IsAlwaysCallable boxed.now }
     requires feeds { length (arc_value plans).feeds ≡ length conf.now.feeds }
+    requires legal { IsLegal conf.now }
 {
     let mut ports = open_ports(rt, alloc, conf.feeds.as_slice(), boxed, errors)?;
-    let readers = reader_count(conf.readers);
+    let readers = conf.readers;
     // The doors alone keep the listener, so that it is closed once all of them have let it go.
     let mut doors = {
         let mut errors = StdSink::new(errors);
