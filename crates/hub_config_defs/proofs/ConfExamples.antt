@@ -1,6 +1,5 @@
 -- Configurations of a few lines, computed by the definitions.
 use Rattle.std.specs.Prelude.{◌≡◌, ℕ, List, [], ◌∷◌, ◌++◌, refl, codes, Result, Ok, Err}
-use Rattle.hub_config_defs.specs.declared.conf.FeedConf.{FeedConf}
 use Rattle.hub_config_defs.specs.declared.conf.HubConf.{HubConf}
 use Rattle.hub_config_defs.specs.declared.conf.PortKind.TheVariants as kind
 use Rattle.hub_config_defs.specs.declared.conf.ScheduleConf.{ScheduleConf}
