@@ -1,6 +1,5 @@
 -- Configurations of a few lines, computed by the definitions.
 use Rattle.std.specs.Prelude.{◌≡◌, ℕ, List, [], ◌∷◌, ◌++◌, refl, codes, Result, Ok, Err}
-use Rattle.hub_config_defs.specs.declared.conf.FeedConf.{FeedConf}
 use Rattle.hub_config_defs.specs.declared.conf.HubConf.{HubConf}
 use Rattle.hub_config_defs.specs.declared.conf.PortKind.TheVariants as kind
 use Rattle.hub_config_defs.specs.declared.conf.ScheduleConf.{ScheduleConf}
@@ -99,8 +98,8 @@ no_document : (conf_of (codes "readers") ≡ Err fault.Toml)
 unfolding conf_on_literals
 no_document = (refl, refl, refl)
 
--- names that no key has come first, by their bytes, and then keys by their order; a value of another type, and
--- numbers out of range
+-- names that no key has come first, by their bytes, and then keys by their order; a value of
+-- another type, and numbers out of range
 first_of_a_table : (conf_of (codes "zz = 1\nreaders = 0\nyy = 1\n" ++ schedule named) ≡ wrong Top 0 (codes "yy") Unknown)
     × (conf_of (codes "connections = -1\nlisten = 1\n" ++ schedule named) ≡ wrong Top 0 (codes "listen") Bad)
     × (conf_of (codes "readers = 65\n" ++ schedule named) ≡ wrong Top 0 (codes "readers") Bad)
@@ -111,8 +110,8 @@ first_of_a_table : (conf_of (codes "zz = 1\nreaders = 0\nyy = 1\n" ++ schedule n
 unfolding conf_on_literals
 first_of_a_table = (refl, refl, refl, refl, refl, refl, refl)
 
--- of a schedule: a name of another form, one that comes again, a date that is none, a window that is too long, and a
--- prefix of 33 bytes
+-- of a schedule: a name of another form, one that comes again, a date that is none, a window that
+-- is too long, and a prefix of 33 bytes
 schedules_are_judged : (conf_of (schedule []) ≡ wrong Schedule 1 (codes "name") Missing)
     × (conf_of (schedule (codes "name = \"A\"\n")) ≡ wrong Schedule 1 (codes "name") Bad)
     × (conf_of (schedule named ++ schedule named) ≡ wrong Schedule 2 (codes "name") Twice)
@@ -122,8 +121,8 @@ schedules_are_judged : (conf_of (schedule []) ≡ wrong Schedule 1 (codes "name"
 unfolding conf_on_literals
 schedules_are_judged = (refl, refl, refl, refl, refl, refl)
 
--- of a feed: a schedule that is not there, another kind of port, a place that can't be polled, and more tries than there
--- may be; a fault of a schedule comes before one of a feed
+-- of a feed: a schedule that is not there, another kind of port, a place that can't be polled, and
+-- more tries than there may be; a fault of a schedule comes before one of a feed
 feeds_are_judged : (conf_of (schedule named ++ feed (codes "name = \"b\"\nschedule = \"c\"\n")) ≡ wrong Feed 1 (codes "schedule") NoName)
     × (conf_of (schedule named ++ feed (codes "name = \"b\"\nschedule = \"a\"\nkind = \"file\"\n")) ≡ wrong Feed 1 (codes "kind") Bad)
     × (conf_of (schedule named ++ feed (codes "name = \"b\"\nschedule = \"a\"\nkind = \"poll\"\nplace = \"/feed\"\n")) ≡ wrong Feed 1 (codes "place") Bad)

@@ -1,6 +1,7 @@
 use Rattle.std.specs.Prelude.{⊤}
 use Rattle.std.specs.Fmt.{digits}
-use Rattle.std.specs.Str.{is_utf8}
+use Rattle.std.specs.Str.{chars, is_utf8}
+use lib.Utf8.{encode}
 use Rattle.text_defs.specs.Dates.{is_day, date_in}
 use Rattle.text_defs.specs.Names.{is_name}
 use Rattle.toml.proofs.OnLiterals.{toml_on_literals}
@@ -12,5 +13,5 @@ use Rattle.hub_config_defs.specs.Lines.{line_of}
 
 -- what an answer unfolds to compute this crate's specs on a literal
 unfoldable pub conf_on_literals : ⊤
-unfolding toml_on_literals digits is_utf8 is_day date_in is_name rule_of keys_of date_of port_of is_poll_place host_of path_of number_of is_text_for text_of is_array_for tables_of number_at text_at tables_at name_fault is_held value_fault key_fault is_known unknown_in wrong_in first_wrong schedule_of index_of feed_of schedule_row feed_row added rows_from hub_of conf_in conf_of line_of
+unfolding toml_on_literals digits chars is_utf8 encode is_day date_in is_name rule_of keys_of date_of port_of is_poll_place host_of path_of number_of is_text_for text_of is_array_for tables_of number_at text_at tables_at name_fault is_held value_fault key_fault is_known unknown_in wrong_in first_wrong schedule_of index_of feed_of schedule_row feed_row added rows_from hub_of conf_in conf_of line_of
 conf_on_literals = tt
