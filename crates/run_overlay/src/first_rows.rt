@@ -35,7 +35,10 @@ fn instants_of(rows: &[LiveRow]) -> Instants {
 /// A number by which departures are sorted: it rises with the stop, and then with the instant, as long as it stays within
 /// 64 bits. Departures with one number are those of one instant at one stop.
 fn rank(row: &LiveRow, instants: Instants) -> u64 {
-    let span = instants.latest.abs_diff(instants.earliest).saturating_add(1);
+    let span = instants
+        .latest
+        .abs_diff(instants.earliest)
+        .saturating_add(1);
     let after = row.slot.at.abs_diff(instants.earliest);
     (row.stop as u64).wrapping_mul(span).wrapping_add(after)
 }
