@@ -10,14 +10,14 @@
 #![tactic(auto)]
 
 use feed_port::FeedPort;
-use hub_system::{NoMemory, SystemPort, run_program};
+use hub_system::{NoMemory, SystemPort, Unblocked, run_program};
 use std::io;
 use std::process::ExitCode;
 use std::rt::Stderr;
 
 fn main(rt: HostRuntime) -> ExitCode {
     let alloc = rt.alloc();
-    let boxed = |port: SystemPort<HostRuntime, Stderr>| -> Result<
+    let boxed = |port: SystemPort<HostRuntime, Unblocked<Stderr>>| -> Result<
         Box<dyn FeedPort + Send>,
         NoMemory,
     > {
@@ -28,5 +28,6 @@ fn main(rt: HostRuntime) -> ExitCode {
             SystemPort::Poll(port) => Ok(Box::new(alloc, port)?),
         }
     };
-    ExitCode::from(run_program(&rt, &boxed, rt.stdin(), io::writer(&rt), rt.stderr()))
+    let errors = Unblocked::new(rt.stderr());
+    ExitCode::from(run_program(&rt, &boxed, rt.stdin(), io::writer(&rt), errors))
 }

@@ -8,7 +8,7 @@ use exit_status::ExitStatus;
 use feed_port::FeedPort;
 use hub_main::{Prepared, ServeConf, prepare_serve, run_on_system};
 use hub_outside::{OpenGate, Sink, StdFiles, StdSink};
-use hub_ports::{SystemPort, clocks_of, doors_of, listen, open_ports, reader_count};
+use hub_ports::{HeldNumbers, SystemPort, clocks_of, doors_of, listen, open_ports, reader_count};
 use hub_serve::run_serve;
 use rt_types::Text;
 use std::alloc::Global;
@@ -81,7 +81,8 @@ pub fn words_of_serve(
     }
 }
 
-/// Prepares a hub by the words, and runs it.
+/// Prepares a hub by the words, and runs it. Nothing that it opens is taken for standard input, output or
+/// error, also where the program was started without them.
 fn serve<R, P, F, K, E>(
     rt: &R,
     alloc: Global,
@@ -107,6 +108,7 @@ where
     E: Write + Send + Copy,
     requires { F.IsAlwaysCallable boxed.now }
 {
+    let _held = HeldNumbers::hold(rt);
     let mut files = StdFiles::new(rt);
     match prepare_serve(alloc, words, &mut files, out) {
         Prepared::Ready(ready) => {
