@@ -8,6 +8,7 @@ Ends with status 0 exactly where all was as it should be.
 import concurrent.futures
 import http.client
 import os
+import subprocess
 import sys
 import urllib.request
 
@@ -101,6 +102,18 @@ def long_messages():
     close(hub, senders)
 
 
+def large_samples():
+    """Samples whose trips go round a day, so that those from the 1,441st on begin where the first did. The lines are those
+    of a count made apart from the hub: rows and delays of ten boards at noon."""
+    lines = {("2300", "5"): "accepted 5 refused 0 rows 227 delays 128",
+             ("5000", "1000"): "accepted 1000 refused 0 rows 339 delays 5351"}
+    for (trips, messages), line in lines.items():
+        said = {subprocess.run([sys.argv[1], "gen", "7", trips, messages], capture_output=True, text=True, check=True).stdout
+                for _ in range(2)}
+        see(f"a sample of {trips} trips and {messages} messages is twice the same, as counted",
+            said == {f"trips {trips} messages {messages} {line}\n"})
+
+
 def close(hub, senders):
     hub.close()
     for sender in senders:
@@ -110,5 +123,6 @@ def close(hub, senders):
 many_feeds()
 many_readers()
 long_messages()
+large_samples()
 print(f"{failures} failed")
 sys.exit(failures != 0)
