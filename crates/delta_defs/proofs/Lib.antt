@@ -1,0 +1,5 @@
+pub mod Examples
+pub mod IdOrder
+pub mod Told
+pub mod Applying
+pub mod Tables
