@@ -5,5 +5,6 @@
 
 mod left;
 mod pairs;
+mod sent;
 
 pub use std::alloc::AllocError as NoMemory;

@@ -1,0 +1,31 @@
+-- What is written of each id of a feed.
+use Rattle.std.specs.Prelude.{ℕ, List, [], Option, Some, None, if◌then◌else◌}
+use Rattle.rt_types.specs.declared.message.Entity.{Entity}
+use Rattle.feed_defs.specs.Combined.{entity_under_feed}
+use Rattle.feed_defs.specs.Renamed.{renamed_entity}
+use Rattle.feed_defs.specs.declared.history.Stored.{Stored}
+use Rattle.feed_write.specs.Entities.{entity_field}
+use Rattle.delta_defs.specs.Changes.{gone, is_same}
+use Rattle.delta_out.specs.Pairs.{IdPair}
+
+-- an entity of the feed of that name, as the combined feed has it
+abbrev pub named_entity : List ℕ → List ℕ → Entity → Entity
+named_entity prefix name entity = entity_under_feed name (renamed_entity prefix entity)
+
+-- what is sent, by what was held and what is
+abbrev pub entity_sent : List ℕ → List ℕ → List ℕ → Option Stored → Option Stored → Option Entity
+entity_sent prefix name id None None = None
+entity_sent prefix name id (Some was) None = Some (entity_under_feed name (gone id))
+entity_sent prefix name id None (Some is) = Some (named_entity prefix name is.entity)
+entity_sent prefix name id (Some was) (Some is) =
+    if is_same (named_entity prefix name was.entity) (named_entity prefix name is.entity) then None
+    else Some (named_entity prefix name is.entity)
+
+-- the bytes of an entity, if there is one
+abbrev pub field_of : Option Entity → List ℕ
+field_of None = []
+field_of (Some entity) = entity_field entity
+
+-- the bytes that are sent of an id
+abbrev pub pair_field : List ℕ → List ℕ → IdPair → List ℕ
+pair_field prefix name pair = field_of (entity_sent prefix name pair.id pair.was pair.is)
