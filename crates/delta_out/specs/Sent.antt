@@ -1,12 +1,15 @@
 -- What is written of each id of a feed.
 use Rattle.std.specs.Prelude.{ℕ, List, [], Option, Some, None, if◌then◌else◌}
+use Rattle.std.specs.List.{flat_map}
 use Rattle.rt_types.specs.declared.message.Entity.{Entity}
 use Rattle.feed_defs.specs.Combined.{entity_under_feed}
 use Rattle.feed_defs.specs.Renamed.{renamed_entity}
 use Rattle.feed_defs.specs.declared.history.Stored.{Stored}
 use Rattle.feed_write.specs.Entities.{entity_field}
-use Rattle.delta_defs.specs.Changes.{gone, is_same}
-use Rattle.delta_out.specs.Pairs.{IdPair}
+use Rattle.board_defs.specs.Feeds.{HubFeed}
+use Rattle.board_defs.specs.Fold.{FeedFold}
+use Rattle.delta_defs.specs.Changes.{gone, is_same, held_before}
+use Rattle.delta_out.specs.Pairs.{IdPair, pairs_of}
 
 -- an entity of the feed of that name, as the combined feed has it
 abbrev pub named_entity : List ℕ → List ℕ → Entity → Entity
@@ -29,3 +32,8 @@ field_of (Some entity) = entity_field entity
 -- the bytes that are sent of an id
 abbrev pub pair_field : List ℕ → List ℕ → IdPair → List ℕ
 pair_field prefix name pair = field_of (entity_sent prefix name pair.id pair.was pair.is)
+
+-- the bytes that are sent of a feed, of what all feeds held
+abbrev pub feed_field : List ℕ → List FeedFold → HubFeed → List ℕ
+feed_field prefix old one = flat_map (pair_field prefix one.feed.name)
+    (pairs_of (held_before old one) one.fold.entities)
