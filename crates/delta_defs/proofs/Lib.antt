@@ -1,1 +1,4 @@
 pub mod Examples
+pub mod IdOrder
+pub mod Told
+pub mod Applying
