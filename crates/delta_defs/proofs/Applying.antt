@@ -1,12 +1,13 @@
 -- The difference brings a combined feed from what it was to what it is.
-use Rattle.std.proofs.Common.{◌≡◌, ◌≢◌, ℕ, zero, suc, ◌+◌, List, [], ◌∷◌, ◌++◌, map, length, Bool, true, false, cond, nat_eq, Option, Some, None, refl, sym, ap, ◌∙◌, subst, append_assoc, codes, arith}
-use Rattle.std.specs.Prelude.{◌&&◌, T, filter, unwrap_or, slice_index_or, if◌then◌else◌}
-use Rattle.std.specs.List.{flat_map, filter_map, cons_option, AllByRecursion}
+use Rattle.std.proofs.Common.{◌≡◌, ◌≢◌, ℕ, zero, suc, ◌+◌, List, [], ◌∷◌, ◌++◌, map, length, Bool, true, false, cond, nat_eq, Option, Some, None, refl, sym, ap, ◌∙◌, subst, append_assoc, length-append, codes, arith}
+use Rattle.std.specs.Prelude.{◌&&◌, T, filter, slice_get, slice_index_or, nat_le, if◌then◌else◌, IsTrue}
+use Rattle.std.specs.List.{flat_map, filter_map, cons_option, list_all, AllByRecursion}
 use Rattle.std.specs.Option.{option_map, option_and_then, option_map_or}
 use Rattle.std.specs.Str.{bytes_eq}
 use Rattle.std.specs.Ordering.{is_eq, eq_by_cmp}
 use Rattle.std.specs.FinMap.{find, is_sorted}
 use Rattle.std.specs.FinMap.Entries.{below_all}
+use Rattle.std.proofs.lemmas.Bool.{eqb-true, and_parts}
 use Rattle.std.proofs.lemmas.List.{map-append}
 use Rattle.std.proofs.lemmas.Map.Text.{is_eq-slice_cmp}
 use Rattle.rt_types.specs.declared.message.Entity.{Entity}
@@ -16,7 +17,8 @@ use Rattle.feed_defs.specs.Renamed.{renamed_entity}
 use Rattle.feed_defs.specs.History.{Change, changes_by_id}
 use Rattle.feed_defs.proofs.Kept.{id_cmp, left, right, listed_sorted}
 use Rattle.sched_types.specs.declared.plans.NamedFeed.{NamedFeed}
-use Rattle.sched_types.specs.Schedules.{Schedules}
+use Rattle.sched_types.specs.Schedules.{Schedules, AreSchedules}
+use Rattle.text_defs.specs.Names.{is_name_byte, is_name}
 use Rattle.board_defs.specs.Feed.{combined_entity, prefix_of}
 use Rattle.board_defs.specs.Feeds.{HubFeed, feeds_from, is_of_schedule, schedule_feeds, held_as, held_by, held_in}
 use Rattle.board_defs.specs.Fold.{FeedFold}
@@ -220,3 +222,282 @@ module _ (prefix : List ℕ) (one : HubFeed) where
           ≡ standing (option_and_then (λ x. option_map (named_one prefix one) (find id_cmp x is)) o)
       by_place None = refl
       by_place (Some x) = by_cases x (held_under x was) (held_under x is) refl refl
+
+-- ---- names
+
+abbrev pub HasNoColon : List ℕ → Type 0
+HasNoColon name = AllByRecursion (λ b. nat_eq b 58 ≡ false) name
+
+-- an id is under one name alone
+names_apart : (a b q x : List ℕ) → HasNoColon a → HasNoColon b → (a ≡ b → ⊥) → behind a q ≡ Some x → behind b q ≡ None
+names_apart [] [] q x plain other apart at = absurd (apart refl)
+names_apart [] (y ∷ b) [] x plain other apart at = absurd (none_some x at)
+names_apart [] (y ∷ b) (z ∷ q) x plain other apart at = by_first (nat_eq z y) refl
+  where
+    by_first : (t : Bool) → nat_eq z y ≡ t → (if t then behind b q else None) ≡ None
+    by_first true e = absurd (none_some x (ap (λ t. if t then Some q else None) (sym (ap (λ n. nat_eq n 58) (eqb-true z y e) ∙ other.0)) ∙ at))
+    by_first false e = refl
+names_apart (w ∷ a) b [] x plain other apart at = absurd (none_some x at)
+names_apart (w ∷ a) [] (z ∷ q) x plain other apart at = by_first (nat_eq z w) refl at
+  where
+    by_first : (t : Bool) → nat_eq z w ≡ t → (if t then behind a q else None) ≡ Some x → (if nat_eq z 58 then Some q else None) ≡ None
+    by_first true e is = ap (λ t. if t then Some q else None) (ap (λ n. nat_eq n 58) (eqb-true z w e) ∙ plain.0)
+    by_first false e is = absurd (none_some x is)
+names_apart (w ∷ a) (y ∷ b) (z ∷ q) x plain other apart at = by_both (nat_eq z w) refl (nat_eq z y) refl at (names_apart a b q x plain.1 other.1)
+  where
+    by_both : (t : Bool) → nat_eq z w ≡ t → (u : Bool) → nat_eq z y ≡ u → (if t then behind a q else None) ≡ Some x → ((a ≡ b → ⊥) → behind a q ≡ Some x → behind b q ≡ None) → (if u then behind b q else None) ≡ None
+    by_both t e false f is rest = refl
+    by_both false e true f is rest = absurd (none_some x is)
+    by_both true e true f is rest = rest (λ same. apart (λ i. (sym (eqb-true z w e) ∙ eqb-true z y f) i ∷ same i)) is
+
+-- ---- all feeds
+
+-- no two have one name
+abbrev pub AreApart : List HubFeed → Type 0
+AreApart [] = Unit {0}
+AreApart (one ∷ feeds) = AllByRecursion (λ other. one.feed.name ≡ other.feed.name → ⊥) feeds × AreApart feeds
+
+module _ (prefix : List ℕ) (old : List FeedFold) where
+  abbrev sent_of : HubFeed → List Entity
+  sent_of one = feed_changes prefix (held_before old one) one
+
+  abbrev was_of : HubFeed → List Entity
+  was_of one = map (λ c. named_one prefix one c.1) (held_before old one)
+
+  abbrev is_of : HubFeed → List Entity
+  is_of one = map (λ c. named_one prefix one c.1) one.fold.entities
+
+  -- what a feed held and holds is in order, and what is written alike is one
+  record IsReady (one : HubFeed) : Type 0 where
+    was_sorted : T (is_sorted id_cmp (held_before old one))
+    was_keyed : AllByRecursion IsKeyed (held_before old one)
+    is_sorted_too : T (is_sorted id_cmp one.fold.entities)
+    is_keyed : AllByRecursion IsKeyed one.fold.entities
+    alike : AreTold prefix one (held_before old one) one.fold.entities
+    plain : HasNoColon one.feed.name
+
+  module _ (q : List ℕ) where
+    none_sent : (one : HubFeed) → IsReady one → behind one.feed.name q ≡ None → told q (sent_of one) ≡ None
+    none_sent one ready e = sent_told prefix one q (held_before old one) one.fold.entities ready.is_keyed ∙ ap (option_and_then (λ x. change_sent prefix one x (held_under x (held_before old one)) (held_under x one.fold.entities))) e
+
+    none_was : (one : HubFeed) → IsReady one → behind one.feed.name q ≡ None → told q (was_of one) ≡ None
+    none_was one ready e = held_told prefix one q (held_before old one) ready.was_sorted ready.was_keyed ∙ ap (option_and_then (λ x. option_map (named_one prefix one) (find id_cmp x (held_before old one)))) e
+
+    none_is : (one : HubFeed) → IsReady one → behind one.feed.name q ≡ None → told q (is_of one) ≡ None
+    none_is one ready e = held_told prefix one q one.fold.entities ready.is_sorted_too ready.is_keyed ∙ ap (option_and_then (λ x. option_map (named_one prefix one) (find id_cmp x one.fold.entities))) e
+
+    none_in : (f : HubFeed → List Entity) → ((one : HubFeed) → IsReady one → behind one.feed.name q ≡ None → told q (f one) ≡ None) → (feeds : List HubFeed) → AllByRecursion IsReady feeds → AllByRecursion (λ one. behind one.feed.name q ≡ None) feeds → told q (flat_map f feeds) ≡ None
+    none_in f each [] ready elsewhere = refl
+    none_in f each (one ∷ feeds) ready elsewhere =
+        told-append q (f one) (flat_map f feeds)
+        ∙ (λ i. or_else (none_in f each feeds ready.1 elsewhere.1 i) (each one ready.0 elsewhere.0 i))
+
+    elsewhere_all : (one : HubFeed) (x : List ℕ) → IsReady one → behind one.feed.name q ≡ Some x → (feeds : List HubFeed) → AllByRecursion IsReady feeds → AllByRecursion (λ other. one.feed.name ≡ other.feed.name → ⊥) feeds → AllByRecursion (λ other. behind other.feed.name q ≡ None) feeds
+    elsewhere_all one x ready at [] each apart = tt
+    elsewhere_all one x ready at (other ∷ feeds) each apart = (names_apart one.feed.name other.feed.name q x ready.plain each.0.plain apart.0 at, elsewhere_all one x ready at feeds each.1 apart.1)
+
+    all_brought : (feeds : List HubFeed) → AllByRecursion IsReady feeds → AreApart feeds → standing (or_else (told q (flat_map sent_of feeds)) (told q (flat_map was_of feeds))) ≡ standing (told q (flat_map is_of feeds))
+    all_brought [] ready apart = refl
+    all_brought (one ∷ feeds) ready apart =
+        (λ i. standing (or_else (told-append q (sent_of one) (flat_map sent_of feeds) i) (told-append q (was_of one) (flat_map was_of feeds) i)))
+        ∙ by_place (behind one.feed.name q) refl (all_brought feeds ready.1 apart.1)
+        ∙ ap standing (sym (told-append q (is_of one) (flat_map is_of feeds)))
+      where
+        by_place : (o : Option (List ℕ)) → behind one.feed.name q ≡ o → standing (or_else (told q (flat_map sent_of feeds)) (told q (flat_map was_of feeds))) ≡ standing (told q (flat_map is_of feeds))
+            → standing (or_else (or_else (told q (flat_map sent_of feeds)) (told q (sent_of one))) (or_else (told q (flat_map was_of feeds)) (told q (was_of one)))) ≡ standing (or_else (told q (flat_map is_of feeds)) (told q (is_of one)))
+        by_place None at rest =
+            (λ i. standing (or_else (or_else (told q (flat_map sent_of feeds)) (none_sent one ready.0 at i)) (or_else (told q (flat_map was_of feeds)) (none_was one ready.0 at i))))
+            ∙ (λ i. standing (or_else (or_else-none (told q (flat_map sent_of feeds)) i) (or_else-none (told q (flat_map was_of feeds)) i)))
+            ∙ rest
+            ∙ sym ((λ i. standing (or_else (told q (flat_map is_of feeds)) (none_is one ready.0 at i))) ∙ ap standing (or_else-none (told q (flat_map is_of feeds))))
+        by_place (Some x) at rest =
+            let elsewhere = elsewhere_all one x ready.0 at feeds ready.1 apart.0 in
+            (λ i. standing (or_else (or_else (none_in sent_of none_sent feeds ready.1 elsewhere i) (told q (sent_of one))) (or_else (none_in was_of none_was feeds ready.1 elsewhere i) (told q (was_of one)))))
+            ∙ feed_brought prefix one q (held_before old one) one.fold.entities ready.0.was_sorted ready.0.was_keyed ready.0.is_sorted_too ready.0.is_keyed ready.0.alike
+            ∙ ap (λ o. standing (or_else o (told q (is_of one)))) (sym (none_in is_of none_is feeds ready.1 elsewhere))
+
+-- ---- the combined feeds
+
+module _ (prefix : List ℕ) (plan : ℕ) where
+  each_is : (one : HubFeed) (es : List Change) → map (combined_entity prefix) (map (held_as one) es) ≡ map (λ c. named_one prefix one c.1) es
+  each_is one [] = refl
+  each_is one (c ∷ es) = ap (λ xs. named_one prefix one c.1 ∷ xs) (each_is one es)
+
+  now_is : (old : List FeedFold) (feeds : List HubFeed) → map (combined_entity prefix) (held_in feeds) ≡ flat_map (is_of prefix old) feeds
+  now_is old [] = refl
+  now_is old (one ∷ feeds) = map-append (combined_entity prefix) (held_by one) (held_in feeds) ∙ (λ i. each_is one one.fold.entities i ++ now_is old feeds i)
+
+  at_seam : (front : List FeedFold) (first : ℕ) (x : FeedFold) (more : List FeedFold) → length front ≡ first → slice_index_or (front ++ x ∷ more) first no_fold ≡ x
+  at_seam front first x more e = ap (λ n. slice_index_or (front ++ x ∷ more) n no_fold) (sym e) ∙ here x more front
+    where
+      here : (y : FeedFold) (ys xs : List FeedFold) → slice_index_or (xs ++ y ∷ ys) (length xs) no_fold ≡ y
+      here y ys [] = refl
+      here y ys (z ∷ xs) = here y ys xs
+
+  was_is : (first : ℕ) (feeds : List NamedFeed) (front olds news : List FeedFold) → length front ≡ first → length olds ≡ length news
+      → map (combined_entity prefix) (held_in (filter (is_of_schedule plan) (feeds_from first feeds olds))) ≡ flat_map (was_of prefix (front ++ olds)) (filter (is_of_schedule plan) (feeds_from first feeds news))
+  was_is first [] front olds news e f = refl
+  was_is first (feed ∷ feeds) front [] [] e f = refl
+  was_is first (feed ∷ feeds) front [] (n ∷ news) e f = absurd (omega (arith, f))
+  was_is first (feed ∷ feeds) front (o ∷ olds) [] e f = absurd (omega (arith, f))
+  was_is first (feed ∷ feeds) front (o ∷ olds) (n ∷ news) e f =
+      chosen (nat_eq feed.plan plan)
+      (was_is (first + 1) feeds (front ++ o ∷ []) olds news (length-append front (o ∷ []) ∙ ap (λ k. k + 1) e) (omega (arith, f))
+      ∙ ap (λ folds. flat_map (was_of prefix folds) (filter (is_of_schedule plan) (feeds_from (first + 1) feeds news))) (append_assoc front (o ∷ []) olds))
+    where
+      was : HubFeed
+      was = record { number = first; feed = feed; fold = o }
+
+      is : HubFeed
+      is = record { number = first; feed = feed; fold = n }
+
+      before : List HubFeed
+      before = filter (is_of_schedule plan) (feeds_from (first + 1) feeds olds)
+
+      after : List HubFeed
+      after = filter (is_of_schedule plan) (feeds_from (first + 1) feeds news)
+
+      all : List FeedFold
+      all = front ++ o ∷ olds
+
+      chosen : (b : Bool) → map (combined_entity prefix) (held_in before) ≡ flat_map (was_of prefix all) after → map (combined_entity prefix) (held_in (cond b (was ∷ before) before)) ≡ flat_map (was_of prefix all) (cond b (is ∷ after) after)
+      chosen true rest =
+          map-append (combined_entity prefix) (held_by was) (held_in before)
+          ∙ (λ i. (each_is was o.entities ∙ ap (λ (fold : FeedFold). map (λ c. named_one prefix is c.1) fold.entities) (sym (at_seam front first o olds e))) i ++ rest i)
+      chosen false rest = rest
+
+-- ---- what is true of each feed
+
+-- what a feed holds is in order, each entity under its own id
+abbrev pub IsTable : FeedFold → Type 0
+IsTable fold = T (is_sorted id_cmp fold.entities) × AllByRecursion IsKeyed fold.entities
+
+at_number : (P : FeedFold → Type 0) → P no_fold → (folds : List FeedFold) → AllByRecursion P folds → (i : ℕ) → P (slice_index_or folds i no_fold)
+at_number P none [] each zero = none
+at_number P none [] each (suc i) = none
+at_number P none (fold ∷ folds) each zero = each.0
+at_number P none (fold ∷ folds) each (suc i) = at_number P none folds each.1 i
+
+module _ (plan : ℕ) where
+  each_feed : (P : NamedFeed → Type 0) (first : ℕ) (feeds : List NamedFeed) (folds : List FeedFold) → AllByRecursion P feeds → AllByRecursion (λ one. P one.feed) (filter (is_of_schedule plan) (feeds_from first feeds folds))
+  each_feed P first [] folds each = tt
+  each_feed P first (feed ∷ feeds) [] each = tt
+  each_feed P first (feed ∷ feeds) (fold ∷ folds) each = chosen (nat_eq feed.plan plan) (each_feed P (first + 1) feeds folds each.1)
+    where
+      others : List HubFeed
+      others = filter (is_of_schedule plan) (feeds_from (first + 1) feeds folds)
+
+      chosen : (b : Bool) → AllByRecursion (λ one. P one.feed) others → AllByRecursion (λ one. P one.feed) (cond b (record { number = first; feed = feed; fold = fold } ∷ others) others)
+      chosen true rest = (each.0, rest)
+      chosen false rest = rest
+
+  each_fold : (P : FeedFold → Type 0) (first : ℕ) (feeds : List NamedFeed) (folds : List FeedFold) → AllByRecursion P folds → AllByRecursion (λ one. P one.fold) (filter (is_of_schedule plan) (feeds_from first feeds folds))
+  each_fold P first [] folds each = tt
+  each_fold P first (feed ∷ feeds) [] each = tt
+  each_fold P first (feed ∷ feeds) (fold ∷ folds) each = chosen (nat_eq feed.plan plan) (each_fold P (first + 1) feeds folds each.1)
+    where
+      others : List HubFeed
+      others = filter (is_of_schedule plan) (feeds_from (first + 1) feeds folds)
+
+      chosen : (b : Bool) → AllByRecursion (λ one. P one.fold) others → AllByRecursion (λ one. P one.fold) (cond b (record { number = first; feed = feed; fold = fold } ∷ others) others)
+      chosen true rest = (each.0, rest)
+      chosen false rest = rest
+
+  abbrev AreNamedApart : List NamedFeed → Type 0
+  AreNamedApart [] = Unit {0}
+  AreNamedApart (feed ∷ feeds) = AllByRecursion (λ other. feed.name ≡ other.name → ⊥) feeds × AreNamedApart feeds
+
+  apart_all : (first : ℕ) (feeds : List NamedFeed) (folds : List FeedFold) → AreNamedApart feeds → AreApart (filter (is_of_schedule plan) (feeds_from first feeds folds))
+  apart_all first [] folds apart = tt
+  apart_all first (feed ∷ feeds) [] apart = tt
+  apart_all first (feed ∷ feeds) (fold ∷ folds) apart = chosen (nat_eq feed.plan plan) (apart_all (first + 1) feeds folds apart.1)
+    where
+      others : List HubFeed
+      others = filter (is_of_schedule plan) (feeds_from (first + 1) feeds folds)
+
+      chosen : (b : Bool) → AreApart others → AreApart (cond b (record { number = first; feed = feed; fold = fold } ∷ others) others)
+      chosen true rest = (each_feed (λ other. feed.name ≡ other.name → ⊥) (first + 1) feeds folds apart.0, rest)
+      chosen false rest = rest
+
+  ready_all : (prefix : List ℕ) (old : List FeedFold) → AllByRecursion IsTable old → (feeds : List HubFeed) → AllByRecursion (λ one. HasNoColon one.feed.name) feeds → AllByRecursion (λ one. IsTable one.fold) feeds
+      → AllByRecursion (λ one. AreTold prefix one (held_before old one) one.fold.entities) feeds → AllByRecursion (IsReady prefix old) feeds
+  ready_all prefix old tables [] plain now alike = tt
+  ready_all prefix old tables (one ∷ feeds) plain now alike =
+      (record {
+        was_sorted = (at_number IsTable (tt, tt) old tables one.number).0;
+        was_keyed = (at_number IsTable (tt, tt) old tables one.number).1;
+        is_sorted_too = now.0.0;
+        is_keyed = now.0.1;
+        alike = alike.0;
+        plain = plain.0;
+      }, ready_all prefix old tables feeds plain.1 now.1 alike.1)
+
+-- ---- names of feeds
+
+no_colon : (b : ℕ) → is_name_byte b ≡ true → nat_eq b 58 ≡ false
+no_colon b e = by_test (nat_eq b 58) refl
+  where
+    by_test : (t : Bool) → nat_eq b 58 ≡ t → t ≡ false
+    by_test true is = absurd (colon_none (subst (λ n. is_name_byte n ≡ true) (eqb-true b 58 is) e))
+      where
+        colon_none : is_name_byte 58 ≡ true → ⊥
+        colon_none same = cc
+    by_test false is = refl
+
+plain_name : (name : List ℕ) → IsTrue (is_name name) → HasNoColon name
+unfolding is_name
+plain_name name e = each name (and_parts (nat_le 1 (length name) && nat_le (length name) 32) (list_all is_name_byte name) e).1
+  where
+    each : (bytes : List ℕ) → list_all is_name_byte bytes ≡ true → HasNoColon bytes
+    each [] all = tt
+    each (b ∷ bytes) all = let parts = and_parts (is_name_byte b) (list_all is_name_byte bytes) all in (no_colon b parts.0, each bytes parts.1)
+
+by_index : {X : Type 0} (P : X → Type 0) (xs : List X) → ((i : ℕ) (x : X) → slice_get xs i ≡ Some x → P x) → AllByRecursion P xs
+by_index P [] each = tt
+by_index P (x ∷ xs) each = (each 0 x refl, by_index P xs (λ i y at. each (suc i) y at))
+
+named_apart : (plan : ℕ) (feeds : List NamedFeed) → ((i j : ℕ) (p q : NamedFeed) → slice_get feeds i ≡ Some p → slice_get feeds j ≡ Some q → p.name ≡ q.name → i ≡ j) → AreNamedApart plan feeds
+named_apart plan [] each = tt
+named_apart plan (feed ∷ feeds) each =
+    (by_index (λ other. feed.name ≡ other.name → ⊥) feeds (λ j other at same. suc_apart j (each 0 (suc j) feed other refl at same)),
+    named_apart plan feeds (λ i j p q at there same. back i j (each (suc i) (suc j) p q at there same)))
+  where
+    suc_apart : (j : ℕ) → 0 ≡ suc j → ⊥
+    suc_apart j e = omega (arith, e)
+
+    back : (i j : ℕ) → suc i ≡ suc j → i ≡ j
+    back i j e = omega (arith, e)
+
+-- ---- the promise
+
+-- Who has the combined feed of then and applies the difference has that of now, of the same feeds, where what is
+-- written alike is one.
+pub changes_bring : (schedules : Schedules) (plan : ℕ) (old new : List FeedFold) → AreSchedules schedules → length old ≡ length new → AllByRecursion IsTable old → AllByRecursion IsTable new
+    → AllByRecursion (λ one. AreTold (prefix_of schedules plan) one (held_before old one) one.fold.entities) (schedule_feeds plan schedules.feeds new)
+    → BringsTo schedules plan old new (changes schedules plan old new)
+changes_bring schedules plan old new sound equal_count was now alike = record {
+  entities = got_same (combined_message schedules plan old ∷ changes schedules plan old new ∷ []) (combined_message schedules plan new ∷ []) (λ q.
+      got_two q (combined_message schedules plan old) (changes schedules plan old new) refl
+      ∙ ap standing (
+      told-append q (combined_message schedules plan old).entity (changes schedules plan old new).entity
+      ∙ ap (λ es. or_else (told q (changes schedules plan old new).entity) (told q es)) (was_is prefix plan 0 schedules.feeds [] old new refl equal_count))
+      ∙ all_brought prefix old q ours ready apart
+      ∙ ap (λ es. standing (told q es)) (sym (now_is prefix plan old ours))
+      ∙ sym (got_one q (combined_message schedules plan new)));
+  stamp = refl;
+}
+  where
+    prefix : List ℕ
+    prefix = prefix_of schedules plan
+
+    ours : List HubFeed
+    ours = schedule_feeds plan schedules.feeds new
+
+    ready : AllByRecursion (IsReady prefix old) ours
+    ready =
+        ready_all plan prefix old was ours
+        (each_feed plan (λ feed. HasNoColon feed.name) 0 schedules.feeds new (by_index (λ feed. HasNoColon feed.name) schedules.feeds (λ i feed at. plain_name feed.name (sound.feed_named i feed at))))
+        (each_fold plan IsTable 0 schedules.feeds new now) alike
+
+    apart : AreApart ours
+    apart = apart_all plan 0 schedules.feeds new (named_apart plan schedules.feeds sound.feeds_apart)
