@@ -65,7 +65,9 @@ else
   run serve bench/serve.sh
   run ingest bench/running.sh ingest
   run load bench/running.sh load
+  run cities bench/running.sh cities
   run memory bench/running.sh memory
+  run unread bench/running.sh unread
   run sizes bench/running.sh sizes
   run looks bench/looks.sh 4000000 2000
   run intake bench/intake.sh
@@ -263,11 +265,20 @@ rows("`running.sh load`",
      ("the same while 200 messages a second come in", moving[0]),
      ("nginx with a file of the same bytes, and as many workers", nginx[0]),
      ("the median and the 99th of a hundred for one reader; while messages come in; nginx", "; ".join((still[1], moving[1], nginx[1]))))
+rows("`running.sh cities`",
+     ("answers a second of two readers: a board of a city of 3 trips; of five rows of one of 20,000, 3,000 of them live",
+      joined(found("cities", r"(?:trips|live): ([\d,]+)"))))
 most = [[number(word) for word in line.split(", ")] for line in re.findall(r"at most: ([\d., ]+) MiB", text("memory"))]
 heaps = [joined([tenths[0], tenths[-1]], ".1f") + " MiB" for tenths in most] + ["-", "-"]
 rows("`running.sh memory`",
      ("two feeds of 3,000 entities, 360 whole data sets of each: the most of the first and of the last tenth, with one heap", heaps[0]),
      ("the same with a heap for each thread", heaps[1]))
+
+rows("`running.sh unread`",
+     ("whole data sets of 30,000 entities for two minutes, at most; next to 64 clients that ask for the feed and never read",
+      joined(found("unread", r"at most ([\d,]+) MiB")) + " MiB"),
+     ("the responses that these keep; a state of the feed",
+      joined(found("unread", r"(?:responses have|state of the feed has) ([\d,]+) MiB")) + " MiB"))
 
 print("\n| Stop times of the timetable, three days | Entities of the feed, each of a trip | Listens after | Memory then"
       " | At most | A whole data set, of one processor | A board of an hour, of one processor |\n|---|---|---|---|---|---|---|")

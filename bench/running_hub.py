@@ -72,7 +72,10 @@ class Sender:
         for part in self.parts:
             if self.end.is_set():
                 break
-            link.sendall(part)
+            try:
+                link.sendall(part)
+            except ConnectionError:
+                break
             if self.pause:
                 time.sleep(self.pause)
         self.end.wait()

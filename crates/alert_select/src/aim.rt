@@ -7,6 +7,7 @@ ghost use Rattle.trip_match_defs.specs.Matching.{match_of};
 ghost use Rattle.alert_defs.specs.Touching.{stop_with};
 ghost use Rattle.alert_select.specs.Aims.{IsAim};
 
+use board_base::{route_named, stop_named};
 use rt_types::{Selector, Text, TripRef};
 use sched_types::Plan;
 use trip_match::{Found, find};
@@ -39,8 +40,8 @@ pub(crate) fn aim_of<'a>(plan: &Plan, selector: &'a Selector, stamp: u64) -> Aim
         selector,
         stamp,
         agency: agency_of(plan, &selector.agency_id),
-        route: route_of(plan, &selector.route_id),
-        stop: stop_of(plan, &selector.stop_id),
+        route: route_named(plan, &selector.route_id),
+        stop: stop_named(plan, &selector.stop_id),
         found: found_of(plan, &selector.trip, stamp),
     }
 }
@@ -51,27 +52,6 @@ fn agency_of(plan: &Plan, id: &Option<Text>) -> Option<u32>
 {
     match id {
         Some(id) => plan.agency_of(id.as_str()),
-        None => None,
-    }
-}
-
-/// The number of the route of that id.
-fn route_of(plan: &Plan, id: &Option<Text>) -> Option<u32>
-    ensures { result ≡ option_and_then (number_of (λ row. row.id) plan.now.routes) id.now }
-{
-    match id {
-        Some(id) => plan.route_of(id.as_str()),
-        None => None,
-    }
-}
-
-/// The number of the stop of that id.
-fn stop_of(plan: &Plan, id: &Option<Text>) -> Option<u32>
-    ensures value { result ≡ option_and_then (stop_with plan.now) id.now }
-    ensures within { IfSome result (λ stop. stop < length plan.now.stops) }
-{
-    match id {
-        Some(id) => plan.stop_of(id.as_str()),
         None => None,
     }
 }

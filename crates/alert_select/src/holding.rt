@@ -13,7 +13,8 @@ ghost use Rattle.alert_select.specs.Aims.{IsAim};
 
 use crate::aim::Aim;
 use crate::subject::AddedKey;
-use rt_types::{Selector, Text, TripRef};
+use board_base::text_of;
+use rt_types::{Selector, TripRef};
 use sched_types::{Plan, Route, Run};
 use trip_match::Found;
 
@@ -223,14 +224,4 @@ fn is_added_trip(named: &TripRef, trip: &str, date: &str) -> bool
     ensures { result ≡ choosing.is_added_trip trip.now date.now named.now }
 {
     text_of(&named.trip_id) == trip && text_of(&named.start_date) == date
-}
-
-/// The text; empty where it is absent.
-fn text_of(text: &Option<Text>) -> &str
-    ensures { result.now ≡ choosing.text_or_none text.now }
-{
-    match text {
-        Some(text) => text.as_str(),
-        None => "",
-    }
 }

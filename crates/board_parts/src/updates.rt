@@ -2,14 +2,14 @@
 
 ghost use Rattle.std.specs.Prelude.{◌≡◌};
 ghost use Rattle.board_defs.specs.Choice as choosing;
-ghost use Rattle.board_defs.specs.Choice.{stamp_or, update_at, update_in};
+ghost use Rattle.board_defs.specs.Choice.{update_at, update_in};
 
 use crate::entities::HeldEntity;
-use crate::window::counts_at;
+use board_base::counts_at;
 use rt_types::TripUpdate;
+use run_overlay::stamp_of;
 use std::cmp::Ordering;
 use std::marker::Model;
-use texts::is_stamp;
 
 /// A trip update, with the number of its feed, the id of its entity, and its stamp. A contract sees it as `Update` of
 /// `board_defs`.
@@ -101,16 +101,5 @@ impl<'a> Update<'a> {
             id: self.id,
             update: self.update,
         }
-    }
-}
-
-/// An update's own stamp, where it is a moment, else its message's, in seconds since 1970 (GTFS Realtime 2.0,
-/// TripUpdate, `timestamp`).
-pub fn stamp_of(message: u64, own: Option<u64>) -> u64
-    ensures { result ≡ stamp_or message own }
-{
-    match own {
-        Some(own) if is_stamp(own) => own,
-        _ => message,
     }
 }

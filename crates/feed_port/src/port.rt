@@ -5,6 +5,7 @@ ghost use Rattle.feed_defs.specs.History.{longest_message};
 ghost use Rattle.hub_outside.specs.Buffer.{room_of};
 ghost use Rattle.feed_port.specs.Ports.{Answers, GoesOnToTell, HasPortCause};
 
+use hub_core::Refusal;
 use hub_outside::Buf;
 
 /// What one ask of a [`FeedPort`] came to.
@@ -39,6 +40,13 @@ pub trait FeedPort: Drop {
         ensures told { GoesOnToTell (ahead self.old) (ahead self.new) (faults self.old)
             (faults self.new) }
         ensures cause { HasPortCause result (faults self.old) (faults self.new) };
+
+    /// Hears why the message that was handed in last is refused. What is ahead stays, and so does the
+    /// count of faults. A port with no use for it does nothing.
+    fn hear(&mut self, _refusal: &Refusal)
+        ensures ahead { ahead self.new ≡ ahead self.old }
+        ensures faults { faults self.new ≡ faults self.old }
+    {}
 }
 
 impl FeedPort for Box<dyn FeedPort + Send> {
@@ -49,5 +57,10 @@ impl FeedPort for Box<dyn FeedPort + Send> {
     fn next(&mut self, into: &mut Buf) -> PortAnswer {
         let inner = &mut **self;
         inner.next(into)
+    }
+
+    fn hear(&mut self, refusal: &Refusal) {
+        let inner = &mut **self;
+        inner.hear(refusal)
     }
 }

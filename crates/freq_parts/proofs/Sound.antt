@@ -18,6 +18,7 @@ use Rattle.sched_types.specs.declared.rows.PlanPattern.{PlanPattern}
 use Rattle.sched_types.specs.declared.rows.PlanDerived.{PlanDerived}
 use Rattle.sched_types.specs.Timetable.{Timetable, IsTimetable, RisesById, RiseByStart, places_of}
 use Rattle.sched_load_defs.specs.Frequencies.{TimedTrip, id_of, timed_trips, pattern_of, at_time, trip_of_pattern, timed_of, plan_pattern, plan_derived, plan_deriveds}
+use Rattle.sched_load_defs.specs.Files.{most_rows}
 use Rattle.freq_parts.specs.Conditions.{IsPlain}
 use Rattle.freq_parts.specs.Differ.{text_cmp}
 use Rattle.freq_parts.specs.Joined.{joined, all_of, AreListed}
@@ -192,7 +193,7 @@ module _ (t : Timetable) (named : TimedTrip → Bool) (derived : List Derived) (
   others = filter (λ timed. not (named timed)) (timed_trips t)
 
   -- how many places there are in trips.txt
-  given_places : sum_by places_each patterns + sum_by places_each others ≤ 4_000_000
+  given_places : sum_by places_each patterns + sum_by places_each others ≤ most_rows
   given_places =
       omega (
         arith,

@@ -4,11 +4,8 @@ use Rattle.freq_runs.specs.Trips.{time_end}
 use Rattle.gtfs_rows.specs.declared.rows.FrequencyRow.{FrequencyRow}
 use Rattle.sched_types.specs.declared.rows.Place.{Place}
 use Rattle.sched_types.specs.Timetable.{Timetable, IsTimetable, places_of}
+use Rattle.sched_load_defs.specs.Files.{most_rows}
 use Rattle.sched_load_defs.specs.References.{has_id}
-
--- how many rows a file has at most
-abbrev pub most_rows : ℕ
-most_rows = 4_000_000
 
 -- The trips are those of trips.txt, each once, with as many places as stop_times.txt has rows at most, at times
 -- that a file may have.

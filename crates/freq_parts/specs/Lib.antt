@@ -1,4 +1,3 @@
 pub mod Conditions
-pub mod Named
 pub mod Differ
 pub mod Joined

@@ -1,9 +1,9 @@
 //! Which trips the rows name.
 
-ghost use Rattle.std.specs.Prelude.{◌≡◌, List, IfOk, filter, not};
+ghost use Rattle.std.specs.Prelude.{◌≡◌, List, IfOk, filter, map, not};
 ghost use Rattle.gtfs_rows.specs.declared.rows.FrequencyRow.{FrequencyRow};
+ghost use Rattle.freq_runs.specs.Known.{AreKeys};
 ghost use Rattle.sched_load_defs.specs.Frequencies as rule;
-ghost use Rattle.freq_parts.specs.Named.{AreNamed};
 
 use crate::timed::TimedTrip;
 use gtfs_rows::FrequencyRow;
@@ -15,7 +15,7 @@ pub(crate) fn named_ids<'a>(
     alloc: Global,
     rows: &'a [FrequencyRow],
 ) -> Result<BTreeMap<&'a str, ()>, AllocError>
-    ensures { IfOk result (λ ids. AreNamed ids rows.entry.now) }
+    ensures { IfOk result (λ ids. AreKeys ids (map (λ row. row.trip_id) rows.entry.now)) }
 {
     let mut ids = BTreeMap::new(alloc);
     for row in rows {
@@ -26,7 +26,7 @@ pub(crate) fn named_ids<'a>(
 
 /// Whether a row names the trip.
 fn is_named(ids: &BTreeMap<&str, ()>, timed: &TimedTrip) -> bool
-    ensures { (rows : List FrequencyRow) → AreNamed ids.now rows
+    ensures { (rows : List FrequencyRow) → AreKeys ids.now (map (λ row. row.trip_id) rows)
         → result ≡ rule.is_named rows timed.now }
 {
     ids.contains_key(timed.id().as_str())
@@ -45,9 +45,9 @@ pub(crate) fn parted_trips(
     timed: Vec<TimedTrip>,
     ids: &BTreeMap<&str, ()>,
 ) -> Result<Parted, AllocError>
-    ensures patterns { (rows : List FrequencyRow) → AreNamed ids.now rows
+    ensures patterns { (rows : List FrequencyRow) → AreKeys ids.now (map (λ row. row.trip_id) rows)
         → IfOk result (λ parted. parted.patterns.items ≡ filter (rule.is_named rows) timed.items) }
-    ensures others { (rows : List FrequencyRow) → AreNamed ids.now rows
+    ensures others { (rows : List FrequencyRow) → AreKeys ids.now (map (λ row. row.trip_id) rows)
         → IfOk result (λ parted. parted.others.items
         ≡ filter (λ one. not (rule.is_named rows one)) timed.items) }
 {

@@ -8,7 +8,8 @@ ghost use Rattle.freq_runs.specs.Trips.{IsPattern, IsRow};
 ghost use Rattle.sched_types.specs.Parts.{table_of};
 ghost use Rattle.sched_types.specs.Timetable.{IsTimetable, RisesById};
 ghost use Rattle.sched_load_defs.specs.Frequencies as rule;
-ghost use Rattle.freq_parts.specs.Conditions.{IsPlain, IsRowOf, most_rows};
+ghost use Rattle.freq_parts.specs.Conditions.{IsPlain, IsRowOf};
+ghost use Rattle.sched_load_defs.specs.Files.{most_rows};
 
 use crate::lists::lists_with;
 use crate::named::{named_ids, parted_trips};

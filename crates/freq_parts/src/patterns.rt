@@ -5,7 +5,7 @@ ghost use Rattle.std.specs.List.{All, enumerate_from};
 ghost use Rattle.sched_types.specs.Timetable.{RisesById};
 ghost use Rattle.sched_load_defs.specs.Frequencies as rule;
 ghost use Rattle.sched_load_defs.specs.Numbers.{known_number};
-ghost use Rattle.freq_parts.specs.Conditions.{most_rows};
+ghost use Rattle.sched_load_defs.specs.Files.{most_rows};
 
 use crate::timed::TimedTrip;
 use freq_runs::{Frequency, Pattern, PlaceTime, Times};

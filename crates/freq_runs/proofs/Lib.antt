@@ -1,6 +1,6 @@
 mod Ranges
 mod Digits
 mod Places
-mod Known
+pub mod Known
 mod RowByRow
 mod Examples

@@ -1,4 +1,4 @@
-//! Targets, cut into their path and their form.
+//! Cuts targets into their path and their form.
 ghost use Rattle.std.specs.Prelude.{◌≡◌};
 ghost use Rattle.std.specs.List.{position};
 ghost use Rattle.http_defs.specs.Targets.{begins_with_slash, is_question_mark, path_in, form_in};

@@ -1,7 +1,13 @@
 -- Whole responses about the small city: each line computes.
-use Rattle.std.specs.Prelude.{◌≡◌, ℕ, Bool, true, false, List, [], ◌∷◌, ◌++◌, refl, codes}
+use Rattle.std.specs.Prelude.{◌≡◌, ℕ, Bool, true, false, List, [], ◌∷◌, ◌++◌, length, take, None, refl, codes}
 use Rattle.std.specs.Fmt.{decimal, digits}
+use Rattle.json.specs.Print.{escape_byte, print_from}
 use Rattle.text_defs.specs.Cleaned.{line_feed}
+use Rattle.pb_wire_defs.specs.Writing.{groups, varint, payload_bytes, field_bytes}
+use Rattle.rt_types.specs.declared.message.Entity.{Entity}
+use Rattle.feed_defs.specs.declared.history.Entry.{Entry}
+use Rattle.feed_defs.specs.Rows.{fields_of_all, value, message_bytes, merged_message, values, numbered_values}
+use Rattle.feed_defs.specs.Table.{read, write}
 use Rattle.text_defs.specs.Dates.{is_day, date_plus, next_day, date_in}
 use Rattle.feed_defs.specs.History.{messages_of, since_full, changes_by_id, entities_of}
 use Rattle.sched_types.specs.City.{city}
@@ -10,11 +16,13 @@ use Rattle.trip_match_defs.specs.Matching.{match_of, by_near}
 use Rattle.delay_rule_defs.specs.Delays.{states}
 use Rattle.order.specs.Order.{inserted, ordered}
 use Rattle.board_defs.specs.Choice.{chosen, added_updates}
+use Rattle.board_defs.specs.Feed.{feed_bytes}
 use Rattle.board_defs.specs.Fold.{fold_of}
 use Rattle.sched_types.specs.Runs.{all_runs}
 use Rattle.board_defs.specs.Rows.{run_rows, board_at, board}
 use Rattle.board_text_defs.specs.Lines.{tab, between_tabs}
 use Rattle.board_text_defs.specs.BoardText.{board_text}
+use Rattle.board_text_defs.specs.BoardJson.{board_json}
 use Rattle.board_text_defs.specs.Alerts.{alerts_text}
 use Rattle.board_text_defs.specs.Status.{status_text}
 use Rattle.board_text_defs.specs.UnmatchedText.{unmatched_text}
@@ -25,7 +33,9 @@ use Rattle.http_defs.specs.declared.request.Item.{Item}
 use Rattle.http_defs.specs.declared.request.Item.TheVariants.{Asked, Malformed}
 use Rattle.http_defs.specs.Responses.{crlf, refusal}
 use Rattle.http_defs.proofs.OnLiterals.{http_on_literals}
+use Rattle.board_defs.proofs.Parts.{entry_of, message_at}
 use Rattle.http_serve_defs.specs.Answers.{answer, closes_behind}
+use Rattle.http_serve_defs.specs.Connections.{responses}
 
 -- the city with the feeds a and b, which have said nothing
 abbrev schedules : Schedules
@@ -50,14 +60,18 @@ fields (field ∷ []) = field ++ line_feed
 fields (field ∷ next ∷ more) = field ++ tab ++ fields (next ∷ more)
 
 -- a head, where there is no Allow, and an empty line
-abbrev head : List ℕ → ℕ → List ℕ → List ℕ
-head status size connection =
+abbrev typed_head : List ℕ → List ℕ → ℕ → ℕ → List ℕ → List ℕ
+typed_head status kind size number connection =
     codes "HTTP/1.1 " ++ status ++ crlf
-    ++ codes "Content-Type: text/plain; charset=utf-8" ++ crlf
+    ++ codes "Content-Type: " ++ kind ++ crlf
     ++ codes "Content-Length: " ++ decimal size ++ crlf
-    ++ codes "X-Hub-Sequence: 0" ++ crlf
+    ++ codes "X-Hub-Sequence: " ++ decimal number ++ crlf
     ++ codes "X-Hub-Moment: 1743314000" ++ crlf
     ++ codes "Connection: " ++ connection ++ crlf ++ crlf
+
+-- that of a text, where no message was accepted
+abbrev head : List ℕ → ℕ → List ℕ → List ℕ
+head status size connection = typed_head status (codes "text/plain; charset=utf-8") size 0 connection
 
 -- the first departure of the harbour
 abbrev harbour : List ℕ
@@ -113,3 +127,63 @@ what_is_wrong_is_refused :
     ≡ refusal 404 0 1743314000 true)
 unfolding http_on_literals answer closes_behind
 what_is_wrong_is_refused = (refl, refl, refl, refl, refl, refl)
+
+-- ---- other types, and what was accepted
+
+-- an entity with an id alone
+abbrev nameless : Entity
+nameless = record {
+  id = codes "x";
+  is_deleted = None;
+  trip_update = None;
+  vehicle = None;
+  alert = None;
+  unknown = [];
+}
+
+-- a sends it at the stamp 5, and b nothing at the stamp 7
+abbrev sent : List Entry
+sent = entry_of 0 (message_at 5 (nameless ∷ [])) ∷ entry_of 1 (message_at 7 []) ∷ []
+
+-- the response of the hub after so many of these messages
+abbrev after : ℕ → Item → List ℕ
+after number item = answer schedules item false 1743314000 number (fold_of 2 (take number sent))
+
+-- a board of one row as JSON
+abbrev market : List ℕ
+market =
+    codes "{\"name\":\"Market\",\"rows\":[{\"date\":\"20250330\",\"delay\":null,\"expected\":1743314400,\"headsign\":\"Hill\",\"platform\":\"S1\",\"route\":\"7\",\"scheduled\":1743314400,\"state\":\"scheduled\",\"trip\":\"T1\"}],\"stop\":\"ST\"}"
+
+json_is_answered :
+    after 0 (get (codes "/board/city/ST?limit=1&format=json"))
+    ≡ typed_head (codes "200 OK") (codes "application/json") (length market) 0 (codes "keep-alive") ++ market
+unfolding http_on_literals fold_of messages_of since_full changes_by_id entities_of chosen added_updates match_of by_near date_in is_day date_plus next_day states all_runs run_rows board_at board inserted ordered digits print_from escape_byte board_json schedule_number board_answer answer closes_behind
+json_is_answered = refl
+
+-- the status after no message, after one and after two
+numbers_are_told :
+    (after 1 (get (codes "/status"))
+    ≡ typed_head (codes "200 OK") (codes "text/plain; charset=utf-8") 54 1 (codes "keep-alive")
+    ++ codes "entries\t1\nfeed\taccepted\tlast\tentities\na\t1\t5\t1\nb\t0\t0\t0\n")
+    × (after 2 (get (codes "/status"))
+    ≡ typed_head (codes "200 OK") (codes "text/plain; charset=utf-8") 54 2 (codes "keep-alive")
+    ++ codes "entries\t2\nfeed\taccepted\tlast\tentities\na\t1\t5\t1\nb\t1\t7\t0\n")
+    × (after 2 (get (codes "/status/"))
+    ≡ refusal 404 2 1743314000 false)
+unfolding http_on_literals fold_of messages_of since_full changes_by_id entities_of inserted ordered digits between_tabs status_text schedule_number answer closes_behind
+numbers_are_told = (refl, refl, refl)
+
+-- the combined feed has the latest stamp of its feeds, and the entity under its feed
+feed_is_answered :
+    after 2 (get (codes "/feed/city"))
+    ≡ typed_head (codes "200 OK") (codes "application/x-protobuf") 18 2 (codes "keep-alive")
+    ++ 10 ∷ 9 ∷ 10 ∷ 3 ∷ 50 ∷ 46 ∷ 48 ∷ 16 ∷ 0 ∷ 24 ∷ 7 ∷ 18 ∷ 5 ∷ 10 ∷ 3 ∷ 97 ∷ 58 ∷ 120 ∷ []
+unfolding http_on_literals groups varint payload_bytes field_bytes fields_of_all value message_bytes merged_message values numbered_values read write fold_of messages_of since_full changes_by_id entities_of inserted ordered digits feed_bytes schedule_number feed_answer answer closes_behind
+feed_is_answered = refl
+
+-- the requests of a connection: from the thousandth place on it closes
+thousandth_closes :
+    responses schedules 1743314000 0 (fold_of 2 []) 999 (get (codes "/no") ∷ get (codes "/no") ∷ [])
+    ≡ refusal 404 0 1743314000 false ++ refusal 404 0 1743314000 true
+unfolding http_on_literals fold_of messages_of since_full changes_by_id entities_of answer closes_behind responses
+thousandth_closes = refl

@@ -2,7 +2,7 @@
 use Rattle.std.specs.Prelude.{◌≡◌, ℕ, ◌≤◌, Bool, true, ◌==◌, ◌||◌, Option, Some, None, ⊤}
 use Rattle.http_defs.specs.declared.asked.Query.{Query}
 use Rattle.http_defs.specs.declared.asked.Query.TheVariants.{Board, Alerts, Feed, Unmatched, Status, Refused}
-use Rattle.board_text_defs.specs.Answers.{Question}
+use Rattle.board_text_defs.specs.Answers.{Question, longest_span, most_rows}
 use Rattle.board_text_defs.specs.Answers.Question.{FeedOf, BoardOf, AlertsOf, UnmatchedOf, StatusOf}
 
 -- the question of a query that is asked at a moment; only a refused one asks nothing
@@ -36,12 +36,12 @@ is_status code = (code == 200) || (code == 400) || (code == 404) || (code == 405
 abbrev pub is_refusal : ℕ → Bool
 is_refusal code = (code == 400) || (code == 404) || (code == 405)
 
--- of up to a day, and up to 1000 rows
+-- as long, and of as many rows, as a board may be
 pub record AreChoices (span limit : ℕ) : Type 0 where
   pub some_span : 1 ≤ span
-  pub day_at_most : span ≤ 86400
+  pub day_at_most : span ≤ longest_span
   pub some_rows : 1 ≤ limit
-  pub thousand_at_most : limit ≤ 1000
+  pub thousand_at_most : limit ≤ most_rows
 
 -- what requests ask: boards and alerts within their ranges, and refusals by their statuses
 abbrev pub IsAskable : Query → Type 0

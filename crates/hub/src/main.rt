@@ -1,22 +1,33 @@
 //! The program `hub`: the words of its command line, standard input, output and error, and an exit status.
 //!
-//! All that it does stands in `hub_system`, and below it in `hub_main` and `hub_serve`, whose contracts say
-//! what is written and with which status it ends. Here the outside is the system's own, and the ports of
-//! feeds are boxed: only a program itself knows what its runtime is.
+//! Commands are those of `hub_main`, and the server is that of `hub_system`, over `hub_serve`; their
+//! contracts say what is written and with which status it ends. Here the outside is the system's own, and
+//! the ports of feeds are boxed: only a program itself knows what its runtime is.
 //!
 //! Its stored run is `serve` on the messages of data/spool, with no address at which readers come in, so that it
 //! ends by itself. One of its feeds finds nobody to connect to, and the listener can't be bound, which standard error
 //! tells; so the status is 1.
 #![tactic(auto)]
 
+use exit_status::ExitStatus;
 use feed_port::FeedPort;
-use hub_system::{NoMemory, SystemPort, run_program};
-use std::io;
+use hub_main::{Prepared, ServeConf, prepare_serve, run_on_system, words_of};
+use hub_outside::{StdFiles, StdSink};
+use hub_system::{NoMemory, SystemPort, serve_on_system};
+use hub_words::asks_for_server;
 use std::process::ExitCode;
 use std::rt::Stderr;
+use std::{env, io};
 
 fn main(rt: HostRuntime) -> ExitCode {
     let alloc = rt.alloc();
+    let Ok(words) = words_of(alloc, env::args(&rt)) else {
+        return ExitCode::from(ExitStatus::NoMemory.code());
+    };
+    if !asks_for_server(&words) {
+        let status = run_on_system(alloc, &words, &rt, rt.stdin(), io::writer(&rt));
+        return ExitCode::from(status);
+    }
     let boxed = |port: SystemPort<HostRuntime, Stderr>| -> Result<
         Box<dyn FeedPort + Send>,
         NoMemory,
@@ -28,5 +39,14 @@ fn main(rt: HostRuntime) -> ExitCode {
             SystemPort::Poll(port) => Ok(Box::new(alloc, port)?),
         }
     };
-    ExitCode::from(run_program(&rt, &boxed, rt.stdin(), io::writer(&rt), rt.stderr()))
+    let mut out = StdSink::new(io::writer(&rt));
+    let status = match prepare_serve(alloc, &words, &mut StdFiles::new(&rt), &mut out) {
+        Prepared::Ready(ServeConf { plans, conf }) => {
+            serve_on_system(&rt, alloc, plans, &conf, &boxed, &mut out, rt.stderr()).unwrap_or(
+                ExitStatus::NoMemory.code(),
+            )
+        }
+        Prepared::Status(status) => status,
+    };
+    ExitCode::from(status)
 }

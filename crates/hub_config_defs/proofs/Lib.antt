@@ -1,1 +1,3 @@
 pub mod ConfLaws
+pub mod OnLiterals
+mod ConfExamples

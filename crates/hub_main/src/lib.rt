@@ -5,8 +5,8 @@
 //! `check` reads a configuration and its timetables and writes what is in them; `board` writes a board
 //! of them; `gen` makes a sample, runs the hub on it and writes what came of it. Its contract says which
 //! bytes were written, by one word for each command (`Offline.OutcomeOf`) over what files, input and
-//! output tell before and after, and by the definitions of the commands' outputs in `hub_main_defs`. [`run_on_system`] runs it on
-//! the system's own outside.
+//! output tell before and after, and by the definitions of the commands' outputs in `hub_main_defs`.
+//! [`run_on_system`] runs it on the system's own outside, with the words that [`words_of`] makes.
 //!
 //! [`prepare_serve`] reads what `serve` needs before a hub is opened, and writes what is wrong as the
 //! commands do.
@@ -24,4 +24,4 @@ mod system;
 pub use offline::run_offline;
 pub use preparing::{Prepared, ServeConf, prepare_serve};
 pub use std::alloc::AllocError as NoMemory;
-pub use system::run_on_system;
+pub use system::{run_on_system, words_of};

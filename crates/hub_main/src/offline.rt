@@ -195,9 +195,7 @@ fn run_check<F: Files, K: Sink>(alloc: Global, files: &mut F, path: &str, out: &
 {
     match check(alloc, files, path) {
         Ok(lines) => write_line(&lines, ExitStatus::Done, out),
-        Err(HubFault::Refused(line)) => write_line(&line, ExitStatus::Refused, out),
-        Err(HubFault::FileFault) => write_line(b"hub: file fault\n", ExitStatus::Fault, out),
-        Err(HubFault::NoMemory) => ExitStatus::NoMemory,
+        Err(fault) => write_fault(&fault, out),
     }
 }
 

@@ -1,7 +1,6 @@
 //! The commands on the outside of a runtime.
 
 use crate::offline::run_offline;
-use exit_status::ExitStatus;
 use hub_outside::{NoMemory, StdFiles, StdSink, StdSource, SystemClock};
 use rt_types::Text;
 use std::alloc::Global;
@@ -9,29 +8,26 @@ use std::env::Args;
 use std::io::{ErrorKind, Read, Write};
 use std::{io, rt};
 
-/// Runs the command of the program's words on files and a clock of the system, an input and an
-/// output, and gives the exit status that [`run_offline`] gives: 6 where memory for the words is
-/// wanting. The first word is the program's name.
+/// Runs the command of the words, which are those behind the program's name, on files and a clock of
+/// the system, an input and an output, and gives the exit status that [`run_offline`] gives.
 pub fn run_on_system<R: rt::Files + rt::Clock, I: Read + Drop, O: Write + Drop>(
     alloc: Global,
-    words: io::Result<Args>,
+    words: &[Text],
     system: &R,
     input: I,
     output: O,
 ) -> u8 {
-    let Ok(words) = words_of(alloc, words) else {
-        return ExitStatus::NoMemory.code();
-    };
     let mut files = StdFiles::new(system);
     let mut input = StdSource::new(input);
     let mut out = StdSink::new(output);
     let mut clock = SystemClock::new(system);
-    run_offline(alloc, &words, &mut files, &mut input, &mut out, &mut clock)
+    run_offline(alloc, words, &mut files, &mut input, &mut out, &mut clock)
 }
 
-/// The words behind the program's name. Where one is not UTF-8 there are none: no command has such a
-/// word, and none has no words.
-fn words_of(alloc: Global, words: io::Result<Args>) -> Result<Vec<Text>, NoMemory> {
+/// The words behind the program's name, which is the first; or want of memory, as where the system
+/// doesn't give them. Where one is not UTF-8 there are none: no command has such a word, and none has
+/// no words.
+pub fn words_of(alloc: Global, words: io::Result<Args>) -> Result<Vec<Text>, NoMemory> {
     match words {
         Ok(words) => texts_behind_first(alloc, words),
         Err(error) if error.kind() == ErrorKind::InvalidData => Ok(Vec::new(alloc)),

@@ -1,3 +1,4 @@
 pub mod Examples
+mod CityCommands
 pub mod Told
 pub mod Hubs

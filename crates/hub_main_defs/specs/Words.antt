@@ -84,3 +84,8 @@ serve_with _ = None
 
 unfoldable pub serve_of : List (List ℕ) → Option (List ℕ)
 serve_of words = if list_any is_option words then None else serve_with words
+
+-- whether words ask for the server, with whatever behind: the first of them is `serve`
+abbrev pub asks_for_server : List (List ℕ) → Bool
+asks_for_server [] = false
+asks_for_server (name ∷ _) = bytes_eq name (codes "serve")

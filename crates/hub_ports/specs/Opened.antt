@@ -1,5 +1,5 @@
 -- What is opened for a hub.
-use Rattle.std.specs.Prelude.{◌≡◌, ℕ, min, max, []}
+use Rattle.std.specs.Prelude.{◌≡◌, []}
 use Rattle.hub_config_defs.specs.declared.conf.FeedConf.{FeedConf}
 use Rattle.hub_config_defs.specs.declared.conf.PortKind.TheVariants as kind
 use Rattle.feed_port.specs.declared.stream.Stage.TheVariants.{Open}
@@ -19,8 +19,7 @@ use Rattle.hub_ports.specs.declared.opening.SystemPort.TheVariants.{Nothing, Spo
 abbrev pub IsPollingPortOf : {D : Type 0} → FeedConf → PollPort D → Type 0
 IsPollingPortOf feed port =
     polling_of port
-    ≡ new_polling (request_for (host_of feed.place) (path_of feed.place)) feed.polls
-    (max 1 feed.tries)
+    ≡ new_polling (request_for (host_of feed.place) (path_of feed.place)) feed.polls feed.tries
 
 -- The port is of the feed's kind. One with no messages has none ahead, that of a folder stands before
 -- its first file, and a stream was not read yet.
@@ -30,7 +29,3 @@ IsPortOf feed (Spool port) =
     (feed.kind ≡ kind.Spool) × (spool_folder port ≡ feed.place) × (spool_number port ≡ 1)
 IsPortOf feed (Stream port) = (feed.kind ≡ kind.Stream) × (stage_of port ≡ Open)
 IsPortOf feed (Poll port) = (feed.kind ≡ kind.Poll) × IsPollingPortOf feed port
-
--- as many readers as the configuration says, which allows 1 to 64
-abbrev pub reader_count : ℕ → ℕ
-reader_count readers = min 64 (max 1 readers)

@@ -2,9 +2,8 @@
 //! and a door and a clock for each reader.
 //!
 //! [`open_port`] opens the port of a feed by its kind ([`SystemPort`]), [`open_ports`] those of all feeds; [`listen`]
-//! binds the listener, [`reader_count`], [`doors_of`] and [`clocks_of`] make what readers need. What can't be had is
-//! told on standard error, one line each, and so is the address at which readers are answered (`specs/Lines`). The
-//! server goes on without what can't be had, since a port without a connection fails when it is asked, and so does a
+//! binds the listener, [`doors_of`] and [`clocks_of`] make what readers need. What can't be had is told on standard
+//! error, one line each, and so is the address at which readers are answered (`specs/Lines`). The server goes on without what can't be had, since a port without a connection fails when it is asked, and so does a
 //! door without a listener. Nothing connects before it is asked for its first message, so by the thread that asks: a
 //! stream by a [`Connection`], which tells on standard error where there is none, and a feed that is polled by a
 //! [`TcpDial`]. What becomes of a feed while a server runs, its port tells there by a [`ToldPort`] around it: that it
@@ -27,7 +26,7 @@ mod told;
 
 pub use connection::{Calling, Connection};
 pub use dialing::TcpDial;
-pub use listening::{clocks_of, doors_of, listen, reader_count};
+pub use listening::{clocks_of, doors_of, listen};
 pub use opening::{SystemPort, open_port, open_ports};
 pub use std::alloc::AllocError as NoMemory;
 pub use told::ToldPort;

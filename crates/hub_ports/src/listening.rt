@@ -1,9 +1,8 @@
 //! Where readers come in.
 
-ghost use Rattle.std.specs.Prelude.{◌≡◌, ◌≤◌, vec_len, IfOk};
+ghost use Rattle.std.specs.Prelude.{◌≡◌, vec_len, IfOk};
 ghost use Rattle.std.specs.List.{All};
 ghost use Rattle.hub_outside.specs.Adapters.{tcp_faults, tcp_taken};
-ghost use Rattle.hub_ports.specs.Opened.{reader_count};
 
 use crate::NoMemory;
 use crate::connecting::bind;
@@ -13,9 +12,6 @@ use std::alloc::Global;
 use std::net::{Net, TcpListener, TcpStream};
 use std::rt;
 use std::sync::Arc;
-
-/// How many readers there are at most.
-const MOST_READERS: u32 = 64;
 
 /// The listener of that address, and none where it can't be bound; a line tells which. With the port 0
 /// the system chooses one, which the line names.
@@ -38,15 +34,6 @@ pub fn listen<R: Net<Listener = TcpListener, Stream = TcpStream>, E: Sink>(
             Ok(None)
         }
     }
-}
-
-/// How many readers a hub has by its configuration, which allows 1 to 64.
-pub fn reader_count(readers: u32) -> u32
-    ensures count { result ≡ reader_count readers }
-    ensures some { 1 ≤ result }
-    ensures few { result ≤ 64 }
-{
-    readers.clamp(1, MOST_READERS)
 }
 
 /// So many doors of the listener, each for up to `most` connections, of which 0 sets no end. Without a

@@ -1,7 +1,8 @@
 //! The port of each feed.
 
-ghost use Rattle.std.specs.Prelude.{◌≡◌, ◌==◌, ◌≤◌, max, length, vec_len, IfOk, IfSome};
-ghost use Rattle.std.specs.List.{position_or_len};
+ghost use Rattle.std.specs.Prelude.{◌≡◌, ◌==◌, ◌≤◌, true, length, vec_len, IfOk, IfSome};
+ghost use Rattle.std.specs.List.{list_all, position_or_len};
+ghost use Rattle.hub_config_defs.specs.Right.{has_numbers};
 ghost use Rattle.hub_config_defs.specs.Values.{host_length, host_of, path_of};
 ghost use Rattle.hub_ports.specs.Opened.{IsPortOf, IsPollingPortOf};
 
@@ -33,7 +34,8 @@ pub enum SystemPort<R, E> {
     Poll(PollPort<TcpDial<R>>),
 }
 
-/// A port for each feed, in their order, as `boxed` hands it on. What becomes of each is told on `errors`.
+/// A port for each feed, in their order, as `boxed` hands it on. What becomes of each is told on `errors`. Their
+/// numbers are in the ranges of a configuration.
 pub fn open_ports<R, P, F, E>(
     rt: &R,
     alloc: Global,
@@ -48,7 +50,8 @@ where
     P: FeedPort,
     F: Fn(SystemPort<R, E>) -> Result<P, NoMemory>,
     E: Write + Send + Copy,
-    requires { F.IsAlwaysCallable boxed.now }
+    requires boxed { F.IsAlwaysCallable boxed.now }
+    requires numbers { list_all has_numbers feeds.now ≡ true }
     ensures { IfOk result (λ ports. vec_len ports ≡ length feeds.now) }
 {
     let mut ports = Vec::with_capacity(alloc, feeds.len())?;
@@ -60,7 +63,7 @@ where
 }
 
 /// The port of a feed. No connection is made before its first ask. Where that of a stream can't be made
-/// then, a line tells why, and that ask fails.
+/// then, a line tells why, and that ask fails. One poll at least may be tried.
 pub fn open_port<R, E>(
     rt: &R,
     alloc: Global,
@@ -72,6 +75,7 @@ where
     R::File: Send,
     R::Dir: Send,
     E: Write + Send + Copy,
+    requires { 1 ≤ feed.now.tries }
     ensures { IfOk result (λ port. IsPortOf feed.now port) }
 {
     match feed.kind {
@@ -96,6 +100,7 @@ where
 fn polling_port<R>(rt: &R, alloc: Global, feed: &FeedConf) -> Result<PollPort<TcpDial<R>>, NoMemory>
 where
     R: Net<Listener = TcpListener, Stream = TcpStream> + rt::Clock + Send + Copy,
+    requires { 1 ≤ feed.now.tries }
     ensures { IfOk result (IsPollingPortOf feed.now) }
 {
     let place = feed.place.as_str();
@@ -103,14 +108,7 @@ where
         return Err(NoMemory);
     };
     let dial = TcpDial::new(*rt, alloc, host, feed.every)?;
-    PollPort::new(
-        alloc,
-        dial,
-        host,
-        path,
-        feed.polls,
-        one_at_least(feed.tries),
-    )
+    PollPort::new(alloc, dial, host, path, feed.polls, feed.tries)
 }
 
 /// The host of a place. There is one, since a `/` never stands within a character.
@@ -162,11 +160,4 @@ fn slash_in(bytes: &[u8]) -> usize
         front += 1;
     }
     front
-}
-
-fn one_at_least(tries: u32) -> u32
-    ensures tries { result ≡ max 1 tries }
-    ensures some { 1 ≤ result }
-{
-    tries.max(1)
 }

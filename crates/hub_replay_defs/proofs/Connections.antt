@@ -1,10 +1,14 @@
 -- Connections that a script serves.
-use Rattle.std.specs.Prelude.{◌≡◌, ℕ, Bool, true, false, List, [], ◌∷◌, ◌++◌, length, replicate, Some, None, refl, codes, if◌then◌else◌}
+use Rattle.std.specs.Prelude.{◌≡◌, ℕ, ◌<◌, ◌≤◌, true, false, List, [], ◌∷◌, ◌++◌, length, Some, None, refl, codes}
+use Rattle.std.proofs.Common.{lit<, lit≤, arith, ap, sym, length-append}
+use Rattle.std.proofs.lemmas.List.Elements.{All-nil}
+use Rattle.std.proofs.lemmas.List.Sums.{AllPass-from_list_all}
+use Rattle.std.proofs.lemmas.Str.{IsUtf8-from_is_utf8}
+use Rattle.httparse.specs.Grammar.{RequestHead, IsRequestHead, IsField, crlf as ends_crlf, print_request, is_token_byte, is_uri_byte}
 use Rattle.std.specs.Str.{is_utf8, chars, bytes_eq}
 use Rattle.std.specs.Fmt.{decimal, digits}
 use lib.Utf8.{encode}
 use Rattle.percent_encoding.specs.Percent.{percent_decode}
-use Rattle.text_defs.specs.Cleaned.{line_feed}
 use Rattle.text_defs.specs.Numbers.{number}
 use Rattle.feed_defs.specs.History.{messages_of, since_full, changes_by_id, entities_of}
 use Rattle.feed_defs.specs.Rows.{fields_of_all, value, message_bytes, merged_message, values, numbered_values}
@@ -16,15 +20,15 @@ use Rattle.board_text_defs.specs.Answers.{feed_answer, schedule_number, feed_num
 use Rattle.http_defs.specs.declared.request.Item.{Item}
 use Rattle.http_defs.specs.declared.request.Item.TheVariants.{Asked, Malformed}
 use Rattle.http_defs.specs.declared.response.BodyKind.TheVariants.{Feed as Message}
-use Rattle.http_defs.specs.Requests.{ended, closed, bad}
+use Rattle.http_defs.specs.Requests.{NoHead, ended, closed, bad}
 use Rattle.http_defs.specs.Responses.{crlf, refusal, response}
 use Rattle.http_defs.proofs.OnLiterals.{http_on_literals}
 use Rattle.http_serve_defs.specs.Answers.{answer, closes_behind}
-use Rattle.http_serve_defs.specs.Connections.{Served, responses}
-use Rattle.hub_replay_defs.specs.Lines.{head_of, input_length_in, line_within, texts_of}
+use Rattle.http_serve_defs.specs.Connections.{IsServed, Served, responses}
+use Rattle.hub_replay_defs.specs.Lines.{head_of, line_within, texts_of}
 use Rattle.hub_replay_defs.specs.Lines.Head.{Connection}
 use Rattle.hub_replay_defs.specs.Record.{connection_of, payload_at, serving, start, turn, waits}
-use Rattle.hub_replay_defs.specs.Output.{Output, replayed, run, run_within}
+use Rattle.hub_replay_defs.specs.Output.{replayed, run, run_within}
 use Rattle.hub_replay_defs.specs.Examples.{done, header, line, refused_at}
 
 -- ---- whole scripts
@@ -113,3 +117,78 @@ connections_wait = (refl, refl, refl)
 pub first_is_served : (s : Served) (input : List ℕ) (later : List Served) → bytes_eq s.input input ≡ true → connection_of input (s ∷ later) ≡ (s, later)
 unfolding connection_of
 first_is_served s input later same = rw same refl
+
+-- ---- the items that were given are those of the inputs
+
+abbrev feed_head : RequestHead
+feed_head = record {
+  blank = [];
+  method = codes "GET";
+  target = codes "/feed/plain";
+  minor = 1;
+  line_end = ends_crlf;
+  fields = [];
+  last = ends_crlf;
+}
+
+abbrev post_head : RequestHead
+post_head = record feed_head { method = codes "POST"; target = codes "/status" }
+
+feed_is_head : IsRequestHead feed_head
+unfolding http_on_literals
+feed_is_head = record {
+  method = (lit< tt, AllPass-from_list_all is_token_byte feed_head.method refl);
+  target = (lit< tt, AllPass-from_list_all is_uri_byte feed_head.target refl);
+  target_text = IsUtf8-from_is_utf8 feed_head.target refl;
+  minor = lit≤ tt;
+  fields = All-nil IsField;
+}
+
+post_is_head : IsRequestHead post_head
+unfolding http_on_literals
+post_is_head = record {
+  method = (lit< tt, AllPass-from_list_all is_token_byte post_head.method refl);
+  target = (lit< tt, AllPass-from_list_all is_uri_byte post_head.target refl);
+  target_text = IsUtf8-from_is_utf8 post_head.target refl;
+  minor = lit≤ tt;
+  fields = All-nil IsField;
+}
+
+-- a head has a method, a space and a target at least
+head_long : (head : RequestHead) → IsRequestHead head → 3 ≤ length (print_request head)
+unfolding print_request
+head_long head is =
+    let method : 0 < length head.method = is.method.0 in
+    let target : 0 < length head.target = is.target.0 in
+    simp length-append (omega arith)
+
+-- two bytes are none
+no_head : NoHead (codes "GE")
+no_head head rest b =
+    let long = head_long head b.reads.0 in
+    let whole : length (print_request head ++ rest) ≡ 2 = ap length (sym b.reads.1) in
+    absurd (omega (arith, long, length-append (print_request head) rest))
+
+one_is_served : IsServed one
+unfolding http_on_literals
+one_is_served = (
+  [],
+  record { head = feed_head; begins = record { reads = (feed_is_head, refl); short = lit≤ tt }; is = refl },
+  (refl, refl),
+)
+
+post_is_served : IsServed post
+unfolding http_on_literals
+post_is_served = (
+  [],
+  record { head = post_head; begins = record { reads = (post_is_head, refl); short = lit≤ tt }; is = refl },
+  (refl, refl),
+)
+
+broken_is_served : IsServed broken
+unfolding http_on_literals
+broken_is_served = (
+  codes "GE",
+  record { head = feed_head; begins = record { reads = (feed_is_head, refl); short = lit≤ tt }; is = refl },
+  ((λ e. absurd (let long : 2 ≡ 0 = ap length e in omega (arith, long))), no_head, refl, refl),
+)

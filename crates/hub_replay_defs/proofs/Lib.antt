@@ -5,4 +5,5 @@ pub mod Turns
 pub mod Runs
 pub mod Opens
 pub mod CityScripts
+mod Declared
 pub mod Connections

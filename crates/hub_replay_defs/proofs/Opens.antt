@@ -1,11 +1,10 @@
 -- Which scripts go on behind their bytes, one record at a time.
 use Rattle.std.proofs.Common.{◌≡◌, ℕ, zero, suc, ◌+◌, ◌≤◌, ◌<◌, List, ◌++◌, length, Option, Some, None, Bool, true, false, refl, sym, ◌∙◌, arith}
-use Rattle.std.specs.Prelude.{if◌then◌else◌, nat_lt, nat_le, IsTrue}
-use Rattle.std.specs.Option.{is_some}
+use Rattle.std.specs.Prelude.{if◌then◌else◌, nat_lt, nat_le}
 use Rattle.std.proofs.lemmas.Bool.Decides.{nat_tests}
 use Rattle.board_text_defs.specs.Answers.{feed_number}
 use Rattle.hub_replay_defs.specs.Lines.{Head, head_of, line_within, longest_line}
-use Rattle.hub_replay_defs.specs.Record.{Hub, Turn, line_waits, payload_waits, turn, waits}
+use Rattle.hub_replay_defs.specs.Record.{Hub, Turn, payload_waits, turn, waits}
 use Rattle.hub_replay_defs.specs.Lines.Head.{Message, Connection}
 use Rattle.hub_replay_defs.specs.Output.{is_open_within, is_open}
 use Rattle.hub_replay_defs.proofs.Lines.{line_more}

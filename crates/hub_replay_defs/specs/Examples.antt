@@ -1,5 +1,5 @@
 -- Whole scripts, computed by the definitions.
-use Rattle.std.specs.Prelude.{◌≡◌, ℕ, zero, suc, List, [], ◌∷◌, ◌++◌, length, replicate, Some, None, true, false, refl, codes}
+use Rattle.std.specs.Prelude.{◌≡◌, ℕ, List, [], ◌∷◌, ◌++◌, length, replicate, Some, None, true, false, refl, codes}
 use Rattle.std.specs.Str.{is_utf8, chars}
 use Rattle.std.specs.Fmt.{decimal, digits}
 use lib.Utf8.{encode}
@@ -15,7 +15,7 @@ use Rattle.percent_encoding.specs.Percent.{percent_decode}
 use Rattle.text_defs.specs.Cleaned.{line_feed}
 use Rattle.text_defs.specs.Names.{is_name}
 use Rattle.text_defs.specs.Numbers.{number}
-use Rattle.hub_replay_defs.specs.Lines.{Head, line_within, longest_line, texts_of, head_of, length_in}
+use Rattle.hub_replay_defs.specs.Lines.{line_within, longest_line, texts_of, head_of, length_in}
 use Rattle.hub_replay_defs.specs.Record.{payload_at, turn, start, waits}
 use Rattle.hub_replay_defs.specs.Output.{Output, run_within, run, is_open_within, is_open, replayed, refused_line}
 

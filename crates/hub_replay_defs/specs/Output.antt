@@ -1,6 +1,5 @@
 -- What the replay of a script prints, and its status.
-use Rattle.std.specs.Prelude.{ℕ, zero, suc, ◌+◌, ◌-◌, List, [], ◌∷◌, ◌++◌, length, take, Some, None, Bool, true, false, codes, if◌then◌else◌}
-use Rattle.std.specs.Str.{bytes_eq}
+use Rattle.std.specs.Prelude.{ℕ, zero, suc, ◌+◌, ◌-◌, List, [], ◌++◌, length, take, Some, None, Bool, true, false, codes, if◌then◌else◌}
 use Rattle.std.specs.Fmt.{decimal}
 use Rattle.hub_replay_defs.specs.Record.{Hub, turn, waits}
 use Rattle.text_defs.specs.Cleaned.{line_feed}

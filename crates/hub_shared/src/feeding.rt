@@ -23,9 +23,9 @@ const MOST_ANSWERS: u64 = 1_000_000_000_000;
 
 /// Brings in what the port hands in, message after message in their order, for the seat's feed, until
 /// the port has none left or fails, or has handed in 1,000,000,000,000. A message that is refused, or
-/// for which there is no memory, is counted and left. Memory for the longest message is taken before
-/// the port is asked for the first, and none for those that follow. It may wait as
-/// [`ingest`](crate::ingest) does.
+/// for which there is no memory, is counted and left, and the port hears why. Memory for the longest
+/// message is taken before the port is asked for the first, and none for those that follow. It may wait
+/// as [`ingest`](crate::ingest) does.
 pub fn ingest_port<R: Wait, P: FeedPort>(
     rt: &R,
     alloc: Global,
@@ -136,7 +136,7 @@ fn ask<R: Wait, P: FeedPort>(
 {
     match port.next(buffer) {
         PortAnswer::Message => {
-            judge(rt, alloc, hub, seat, buffer.as_slice(), tally);
+            judge(rt, alloc, hub, seat, port, buffer.as_slice(), tally);
             None
         }
         PortAnswer::TooLong(_) => {
@@ -148,12 +148,14 @@ fn ask<R: Wait, P: FeedPort>(
     }
 }
 
-/// Ingests a message, and counts what became of it.
-fn judge<R: Wait>(
+/// Ingests a message that a port handed in, and counts what became of it. The port hears why it was
+/// refused.
+fn judge<R: Wait, P: FeedPort>(
     rt: &R,
     alloc: Global,
     hub: &Hub,
     seat: &mut FeedSeat,
+    port: &mut P,
     bytes: &[u8],
     tally: &mut Tally,
 )
@@ -164,10 +166,15 @@ fn judge<R: Wait>(
     ensures judged { (first : SeatSeen) (given : List Given) → Sorts first seat.old given tally.old
         → SortsMore first seat.new given bytes.now tally.new }
     ensures counted { total tally.new ≡ total tally.old + 1 }
+    ensures ahead { P.ahead port.new ≡ P.ahead port.old }
+    ensures faults { P.faults port.new ≡ P.faults port.old }
 {
     match ingest(rt, alloc, hub, seat, bytes) {
         Ok(_) => tally.accepted += 1,
-        Err(refusal) => count(&refusal, tally),
+        Err(refusal) => {
+            count(&refusal, tally);
+            port.hear(&refusal);
+        }
     }
 }
 

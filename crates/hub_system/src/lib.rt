@@ -1,17 +1,16 @@
-//! The program on the outside of a system: its commands, and its server.
+//! A running hub on the outside of a system.
 //!
-//! [`run_program`] runs what the words of the command line say. Where the first of them is `serve` it
-//! opens what a running hub needs, by the configuration, and hands it to `hub_serve::run_serve`: a port
-//! for each feed ([`SystemPort`]), a listener that all doors share, and a door and a clock for each
-//! reader. All other words are a command of `hub_main`. Standard output has the lines of the commands, and
-//! those at the end of a run; standard error those of `hub_ports`.
+//! [`serve_on_system`] opens what a running hub needs, by the configuration, and hands it to
+//! `hub_serve::run_serve`: a port for each feed ([`SystemPort`]), a listener that all doors share, and a
+//! door and a clock for each reader.
 //!
-//! The crate stands on `hub_main` for commands and configuration, on `hub_ports` for what is opened, on
-//! `hub_serve` for the run, and on `hub_outside` for files and outputs.
+//! The crate stands on `hub_ports` for what is opened, on `hub_serve` for the run, and on `hub_outside`
+//! for outputs. What is opened and served it is told: the words and the configuration are read in
+//! `hub_main`.
 #![tactic(auto)]
 
-mod program;
+mod server;
 
 pub use hub_ports::SystemPort;
-pub use program::{run_program, words_of_serve};
+pub use server::serve_on_system;
 pub use std::alloc::AllocError as NoMemory;

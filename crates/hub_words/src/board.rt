@@ -3,11 +3,11 @@ ghost use Rattle.std.specs.Prelude.{◌≡◌, option_map};
 ghost use Rattle.clap.specs.Words.{found_of, rows_of};
 ghost use Rattle.board_text_defs.specs.Asked.{asked_seen};
 ghost use Rattle.hub_words.specs.Forms.{asked_in};
-ghost use Rattle.hub_replay_defs.specs.Lines.{is_json_in};
 
 use crate::given::{number_under, word_under};
 use board_text_defs::{BoardAsked, LONGEST_SPAN, MOST_ROWS};
 use clap::ArgMatches;
+use script_lines::is_json;
 use texts::LAST_MOMENT;
 
 /// The board of the words behind the configuration; none where a number or the form is wrong.
@@ -28,17 +28,4 @@ pub(crate) fn asked_in<'a>(words: &ArgMatches<'a>) -> Option<BoardAsked<'a>>
         limit: limit as u32,
         json,
     })
-}
-
-/// Whether JSON is wanted, by the word of the form.
-fn is_json(form: &str) -> Option<bool>
-    ensures { result ≡ is_json_in form.now }
-{
-    if form == "text" {
-        Some(false)
-    } else if form == "json" {
-        Some(true)
-    } else {
-        None
-    }
 }

@@ -2,9 +2,21 @@
 ghost use Rattle.std.specs.Prelude.{◌≡◌, [], ◌∷◌};
 ghost use Rattle.std.specs.Option.{option_map};
 ghost use Rattle.hub_main_defs.specs.Words.{serve_of, serve_with};
+ghost use Rattle.hub_main_defs.specs.Words as rule;
 
 use crate::read::has_option;
 use rt_types::Text;
+
+/// Whether the words, which are those behind the program's name, ask for the server, with whatever
+/// behind: the first of them is `serve`.
+pub fn asks_for_server(words: &[Text]) -> bool
+    ensures { result ≡ rule.asks_for_server words.now }
+{
+    match words {
+        [name, ..] => name.as_str() == "serve",
+        [] => false,
+    }
+}
 
 /// The path of the configuration where the words, which are those behind the program's name, are
 /// `serve CONFIG`. Where they are any others there is none.

@@ -12,8 +12,10 @@
 //! It stands on `shared_list` and `order`. The overlay of a feed is made of such lists.
 #![tactic(auto)]
 
+mod by_rank;
 mod changes;
 mod listed;
 
+pub use by_rank::listed_by_rank;
 pub use changes::changed;
 pub use std::alloc::AllocError as NoMemory;

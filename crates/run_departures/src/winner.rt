@@ -2,12 +2,12 @@
 
 ghost use Rattle.std.specs.Prelude.{◌≡◌};
 ghost use Rattle.std.specs.Option.{option_map};
-ghost use Rattle.board_defs.specs.Feeds as age;
 ghost use Rattle.run_departures.specs.Bids as rule;
 ghost use Rattle.run_departures.specs.Bids.{bid_cmp, winning};
 ghost use Rattle.run_departures.specs.Offered.{as_bid, with_bid};
 
 use crate::feed::LiveFeed;
+use board_base::counts_at;
 use rt_types::Text;
 use sched_types::Run;
 use std::cmp::Ordering;
@@ -30,14 +30,6 @@ impl<'a> Offer<'a> {
             .then(other.number.cmp(&self.number))
             .then(self.id.as_str().cmp(other.id.as_str()))
     }
-}
-
-/// Whether what has that stamp counts at a moment, in a feed of that max_age; all in seconds, stamp and moment since
-/// 1970. A max_age of 0 is no end.
-fn counts_at(max_age: u64, stamp: u64, at: u64) -> bool
-    ensures { result ≡ age.counts_at max_age stamp at }
-{
-    max_age == 0 || at.saturating_sub(stamp) <= max_age
 }
 
 /// The update of a feed that counts for a run, where it is not too old.

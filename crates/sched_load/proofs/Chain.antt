@@ -23,7 +23,8 @@ use Rattle.gtfs_rows.specs.declared.rows.StopTimeRow.{StopTimeRow}
 use Rattle.sched_load.specs.declared.visits.Visit.{Visit}
 use Rattle.sched_load.specs.Arranged.{ReadsArranged}
 use Rattle.sched_load.specs.Tables.{ReadsTables}
-use Rattle.sched_load.specs.Answer.{AnswersFromFiles, items_in, Loads, Refuses, RefusesAlone, HasLoadCause, HasFaultCause, IsPlain}
+use Rattle.sched_load.specs.Answer.{AnswersFromFiles, items_in, Loads, Refuses, HasLoadCause, HasFaultCause, IsPlain}
+use Rattle.row_tables.specs.Alone.{RefusesAlone}
 
 -- what is at fault in a step is at fault in the whole
 refuses_whole : {A B : Type 0} (one : Result A LoadFault) (whole : Result B LoadFault) (e : LoadFault) → ((f : LoadFault) → one ≡ Err f → whole ≡ Err f) → Refuses one e → Refuses whole e

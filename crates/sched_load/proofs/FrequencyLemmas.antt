@@ -8,7 +8,7 @@ use Rattle.gtfs_rows.specs.declared.rows.TripRow.{TripRow}
 use Rattle.sched_load_defs.specs.declared.fault.File.TheVariants as file
 use Rattle.sched_load_defs.specs.declared.fault.LoadFault.TheVariants as fault
 use Rattle.sched_load_defs.specs.References.{consistent_frequencies, row_at, unknown_in_frequency}
-use Rattle.sched_load.proofs.Faults.{Judged, judged_all, judged_more, judged_start, judged_unknown}
+use Rattle.row_tables.proofs.Faults.{Judged, judged_all, judged_more, judged_start, judged_unknown}
 
 -- no row is like another
 abbrev none_alike : FrequencyRow → FrequencyRow → Bool

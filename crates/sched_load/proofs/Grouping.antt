@@ -25,11 +25,11 @@ use Rattle.sched_load_defs.specs.Numbers.{rows_with_keys}
 use Rattle.std.specs.Cmp.{tied_itself}
 use Rattle.std.specs.Prelude.{option_map}
 use Rattle.sched_load_defs.proofs.Listing.{find_keyed, equal_is}
-use Rattle.sched_load.proofs.Numbered.{text_same}
+use Rattle.row_tables.proofs.Numbered.{text_from, text_itself}
 use Rattle.std.proofs.lemmas.List.{append-nil}
 use Rattle.sched_load.specs.Listed.{group_of}
-use Rattle.sched_load.proofs.Keyed.{any_found, keyed_push}
-use Rattle.sched_load.proofs.Places.{inserted, looked_up, not_any, true_false}
+use Rattle.row_tables.proofs.Keyed.{any_found, keyed_push}
+use Rattle.row_tables.proofs.Places.{inserted, looked_up, not_any, true_false}
 
 -- the entries of one of many maps
 entries_at : {V : Type 0} (maps : List (BTreeMap ℕ V Global)) (n : ℕ) (m : BTreeMap ℕ V Global) → n < length maps → m ≡ get_or maps n m → unwrap_or (slice_get (entries_of maps) n) [] ≡ m.entries
@@ -87,9 +87,6 @@ turned_eq a b = grind (arith, nat_tests)
 not_both : (a b : Bool) → a ≡ b → a ≡ true → b ≡ false → ⊥
 not_both a b e t f = true_false (sym t ∙ e ∙ f)
 
-pub text_itself : (x : List ℕ) → bytes_eq x x ≡ true
-text_itself x = sym (is_eq-slice_cmp x x) ∙ ap is_eq (tied_itself nat_list_cmp_total x)
-
 none_of : {V : Type 0} (o : Option V) → is_none o ≡ true → is_some o ≡ false
 none_of None e = refl
 none_of (Some x) e = absurd (true_false (sym e))
@@ -97,9 +94,6 @@ none_of (Some x) e = absurd (true_false (sym e))
 not_none : {V : Type 0} (o : Option V) (fresh : Bool) → fresh ≡ is_none o → is_some o ≡ not fresh
 not_none None fresh e = ap not (sym e)
 not_none (Some x) fresh e = ap not (sym e)
-
-pub text_from : (x y : List ℕ) → bytes_eq x y ≡ true → x ≡ y
-text_from x y e = text_same x y (equal_is _ (is_eq-slice_cmp x y ∙ e))
 
 module _ {R V X : Type 0} (gid : R → List ℕ) (key : V → ℕ) (value : R → V) (id_of : X → List ℕ) (xs : List X) (up : RisesById id_of xs) (rows : List R) where
   -- the groups of the first rows

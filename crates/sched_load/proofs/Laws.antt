@@ -13,8 +13,8 @@ use Rattle.gtfs_rows.specs.declared.fault.RowFault.{RowFault}
 use Rattle.gtfs_rows.specs.declared.fault.RowFault.TheVariants as fault
 use Rattle.sched_load_defs.specs.declared.fault.File.{File}
 use Rattle.sched_load_defs.specs.declared.fault.LoadFault.TheVariants as load
-use Rattle.sched_load_defs.specs.Files.{of_file, longest_file}
-use Rattle.sched_load.specs.Listed.{file_rows, most_rows}
+use Rattle.sched_load_defs.specs.Files.{of_file, longest_file, most_rows}
+use Rattle.sched_load.specs.Listed.{file_rows}
 
 -- what a chain gave, its parts gave
 pub and_then_ok : {A B C : Type 0} (r : Result A RowFault) (f : A → Result B RowFault) (y : B) → ◌>>=◌ r f ≡ Ok y → ((x : A) → r ≡ Ok x → f x ≡ Ok y → C) → C

@@ -1,7 +1,3 @@
-pub mod Keyed
-pub mod Numbered
-pub mod Faults
-pub mod Places
 pub mod Reading
 pub mod Grouping
 pub mod PairLemmas

@@ -7,7 +7,7 @@ use Rattle.gtfs_rows.specs.declared.rows.StopRow.{StopRow}
 use Rattle.sched_load_defs.specs.declared.fault.File.TheVariants as file
 use Rattle.sched_load_defs.specs.declared.fault.LoadFault.TheVariants as fault
 use Rattle.sched_load_defs.specs.References.{parent_fault, with_parents, has_id, row_at}
-use Rattle.sched_load.proofs.Faults.{faults_from, fault_at, fault_behind, no_fault}
+use Rattle.row_tables.proofs.Faults.{faults_from, fault_at, fault_behind, no_fault}
 
 module _ (rows : List StopRow) (n : ℕ) where
   parent_is : (row : StopRow) (fine : Bool) → (bytes_eq row.parent_station [] || has_id (λ stop. stop.stop_id) rows row.parent_station) ≡ fine

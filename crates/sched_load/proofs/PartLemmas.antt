@@ -42,14 +42,15 @@ use Rattle.std.proofs.Common.{get_or}
 use Rattle.sched_load.specs.Days.{active_by, runs_by}
 use Rattle.sched_load.specs.Groups.{exception_of}
 use Rattle.sched_load.specs.Groups as groups
-use Rattle.sched_load.specs.Listed.{group_of, most_rows, visit_of}
+use Rattle.sched_load.specs.Listed.{group_of, visit_of}
+use Rattle.sched_load_defs.specs.Files.{most_rows}
 use Rattle.sched_load.specs.Tables.{IsConsistent}
 use Rattle.sched_load.proofs.BuildLemmas.{mapped_at}
 use Rattle.sched_load.proofs.ColumnLaws.{AtMost, pickup_types}
 use Rattle.sched_load.proofs.Grouping.{turned_eq}
-use Rattle.sched_load.proofs.Keyed.{listed_map, listed_short}
+use Rattle.row_tables.proofs.Keyed.{listed_map, listed_short}
 use Rattle.sched_load.proofs.Laws.{file_few, file_within}
-use Rattle.sched_load.proofs.Numbered.{ids_rise}
+use Rattle.row_tables.proofs.Numbered.{ids_rise}
 use Rattle.sched_load.proofs.Sound.{Each}
 use Rattle.std.specs.Prelude.{All}
 use Rattle.std.proofs.lemmas.List.Sorted.{All-permutation, length_permutation}

@@ -15,11 +15,11 @@ use Rattle.sched_load_defs.specs.declared.fault.File.TheVariants as file
 use Rattle.sched_load_defs.specs.Loading.{with_times}
 use Rattle.sched_load_defs.specs.Numbers.{Dataset, timetable_of, trip_of, trip_rows}
 use Rattle.sched_load_defs.specs.References.{has_id, unknown_in_frequency}
-use Rattle.freq_parts.specs.Conditions.{IsPlain, IsRowOf, most_rows}
+use Rattle.freq_parts.specs.Conditions.{IsPlain, IsRowOf}
+use Rattle.sched_load_defs.specs.Files.{most_rows}
 use Rattle.sched_load.specs.Tables.{IsConsistent}
-use Rattle.sched_load.proofs.Grouping.{text_itself}
 use Rattle.sched_load.proofs.Laws.{file_few, file_within}
-use Rattle.sched_load.proofs.Numbered.{has_by_number}
+use Rattle.row_tables.proofs.Numbered.{has_by_number, text_itself}
 use Rattle.sched_load.proofs.PartLemmas.{each_all}
 use Rattle.sched_load.proofs.ServiceLemmas.{any_at, some_of}
 use Rattle.sched_load.proofs.Sound.{few_times, few_trips, known_if, place_early, refers}

@@ -21,13 +21,14 @@ use Rattle.sched_load_defs.specs.Numbers.{by_id, rows_with_keys}
 use Rattle.sched_load_defs.specs.References.{refers_to_none, consistent_exceptions, row_at}
 use Rattle.sched_load_defs.proofs.Listing.{paired}
 use Rattle.sched_load.specs.Groups.{exceptions_of, exception_of}
-use Rattle.sched_load.specs.Listed.{PutsNew, texts_seen}
+use Rattle.sched_load.specs.Listed.{PutsNew}
+use Rattle.row_tables.specs.Order.{texts_seen}
 use Rattle.sched_load.specs.Services.{ids_gathered}
-use Rattle.sched_load.proofs.Faults.{Judged, judged_twin, judged_more}
-use Rattle.sched_load.proofs.Grouping.{group_judged, groups_more, text_itself}
-use Rattle.sched_load.proofs.Keyed.{keyed_push, keyed_paired, put_map}
-use Rattle.sched_load.proofs.Places.{text_cmp, text_inserted, true_false}
-use Rattle.sched_load.proofs.Numbered.{has_by_number, text_same}
+use Rattle.row_tables.proofs.Faults.{Judged, judged_twin, judged_more}
+use Rattle.sched_load.proofs.Grouping.{group_judged, groups_more}
+use Rattle.row_tables.proofs.Keyed.{keyed_push, keyed_paired, put_map}
+use Rattle.row_tables.proofs.Places.{text_cmp, text_inserted, true_false}
+use Rattle.row_tables.proofs.Numbered.{has_by_number, text_same, text_itself}
 
 or_true : (a b : Bool) → b ≡ true → (a || b) ≡ true
 or_true true b e = refl

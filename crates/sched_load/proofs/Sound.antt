@@ -38,21 +38,20 @@ use Rattle.sched_load_defs.proofs.Moves.{InOrder, all_in_order}
 use Rattle.freq_runs.specs.Trips.{time_end}
 use Rattle.sched_load.specs.Days.{EachSmall}
 use Rattle.sched_load.specs.Tables.{IsConsistent}
-use Rattle.sched_load.specs.Listed.{most_rows}
+use Rattle.sched_load_defs.specs.Files.{most_rows}
 use Rattle.sched_load.proofs.BuildLemmas.{mapped_at}
 use Rattle.sched_load.proofs.ColumnLaws.{AtMost, route_types, trip_directions, pickup_types}
 use Rattle.sched_load.proofs.TimeColumns.{stop_times_early}
-use Rattle.sched_load.proofs.Keyed.{listed_rises, listed_short}
+use Rattle.row_tables.proofs.Keyed.{listed_rises, listed_short}
 use Rattle.sched_load.proofs.EarlyTimes.{HasEarly, all_early}
 use Rattle.sched_load.proofs.Laws.{file_few, file_within}
-use Rattle.sched_load.proofs.Numbered.{has_by_number, ids_rise}
+use Rattle.row_tables.proofs.Numbered.{has_by_number, ids_rise, text_from, text_itself}
 use Rattle.sched_load.proofs.ServiceLemmas.{some_of}
 use Rattle.std.proofs.lemmas.Map.Text.{is_eq-slice_cmp}
 use Rattle.answer_defs.specs.Steps.{unless}
 use Rattle.answer_defs.specs.Choices.{or_else}
-use Rattle.sched_load.proofs.Grouping.{text_from, text_itself}
 use Rattle.sched_load.proofs.ServiceLemmas.{any_at}
-use Rattle.sched_load.proofs.Places.{true_false}
+use Rattle.row_tables.proofs.Places.{true_false}
 
 -- what is true of each element
 abbrev pub Each : {X : Type 0} → (X → Type 0) → List X → Type 0

@@ -19,7 +19,8 @@ use Rattle.sched_load_defs.specs.Loading.{dataset_where, timetable_where, with_t
 use Rattle.sched_load_defs.specs.Numbers.{Dataset}
 use Rattle.service_day.specs.Zone.{TzText}
 use Rattle.sched_types.specs.Timetable.{Timetable}
-use Rattle.sched_load.specs.Answer.{RefusesAlone, fault_of}
+use Rattle.sched_load.specs.Answer.{fault_of}
+use Rattle.row_tables.specs.Alone.{RefusesAlone}
 use Rattle.sched_load.specs.Built.{IsBuilt, plan_told}
 use Rattle.sched_load.specs.Stops.{AtFileFault, StopsWith, StopsFile, StopsPart, StopsTables, StopsLoading}
 use Rattle.sched_load.specs.declared.tables.NetworkTables.{NetworkTables}

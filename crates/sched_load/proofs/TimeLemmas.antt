@@ -13,7 +13,7 @@ use Rattle.sched_types.specs.declared.rows.Place.{Place}
 use Rattle.std.proofs.lemmas.List.{append-nil, append_assoc}
 use Rattle.std.proofs.lemmas.Option.{none-some as none_some, same_Some}
 use Rattle.sched_load.specs.Listed.{times_seen}
-use Rattle.sched_load.proofs.Faults.{drop_at, drop_past}
+use Rattle.row_tables.proofs.Faults.{drop_at, drop_past}
 
 -- timed places follow one another, from a time on
 abbrev pub follow : ℕ → List Times → Bool

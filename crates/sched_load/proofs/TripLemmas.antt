@@ -19,10 +19,9 @@ use Rattle.sched_load.specs.Listed.{stay_of, times_seen, visit_of}
 use Rattle.sched_load.specs.Tables.{AreRead}
 use Rattle.sched_load.proofs.Sound.{refers}
 use Rattle.sched_load.proofs.VisitLemmas.{same_visit}
-use Rattle.sched_load.proofs.Faults.{faults_from, fault_at, fault_behind, no_fault}
-use Rattle.sched_load.proofs.Numbered.{has_by_number}
+use Rattle.row_tables.proofs.Faults.{faults_from, fault_at, fault_behind, no_fault}
+use Rattle.row_tables.proofs.Numbered.{has_by_number, text_itself}
 use Rattle.sched_load.proofs.ServiceLemmas.{any_at, some_of}
-use Rattle.sched_load.proofs.Grouping.{text_itself}
 
 given_one : (a d : Option ℕ) → times_seen (stay_of a d) ≡ times_of a d
 given_one (Some a) (Some d) = refl

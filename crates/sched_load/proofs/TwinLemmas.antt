@@ -22,6 +22,7 @@ use Rattle.std.specs.declared.cmp.Ordering.TheVariants.{Less, Equal, Greater}
 use Rattle.sched_load.specs.declared.visits.Visit.{Visit}
 use Rattle.sched_load.specs.Visits.{AreApart, FirstTwin, RisesByTrip, has_twin, is_twin_visit, key_of}
 use Rattle.sched_load.proofs.PairLemmas.{any_false}
+use Rattle.row_tables.proofs.Places.{inserted, looked_up}
 
 -- one behind the greatest stop_sequence that each trip had so far
 pub record AreEnds (ends : List ℕ) (visits : List Visit) (n trips : ℕ) : Type 0 where
@@ -168,19 +169,6 @@ rises_apart visits h = record { apart = λ k w l at. any_false (λ v. is_twin_vi
         by : (b : Bool) → (v.trip == w.trip) ≡ b → (b && (v.sequence == w.sequence)) ≡ false
         by false e = refl
         by true e = let same : v.trip ≡ w.trip = grind (arith, nat_tests, e) in let less = g same in grind (arith, nat_tests, less)
-
-inserted : {K V : Type 0} (order : K → K → Ordering) (k : K) (v : V) (es : List (K × V)) → insert_entry order es k v ≡ put order k v es
-inserted order k v [] = refl
-inserted order k v (e ∷ es) = by (order k e.0) (inserted order k v es)
-  where
-    by : (a : Ordering) → insert_entry order es k v ≡ put order k v es → match_ordering a ((k, v) ∷ e ∷ es) ((e.0, v) ∷ es) (e ∷ insert_entry order es k v) ≡ by_order a ((k, v) ∷ e ∷ es) ((e.0, v) ∷ es) (e ∷ put order k v es)
-    by Less r = refl
-    by Equal r = refl
-    by Greater r = ap (λ rest. e ∷ rest) r
-
-looked_up : {K V : Type 0} (order : K → K → Ordering) (k : K) (es : List (K × V)) → lookup (is_at (order k)) es ≡ entries.find order k es
-looked_up order k [] = refl
-looked_up order k (e ∷ es) = ap (cond (eq_by_cmp order k e.0) (Some e.1)) (looked_up order k es)
 
 -- what a map says of a key that is put into it
 pub key_found : (seen : BTreeMap ℕ (Unit {0}) Global) (key : ℕ) (old : Option (Unit {0})) (b : Bool) → old ≡ get nat_cmp seen key → is_some old ≡ b → is_some (entries.find nat_cmp key seen.entries) ≡ b

@@ -23,10 +23,9 @@ use Rattle.sched_load.specs.Listed.{stay_of, visit_of}
 use Rattle.sched_load.specs.Visits.{EndsAt}
 use Rattle.sched_load.specs.Visits.{AreApart, AreArranged, AreGathered, FirstTwin, IsVisit, has_twin, is_twin_visit}
 use Rattle.sched_load.proofs.ArrangeLemmas.{own_of}
-use Rattle.sched_load.proofs.Faults.{Judged, judged_start, judged_unknown, judged_twin, judged_more, judged_all}
-use Rattle.sched_load.proofs.Grouping.{text_from, text_itself}
-use Rattle.sched_load.proofs.Keyed.{listed_map}
-use Rattle.sched_load.proofs.Numbered.{has_by_number, some_at}
+use Rattle.row_tables.proofs.Faults.{Judged, judged_start, judged_unknown, judged_twin, judged_more, judged_all}
+use Rattle.row_tables.proofs.Keyed.{listed_map}
+use Rattle.row_tables.proofs.Numbered.{has_by_number, some_at, text_from, text_itself}
 use Rattle.std.proofs.Math.Seq.{take-length}
 use Rattle.sched_load.proofs.PairLemmas.{true_false}
 use Rattle.sched_load.proofs.TwinLemmas.{any_on}

@@ -64,30 +64,6 @@ abbrev pub IsPlainAnswer : {A : Type 0} → Result A LoadFault → Type 0
 IsPlainAnswer (Ok x) = ⊤
 IsPlainAnswer (Err e) = IsPlain e
 
--- a fault that a step gives which reads no file
-abbrev pub RefusesAlone : {A : Type 0} → Result A LoadFault → LoadFault → Type 0
-RefusesAlone told fault.BadZone = told ≡ Err fault.BadZone
-RefusesAlone told (fault.MissingFile name) = told ≡ Err (fault.MissingFile name)
-RefusesAlone told (fault.TooLong name) = told ≡ Err (fault.TooLong name)
-RefusesAlone told (fault.Rows name (rows.MissingColumn column)) = told
-    ≡ Err (fault.Rows name (rows.MissingColumn column))
-RefusesAlone told (fault.Rows name (rows.BadValue row column)) = told
-    ≡ Err (fault.Rows name (rows.BadValue row column))
-RefusesAlone told (fault.Rows name (rows.NotText row column)) = told
-    ≡ Err (fault.Rows name (rows.NotText row column))
-RefusesAlone told (fault.Rows name rows.TooMany) = told ≡ Err (fault.Rows name rows.TooMany)
-RefusesAlone told (fault.Rows name rows.NoMemory) = ⊥
-RefusesAlone told (fault.UnknownRef name row column) = told ≡ Err (fault.UnknownRef name row column)
-RefusesAlone told (fault.Duplicate name row) = told ≡ Err (fault.Duplicate name row)
-RefusesAlone told (fault.TripTimes row) = told ≡ Err (fault.TripTimes row)
-RefusesAlone told fault.FileFault = ⊥
-RefusesAlone told fault.NoMemory = ⊤
-
--- the answer of a step that reads no file is what is told
-abbrev pub AnswersAlone : {A : Type 0} → Result A LoadFault → Result A LoadFault → Type 0
-AnswersAlone told (Ok x) = told ≡ Ok x
-AnswersAlone told (Err e) = RefusesAlone told e
-
 -- The answer of a step that reads files is what is told of them, where they are told; it has a cause, and is plain.
 pub record AnswersFromFiles {A : Type 0} (contents : Option (List (List ℕ × List ℕ)))
     (told : List (List ℕ × List ℕ) → Result A LoadFault) (before after : ℕ)

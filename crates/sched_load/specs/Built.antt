@@ -10,7 +10,7 @@ use Rattle.sched_types.specs.declared.rows.Trip.{Trip}
 use Rattle.sched_types.specs.declared.rows.Place.{Place}
 use Rattle.sched_load.specs.declared.visits.Visit.{Visit}
 use Rattle.sched_load.specs.Course.{places_in}
-use Rattle.sched_load.specs.Listed.{most_rows}
+use Rattle.sched_load_defs.specs.Files.{most_rows}
 use Rattle.sched_types.specs.Timetable.{Timetable, number_of}
 use Rattle.sched_load_defs.specs.declared.fault.LoadFault.{LoadFault}
 use Rattle.sched_load_defs.specs.declared.fault.LoadFault.TheVariants as fault
@@ -18,7 +18,7 @@ use Rattle.service_day.specs.Zone.{TzText}
 use Rattle.sched_load_defs.specs.Frequencies.{load_answer_of, with_frequencies}
 use Rattle.sched_load_defs.specs.Loading.{with_times}
 use Rattle.sched_load_defs.specs.Numbers.{Dataset, by_id, known_number, timetable_of}
-use Rattle.sched_load.specs.Answer.{RefusesAlone}
+use Rattle.row_tables.specs.Alone.{RefusesAlone}
 
 -- the times of all trips are in order
 abbrev pub IsInOrder : Dataset → Type 0

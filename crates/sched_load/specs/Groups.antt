@@ -5,7 +5,7 @@ use Rattle.std.specs.declared.collections.BTreeMap.{BTreeMap}
 use Rattle.gtfs_rows.specs.declared.rows.ExceptionRow.{ExceptionRow}
 use Rattle.service_day.specs.declared.services.Exception.{Exception}
 use Rattle.sched_load_defs.specs.declared.fault.LoadFault.{LoadFault}
-use Rattle.sched_load.specs.Answer.{RefusesAlone}
+use Rattle.row_tables.specs.Alone.{RefusesAlone}
 use Rattle.sched_load.specs.Listed.{entries_of, group_of}
 
 -- a file's rows that are consistent, with the entries of their groups, or the first fault

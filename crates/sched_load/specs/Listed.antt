@@ -16,35 +16,13 @@ use Rattle.sched_load_defs.specs.Numbers.{by_id, rows_with_keys, known_number}
 use Rattle.sched_load_defs.specs.Times.{Times}
 use Rattle.sched_load.specs.declared.visits.Stay.{Stay}
 use Rattle.sched_load.specs.declared.visits.Visit.{Visit}
-use Rattle.sched_load.specs.Answer.{RefusesAlone}
+use Rattle.row_tables.specs.Alone.{RefusesAlone}
 
 -- the rows of a file that must or may be there, of which the bytes are given if there are any
 abbrev pub file_rows : {R : Type 0} → Bool → File → Columns R → Option (List ℕ)
     → Result (List R) LoadFault
 file_rows required name columns bytes = if required then required_rows name columns bytes
     else optional_rows name columns bytes
-
--- the most rows of a file
-abbrev pub most_rows : ℕ
-most_rows = 4000000
-
--- two rows have one id
-abbrev pub same_id : {R : Type 0} → (R → List ℕ) → R → R → Bool
-same_id id_of a b = bytes_eq (id_of a) (id_of b)
-
--- places of rows: those of the rows by rising ids
-pub record IsOrder {R : Type 0} (id_of : R → List ℕ) (rows : List R) (order : List ℕ) : Type 0 where
-  pub rows_are : map (slice_get rows) order ≡ map (λ row. Some row) (by_id id_of rows)
-
--- a file's rows that are consistent, with their places by rising ids, or the first fault
-abbrev pub Orders : {R : Type 0} → Result (List R) LoadFault → (R → List ℕ) → List R
-    → Result (Vec ℕ Global) LoadFault → Type 0
-Orders told id_of rows (Ok order) = (told ≡ Ok rows) × IsOrder id_of rows order.items
-Orders told id_of rows (Err e) = RefusesAlone told e
-
--- the entries of a map whose keys are texts
-abbrev pub texts_seen : {V : Type 0} → List (Bor (List ℕ) × V) → List (List ℕ × V)
-texts_seen entries = map (λ entry. ((entry.0).now, entry.1)) entries
 
 -- an empty time takes the other time of its row
 abbrev pub stay_of : Option ℕ → Option ℕ → Option Stay

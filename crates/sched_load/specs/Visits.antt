@@ -18,7 +18,8 @@ use Rattle.sched_load_defs.specs.Numbers.{rows_by_key}
 use Rattle.sched_load_defs.specs.References.{consistent_stop_times, unknown_in_stop_time}
 use Rattle.sched_load.specs.declared.visits.Visit.{Visit}
 use Rattle.sched_load.specs.declared.visits.Gathered.{Gathered}
-use Rattle.sched_load.specs.Answer.{AnswersFromFiles, RefusesAlone}
+use Rattle.sched_load.specs.Answer.{AnswersFromFiles}
+use Rattle.row_tables.specs.Alone.{RefusesAlone}
 use Rattle.sched_load.specs.Listed.{file_rows, visit_of}
 
 -- each element and each behind it are so

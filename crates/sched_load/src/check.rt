@@ -6,10 +6,10 @@ ghost use Rattle.sched_load_defs.specs.Loading.{times_fault};
 ghost use Rattle.sched_load.specs.Built.{TimesAre};
 ghost use Rattle.sched_load.specs.Tables.{AreRead, WereRead, dataset_of};
 
-use crate::id_order::row_number;
 use crate::tables::Tables;
 use crate::times::are_times;
 use crate::visits::visits_of;
+use row_tables::row_number;
 use sched_load_defs::LoadFault;
 
 /// Whether the times of all trips are in order, or the first row of trips.txt whose trip's are not.

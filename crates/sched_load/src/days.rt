@@ -12,8 +12,8 @@ ghost use Rattle.sched_load.specs.Listed.{entries_of};
 ghost use Rattle.std.specs.FinMap.Entries.{find};
 ghost use Rattle.std.specs.Ordering.{nat_cmp};
 
-use crate::table::Table;
 use gtfs_rows::CalendarRow;
+use row_tables::Table;
 use sched_types::PlanName;
 use service_day::{Exception, Zone, active, base};
 use std::alloc::{AllocError, Global};

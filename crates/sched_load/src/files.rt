@@ -6,19 +6,18 @@ ghost use Rattle.sched_load_defs.specs.Numbers.{by_id};
 ghost use Rattle.sched_load_defs.specs.declared.fault.File.TheVariants as file;
 ghost use Rattle.sched_load.specs.Gathering.{BelowAll};
 ghost use Rattle.sched_load.specs.Visits.{ReadsVisits};
-ghost use Rattle.sched_load_defs.specs.Files.{path_of};
+ghost use Rattle.sched_load_defs.specs.Files.{path_of, most_rows};
 ghost use Rattle.hub_outside.specs.Files.{file_at};
 ghost use Rattle.sched_load.specs.Answer.{AnswersFromFiles, fault_of, items_in};
 ghost use Rattle.std.specs.String.{string_bytes};
-ghost use Rattle.sched_load.specs.Listed.{file_rows, most_rows};
+ghost use Rattle.sched_load.specs.Listed.{file_rows};
 ghost use Rattle.sched_load.specs.Stops.{StopsFile, StopsWith};
 
 use crate::gather::gather_bytes;
-use crate::rows::FileRow;
-use crate::table::Table;
 use crate::visits::Gathered;
 use gtfs_rows::{RowFault, StopRow, TripRow};
 use hub_outside::{Buf, FileAnswer, Files};
+use row_tables::{FileRow, Table};
 use sched_load_defs::{File, LoadFault};
 use std::alloc::{AllocError, Global};
 

@@ -3,19 +3,18 @@
 ghost use Rattle.std.specs.Prelude.{◌≡◌, ◌≤◌, ℕ, List, Option, IfOk, Ok, length, false};
 ghost use Rattle.hub_outside.specs.Files.{file_at};
 ghost use Rattle.gtfs_rows.specs.Tables.{frequencies};
-ghost use Rattle.sched_load_defs.specs.Files.{path_of};
+ghost use Rattle.sched_load_defs.specs.Files.{path_of, most_rows};
 ghost use Rattle.sched_load_defs.specs.References.{consistent_frequencies, unknown_in_frequency};
 ghost use Rattle.sched_load_defs.specs.declared.fault.File.TheVariants as file;
 ghost use Rattle.sched_load.specs.Answer.{AnswersFromFiles, and_next, items_in};
-ghost use Rattle.sched_load.specs.Listed.{file_rows, most_rows};
+ghost use Rattle.sched_load.specs.Listed.{file_rows};
 ghost use Rattle.sched_load.specs.Parents.{Checks};
 ghost use Rattle.sched_load.specs.Stops.{StopsFile, StopsWith};
 
 use crate::files::read_rows;
-use crate::id_order::row_number;
-use crate::table::Table;
 use gtfs_rows::{Column, FrequencyRow, TripRow};
 use hub_outside::Files;
+use row_tables::{Table, row_number};
 use sched_load_defs::{File, LoadFault};
 use std::alloc::Global;
 

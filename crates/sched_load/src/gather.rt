@@ -7,12 +7,13 @@ ghost use Rattle.gtfs_rows.specs.StopTimes.{IsOpen, row_to_come, rows_to_come};
 ghost use Rattle.gtfs_rows.specs.Tables.{stop_times};
 ghost use Rattle.sched_load_defs.specs.Numbers.{by_id};
 ghost use Rattle.sched_load.specs.Gathering.{BelowAll};
-ghost use Rattle.sched_load.specs.Listed.{most_rows, stay_of};
+ghost use Rattle.sched_load.specs.Listed.{stay_of};
+ghost use Rattle.sched_load_defs.specs.Files.{most_rows};
 ghost use Rattle.sched_load.specs.Visits.{Gathers, IsVisit, Skips};
 
-use crate::table::Table;
 use crate::visits::{Gathered, Stay, Visit};
 use gtfs_rows::{Column, RowFault, StopRow, StopTimeRow, StopTimes, TripRow};
+use row_tables::Table;
 use std::alloc::Global;
 
 /// The times of a row, of which an empty one takes the other.

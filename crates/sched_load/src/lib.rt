@@ -7,15 +7,14 @@
 //! faults of the files bears out. Where the files tell which one it was, what comes before it in the order
 //! of loading had no fault (`specs/Stops.antt`).
 //!
-//! The steps stand by subject: `files` reads the rows of one file, `table` holds them with their order
-//! by id, `order` finds that order and the first row that is at fault, `gather` takes the rows of
-//! stop_times.txt one by one and keeps them as visits, `visits` puts these trip by trip, `groups` and
+//! The steps stand by subject: `files` reads the rows of one file, which `row_tables` holds with their order
+//! by id, `gather` takes the rows of stop_times.txt one by one and keeps them as visits, `visits` puts these trip by trip, `groups` and
 //! `services` do so for exceptions, `frequencies` reads frequencies.txt, `tables` reads all eight files,
 //! `check` judges the times of trips by row of trips.txt, `times`, `days` and `build` make the lists of
 //! the plan, into which `freq_parts` puts the trips of frequencies.txt. `specs/Answer.antt` has the word by
 //! which each step says what it told (`AnswersFromFiles`).
 //!
-//! The crate stands on `sched_load_defs`, `gtfs_rows`, `service_day`, `sched_types`, `freq_parts` with
+//! The crate stands on `sched_load_defs`, `row_tables`, `gtfs_rows`, `service_day`, `sched_types`, `freq_parts` with
 //! `freq_runs`, and `hub_outside`.
 #![tactic(auto)]
 
@@ -26,12 +25,8 @@ mod files;
 mod frequencies;
 mod gather;
 mod groups;
-mod id_order;
-mod judges;
 mod loading;
-mod rows;
 mod services;
-mod table;
 mod tables;
 mod times;
 mod visits;

@@ -3,7 +3,8 @@
 ghost use Rattle.std.specs.Prelude.{◌≡◌, ◌≤◌, IfSome, IfOk};
 ghost use Rattle.sched_load_defs.specs.Loading.{timetable, with_times, zone_of};
 ghost use Rattle.sched_load_defs.specs.Numbers.{timetable_of};
-ghost use Rattle.sched_load.specs.Answer.{HasLoadCause, IsPlainAnswer, AnswersAlone, Loads};
+ghost use Rattle.sched_load.specs.Answer.{HasLoadCause, IsPlainAnswer, Loads};
+ghost use Rattle.row_tables.specs.Alone.{AnswersAlone};
 ghost use Rattle.sched_load.specs.Built.{IsBuilt, IsInOrder};
 ghost use Rattle.sched_load.specs.Stops.{StopsLoading, StopsWith};
 ghost use Rattle.sched_load.specs.Tables.{AreRead, dataset_of};

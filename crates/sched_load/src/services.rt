@@ -4,13 +4,14 @@ ghost use Rattle.std.specs.Prelude.{◌≡◌, ◌≤◌, ◌<◌, ℕ, List, ma
 ghost use Rattle.sched_types.specs.Timetable.{RisesById, number_of};
 ghost use Rattle.gtfs_rows.specs.declared.rows.ExceptionRow.{ExceptionRow};
 ghost use Rattle.sched_load_defs.specs.References.{consistent_exceptions, has_id};
-ghost use Rattle.sched_load.specs.Listed.{most_rows, texts_seen};
+ghost use Rattle.row_tables.specs.Order.{texts_seen};
+ghost use Rattle.sched_load_defs.specs.Files.{most_rows};
 ghost use Rattle.sched_load.specs.Groups.{Groups, exceptions_of};
 ghost use Rattle.sched_load.specs.Services.{ids_gathered, services_of};
 
 use crate::groups::{empty_maps, put_new};
-use crate::id_order::row_number;
 use gtfs_rows::{CalendarRow, ExceptionRow, TripRow};
+use row_tables::row_number;
 use sched_load_defs::{File, LoadFault};
 use sched_types::PlanName;
 use service_day::Exception;

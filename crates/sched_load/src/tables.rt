@@ -2,12 +2,13 @@
 
 ghost use Rattle.std.specs.Prelude.{◌≡◌, ◌≤◌, ℕ, List, Option, IfOk, Ok, length, true, [], ◌||◌, bytes_eq};
 ghost use Rattle.hub_outside.specs.Files.{file_at};
-ghost use Rattle.sched_load_defs.specs.Files.{path_of, stored_in};
+ghost use Rattle.sched_load_defs.specs.Files.{path_of, stored_in, most_rows};
 ghost use Rattle.sched_load_defs.specs.Loading.{dataset_in};
 ghost use Rattle.sched_load_defs.specs.References.{consistent, consistent_stop_times, consistent_stops, has_id, with_parents};
 ghost use Rattle.sched_load.specs.Answer.{AnswersFromFiles, and_next};
 ghost use Rattle.sched_load.specs.Stages.{AreDays, IsNetwork, day_rows_in, days_where, network_where};
-ghost use Rattle.sched_load.specs.Listed.{file_rows, most_rows, same_id};
+ghost use Rattle.sched_load.specs.Listed.{file_rows};
+ghost use Rattle.row_tables.specs.Order.{same_id};
 ghost use Rattle.sched_load.specs.Parents.{Checks};
 ghost use Rattle.sched_load.specs.Stops.{StopsFile, StopsPart, StopsTables, StopsWith};
 ghost use Rattle.sched_load.specs.Tables.{ReadsTables};
@@ -17,16 +18,15 @@ ghost use Rattle.sched_load_defs.specs.declared.fault.File.TheVariants as file;
 
 use crate::files::{read_rows, read_visits};
 use crate::frequencies::read_frequencies;
-use crate::id_order::{order_of, row_number};
-use crate::judges::{Judge, KnownAgencies, KnownRoutes, NoReference};
-use crate::rows::IdRow;
 use crate::services::{group_exceptions, service_ids};
-use crate::table::Table;
 use crate::visits::{Visit, arrange};
 use gtfs_rows::{
     AgencyRow, CalendarRow, Column, ExceptionRow, FrequencyRow, RouteRow, StopRow, TripRow,
 };
 use hub_outside::Files;
+use row_tables::{
+    IdRow, Judge, KnownAgencies, KnownRoutes, NoReference, Table, order_of, row_number,
+};
 use sched_load_defs::{File, LoadFault};
 use sched_types::PlanName;
 use service_day::Exception;

@@ -5,7 +5,8 @@ ghost use Rattle.std.specs.List.{list_all};
 ghost use Rattle.std.specs.Option.{ForSome};
 ghost use Rattle.sched_load_defs.specs.Times.{are_moves, are_times, share_between, is_stay, next_timed, known_times};
 ghost use Rattle.sched_load_defs.specs.Loading.{with_times};
-ghost use Rattle.sched_load.specs.Listed.{most_rows, times_seen};
+ghost use Rattle.sched_load.specs.Listed.{times_seen};
+ghost use Rattle.sched_load_defs.specs.Files.{most_rows};
 ghost use Rattle.sched_load.specs.Course.{Remembers, IsNearer, Knows, Steps, ahead_seen, given_of, place_in, places_in, stay_times};
 ghost use Rattle.sched_load.specs.declared.visits.Visit.{Visit};
 

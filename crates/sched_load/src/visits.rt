@@ -4,15 +4,15 @@ ghost use Rattle.std.specs.Prelude.{◌≡◌, ◌≤◌, ◌<◌, ◌==◌, Lis
 ghost use Rattle.std.specs.Bool.{OnTrue};
 ghost use Rattle.std.specs.List.Sorted.{IsNonDecreasingBy};
 ghost use Rattle.sched_load.specs.Gathering.{BelowAll};
-ghost use Rattle.sched_load.specs.Listed.{most_rows};
+ghost use Rattle.sched_load_defs.specs.Files.{most_rows};
 ghost use Rattle.sched_load.specs.Visits.{AreApart, AreArranged, AreGathered, Arranges, FirstTwin, IsSortedStably, IsSortedUnless, RisesByTrip, key_of};
 ghost use Rattle.sched_load.specs.declared.visits.Visit.{Visit};
 ghost use Rattle.gtfs_rows.specs.declared.rows.StopRow.{StopRow};
 ghost use Rattle.gtfs_rows.specs.declared.rows.TripRow.{TripRow};
 ghost use Rattle.gtfs_rows.specs.declared.rows.StopTimeRow.{StopTimeRow};
 
-use crate::id_order::row_number;
 use gtfs_rows::Column;
+use row_tables::row_number;
 use sched_load_defs::{File, LoadFault};
 use std::alloc::{AllocError, Global};
 use std::collections::BTreeMap;

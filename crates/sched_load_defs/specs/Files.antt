@@ -1,6 +1,6 @@
 -- Where the files of a GTFS dataset lie, and what the rows of a file are, or its first fault.
-use Rattle.std.specs.Prelude.{ℕ, ◌==◌, nat_lt, if◌then◌else◌, List, [], ◌∷◌, ◌++◌, length, codes, Option, Some, None, Result, Ok, Err}
-use Rattle.gtfs_rows.specs.Files.{rows_of}
+use Rattle.std.specs.Prelude.{ℕ, ◌-◌, ◌==◌, nat_lt, if◌then◌else◌, List, [], ◌∷◌, ◌++◌, length, codes, Option, Some, None, Result, Ok, Err}
+use Rattle.gtfs_rows.specs.Files.{last_row, rows_of}
 use Rattle.gtfs_rows.specs.Tables.{Columns}
 use Rattle.gtfs_rows.specs.declared.fault.RowFault.{RowFault}
 use Rattle.hub_outside.specs.Files.{file_at}
@@ -49,6 +49,10 @@ unreadable broken files folder name =
 -- the most bytes that a file may have
 abbrev pub longest_file : ℕ
 longest_file = 268435456
+
+-- the most rows of data that a file may have: its last row, without the header
+abbrev pub most_rows : ℕ
+most_rows = last_row - 1
 
 -- the rows of a file, or the fault that it has by itself
 abbrev pub of_file : {A : Type 0} → File → Result A RowFault → Result A LoadFault

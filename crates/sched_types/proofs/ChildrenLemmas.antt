@@ -47,21 +47,21 @@ module _ (stops : List Stop) (i : ℕ) (stop : Stop) (at : slice_get stops i ≡
   other_parent parent named k other = filter_none (λ s. names_parent k (slice_get stops s)) i (ap (names_parent k) at ∙ ap (is_given k) named ∙ other_number parent k (λ e. other (sym e)))
 
 -- lists of one function of their place, where the function stays
-pub lists_same : (lists : List (List ℕ)) (f g : ℕ → List ℕ) (n : ℕ) → lists ≡ map f (range_with_len 0 n) → ((k : ℕ) → g k ≡ f k) → lists ≡ map g (range_with_len 0 n)
+pub lists_same : {X : Type 0} (lists : List X) (f g : ℕ → X) (n : ℕ) → lists ≡ map f (range_with_len 0 n) → ((k : ℕ) → g k ≡ f k) → lists ≡ map g (range_with_len 0 n)
 lists_same lists f g n is stays =
     is ∙ same_lists (map f (range_with_len 0 n)) (map g (range_with_len 0 n)) (length-map-range_with_len f 0 n ∙ sym (length-map-range_with_len g 0 n))
     (λ k d h. let lt : k < n = omega (arith, length-map-range_with_len f 0 n) in
     get_or-map-range_with_len f 0 n k k d lt (omega arith) ∙ sym (stays k) ∙ sym (get_or-map-range_with_len g 0 n k k d lt (omega arith)))
 
 -- and where it changes at one place
-module _ (lists : List (List ℕ)) (f g : ℕ → List ℕ) (n p : ℕ) (y : List ℕ) (within : p < n) (is : lists ≡ map f (range_with_len 0 n)) (here : g p ≡ y) (others : (k : ℕ) → k ≢ p → g k ≡ f k) where
+module _ {X : Type 0} (lists : List X) (f g : ℕ → X) (n p : ℕ) (y : X) (within : p < n) (is : lists ≡ map f (range_with_len 0 n)) (here : g p ≡ y) (others : (k : ℕ) → k ≢ p → g k ≡ f k) where
   size : length lists ≡ n
   size = ap length is ∙ length-map-range_with_len f 0 n
 
-  set_other : (k : ℕ) (d : List ℕ) → k < n → k ≢ p → get_or (set lists p y) k d ≡ g k
+  set_other : (k : ℕ) (d : X) → k < n → k ≢ p → get_or (set lists p y) k d ≡ g k
   set_other k d lt other = get_or-set_other lists p k y d other ∙ ap (λ l. get_or l k d) is ∙ get_or-map-range_with_len f 0 n k k d lt (omega arith) ∙ sym (others k other)
 
-  set_at : (k : ℕ) (d : List ℕ) → k < n → get_or (set lists p y) k d ≡ g k
+  set_at : (k : ℕ) (d : X) → k < n → get_or (set lists p y) k d ≡ g k
   set_at k d lt =
       elim (cases_order k p) [
         | inl same ↦ ap (λ j. get_or (set lists p y) j d) same ∙ get_or-set_same lists p y d (omega (arith, size)) ∙ sym here ∙ ap g (sym same)

@@ -4,6 +4,7 @@ pub mod PlainLemmas
 pub mod Lists
 pub mod RunLemmas
 pub mod ChildrenLemmas
+pub mod MarkLemmas
 pub mod Checks
 pub mod Checked
 pub mod TimetableLaws

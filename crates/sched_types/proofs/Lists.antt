@@ -1,5 +1,5 @@
 -- Lists that stand in vectors, and the places of trips.
-use Rattle.std.proofs.Common.{◌≡◌, ℕ, ◌+◌, ◌^◌, ◌<◌, ◌≤◌, List, [], length, map, sum_by, get_or, take, slice_get, unwrap_or, sym, ap, ◌∙◌, arith, ℤ, w64, SFits}
+use Rattle.std.proofs.Common.{◌≡◌, ℕ, ◌+◌, ◌^◌, ◌<◌, ◌≤◌, Bool, List, [], length, map, sum_by, get_or, take, slice_get, unwrap_or, sym, ap, ◌∙◌, arith, ℤ, w64, SFits}
 use Rattle.std.proofs.lemmas.Int.{ints}
 use Rattle.std.specs.Global.{Vec}
 use Rattle.std.proofs.lemmas.List.{get_or-map, length-map}
@@ -9,7 +9,7 @@ use Rattle.std.proofs.lemmas.Option.{unwrap_or-slice_get}
 use Rattle.sched_types.specs.declared.rows.Place.{Place}
 use Rattle.sched_types.specs.declared.plan.Plan.TheInside.{Inside}
 use Rattle.sched_types.specs.Timetable.{Timetable, IsTimetable, IsSmall, places_of, days_of, children_of}
-use Rattle.sched_types.specs.Sound.{table_in, IsSound}
+use Rattle.sched_types.specs.Sound.{table_in, days_marked, IsSound}
 
 -- small seconds fit 64 bits
 pub fits_seconds : (seconds : ℤ) → IsSmall seconds → SFits w64 seconds
@@ -34,24 +34,31 @@ few_places t sound trip h =
     omega (arith, sound.few_times, sound.places_each, get_or-le-sum_by length t.places trip [] (omega (arith, sound.places_each)), ap length (unwrap_or-slice_get t.places trip []))
 
 module _ (p : Inside) (sound : IsSound p) where
-  -- there is a list of places for each trip, and one of children for each stop
+  -- there is a list of places for each trip, one of marks for each service, and one of children for each stop
   pub length_places : length p.places.items ≡ length p.trips.items
   length_places = sym (length-map p.places.items (λ v. v.items)) ∙ sound.table.places_each
 
-  pub length_active : length p.active.items ≡ length (table_in p).active
-  length_active = sym (length-map p.active.items (λ v. v.items))
+  pub length_running : length p.running.items ≡ length (table_in p).active
+  length_running =
+      sym (length-map p.running.items (λ v. v.items)) ∙ ap length sound.running
+      ∙ length-map (table_in p).active (days_marked (length p.bases.items))
 
   pub length_children : length p.children.items ≡ length p.stops.items
   length_children =
       sym (length-map p.children.items (λ v. v.items)) ∙ ap length sound.children
       ∙ length-map-range_with_len (children_of p.stops.items) 0 (length p.stops.items)
 
-  -- the places that are kept for a trip, and the days for a service
+  -- the places that are kept for a trip, and the marks for a service
   pub places_at : (trip : ℕ) (places : Vec Place) → trip < length p.trips.items → places ≡ get_or p.places.items trip places → places.items ≡ places_of (table_in p) trip
   places_at trip places h e = ap (λ v. v.items) e ∙ sym (read_within p.places.items trip places (omega (arith, length_places)))
 
-  pub days_at : (service : ℕ) (days : Vec ℕ) → service < length (table_in p).active → days ≡ get_or p.active.items service days → days.items ≡ days_of (table_in p) service
-  days_at service days h e = ap (λ v. v.items) e ∙ sym (read_within p.active.items service days (omega (arith, length_active)))
+  pub marks_at : (service : ℕ) (marks : Vec Bool) → service < length (table_in p).active → marks ≡ get_or p.running.items service marks → marks.items ≡ days_marked (length p.bases.items) (days_of (table_in p) service)
+  marks_at service marks h e =
+      ap (λ v. v.items) e
+      ∙ sym (get_or-map (λ v. v.items) p.running.items service marks [] (omega (arith, length_running)))
+      ∙ ap (λ l. get_or l service []) sound.running
+      ∙ get_or-map (days_marked (length p.bases.items)) (table_in p).active service [] [] h
+      ∙ ap (days_marked (length p.bases.items)) (sym (unwrap_or-slice_get (table_in p).active service []))
 
   -- the children that are kept for a stop
   pub children_at : (stop : ℕ) (d : Vec ℕ) → stop < length p.stops.items → (get_or p.children.items stop d).items ≡ children_of p.stops.items stop

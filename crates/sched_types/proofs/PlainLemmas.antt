@@ -51,10 +51,11 @@ no_order : AreInOrder [] [] []
 no_order = record { sorted = λ k d low high. absurd (omega arith); same = λ wanted. refl }
 
 -- so is each plan whose lists are empty and whose window begins so
-pub plain_sound : (p : Inside) → p.agencies.items ≡ [] → p.stops.items ≡ [] → p.routes.items ≡ [] → p.trips.items ≡ [] → p.places.items ≡ [] → p.active.items ≡ [] → p.bases.items ≡ [] → p.first ≡ 19700101 → p.patterns.items ≡ [] → p.derived.items ≡ [] → p.children.items ≡ [] → p.dates.items ≡ [] → p.departures.items ≡ [] → IsSound p
-plain_sound p agencies stops routes trips places active bases first patterns derived children dates departures = record {
+pub plain_sound : (p : Inside) → p.agencies.items ≡ [] → p.stops.items ≡ [] → p.routes.items ≡ [] → p.trips.items ≡ [] → p.places.items ≡ [] → p.active.items ≡ [] → p.bases.items ≡ [] → p.first ≡ 19700101 → p.patterns.items ≡ [] → p.derived.items ≡ [] → p.children.items ≡ [] → p.dates.items ≡ [] → p.departures.items ≡ [] → p.running.items ≡ [] → IsSound p
+plain_sound p agencies stops routes trips places active bases first patterns derived children dates departures running = record {
   table = let same : table_in p ≡ no_timetable = rw (agencies, stops, routes, trips, places, active, bases, first, patterns, derived) refl in rw same plain_is;
   children = rw (children, stops) refl;
   dates = rw (dates, bases) refl;
   departures = rw (departures, trips, places) no_order;
+  running = rw (running, active) refl;
 }

@@ -19,6 +19,7 @@ mod numbers;
 mod plan;
 mod plans;
 mod rows;
+mod running;
 
 pub use plan::Plan;
 pub use plans::{NamedFeed, NamedPlan, Plans};

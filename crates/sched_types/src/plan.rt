@@ -14,6 +14,7 @@ use crate::departures::{Departure, by_departure, departing};
 use crate::derived::{derived_at, has_derived, with_patterns, without_derived};
 use crate::numbers::number_by_id;
 use crate::rows::{Counts, Place, PlanDerived, PlanParts, PlanPattern, Route, Run, Stop, Trip};
+use crate::running::{is_marked, running_lists};
 use std::alloc::{AllocError, Global};
 use std::marker::Model;
 use texts::{ShortText as PlanName, day_number, is_valid_date};
@@ -40,6 +41,9 @@ pub struct Plan {
     dates: Vec<u32>,
     /// The numbers of the trips by their departures.
     departures: Vec<u32>,
+    /// For each service, by its number, whether it is active, by the days of the window. It takes a byte
+    /// for each day of each service.
+    running: Vec<Vec<bool>>,
 }
 
 impl Model for Plan {
@@ -63,6 +67,7 @@ impl Plan {
         let children = children_lists(alloc, parts.stops.as_slice())?;
         let dates = dates_from(alloc, parts.first, parts.bases.len())?;
         let departures = by_departure(alloc, parts.trips.as_slice(), parts.places.as_slice())?;
+        let running = running_lists(alloc, parts.active.as_slice(), parts.bases.len())?;
         let PlanParts {
             agencies,
             stops,
@@ -89,6 +94,7 @@ impl Plan {
             children,
             dates,
             departures,
+            running,
         })
     }
 
@@ -110,6 +116,7 @@ impl Plan {
             children: Vec::new(alloc),
             dates: Vec::new(alloc),
             departures: Vec::new(alloc),
+            running: Vec::new(alloc),
         }
     }
 
@@ -244,9 +251,9 @@ impl Plan {
     {
         match self.trips.get(run.trip as usize) {
             Some(trip) => {
-                let days = &self.active[trip.service as usize];
+                let marks = &self.running[trip.service as usize];
                 self.places[run.trip as usize].len() >= PLACES_OF_A_RUN
-                    && days.binary_search(&run.day).is_ok()
+                    && is_marked(marks.as_slice(), run.day)
             }
             None => false,
         }

@@ -20,7 +20,7 @@ mod lines;
 mod replies;
 mod window;
 
-pub use lines::{LONGEST_LINE, Line, LineFault, line_end, parse_line};
+pub use lines::{LONGEST_LINE, Line, LineFault, is_json, line_end, parse_line};
 pub use replies::{reply_line, too_long_line};
 pub use std::alloc::AllocError as NoMemory;
 pub use window::{LONGEST_SCRIPT, Refill, Window};

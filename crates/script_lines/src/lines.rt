@@ -380,7 +380,7 @@ fn number_in(word: &Text, low: u64, high: u64) -> Option<u64>
 }
 
 /// Whether the word of a form asks for JSON; none where it is no form.
-fn is_json(form: &str) -> Option<bool>
+pub fn is_json(form: &str) -> Option<bool>
     ensures { result ≡ is_json_in form.now }
 {
     if form == "text" {

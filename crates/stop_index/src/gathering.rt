@@ -1,4 +1,4 @@
-//! The departures of each stop, gathered trip by trip.
+//! Gathers the departures of each stop, trip by trip.
 
 ghost use Rattle.std.specs.Prelude.{◌≡◌, ◌<◌, [], length, map, IfOk, OnOk};
 ghost use Rattle.std.specs.List.{range_with_len};

@@ -1,9 +1,11 @@
 //! Ports, listeners and doors over the loopback, with ample memory.
 
+ghost use Rattle.std.specs.Prelude.{◌≡◌, IfOk};
+
 use feed_port::{FeedPort, LONGEST_MESSAGE, MemoryPort, PortAnswer, StreamPort};
 use hub_config_defs::{FeedConf, PortKind};
 use hub_outside::{Buf, Door, DoorAnswer, MemorySink, MemorySource, NoMemory};
-use hub_ports::{SystemPort, ToldPort, doors_of, listen, open_port, reader_count};
+use hub_ports::{SystemPort, ToldPort, doors_of, listen, open_port};
 use rt_types::Text;
 use std::alloc::Global;
 use std::io::{ErrorKind, Write};
@@ -12,7 +14,9 @@ use std::test::Fail;
 use std::{io, rt, thread};
 
 /// A feed `b` of that kind, with messages from that place.
-fn feed(alloc: Global, kind: PortKind, place: &str) -> Result<FeedConf, NoMemory> {
+fn feed(alloc: Global, kind: PortKind, place: &str) -> Result<FeedConf, NoMemory>
+    ensures { IfOk result (λ feed. feed.tries ≡ 1) }
+{
     Ok(FeedConf {
         name: Text::new(alloc, "b")?,
         schedule: 0,
@@ -249,12 +253,5 @@ fn an_address_in_use_closes_the_doors(rt: HostRuntime) -> Result<(), Fail> {
     for mut door in doors_of(&rt, alloc, &listener, 2, 5)? {
         assert!(rt; matches!(door.next(), DoorAnswer::Failed));
     }
-    Ok(())
-}
-
-#[test]
-fn readers_are_1_to_64(rt: HostRuntime) -> Result<(), Fail> {
-    assert_eq!(rt; (reader_count(0), reader_count(1)), (1, 1));
-    assert_eq!(rt; (reader_count(64), reader_count(65)), (64, 64));
     Ok(())
 }

@@ -1,7 +1,8 @@
-//! The commands on the system's own files, with the words, the input and the output of a program.
+//! The commands on the system's own files, with the words of a command, an input and an output.
 use crate::boards::PLAYED;
 use crate::city::{CITY, turned};
 use hub_main::run_on_system;
+use rt_types::Text;
 use std::fs;
 use std::fs::Permissions;
 use std::os::unix::fs::PermissionsExt;
@@ -23,13 +24,9 @@ fn ends(
     told: &[u8],
 ) -> Result<bool, Fail> {
     let alloc = rt.alloc();
-    let words = vec![in alloc;
-        String::from_str(alloc, "hub")?,
-        String::from_str(alloc, command)?,
-        String::from_str(alloc, path)?,
-    ]?;
+    let words = vec![in alloc; Text::new(alloc, command)?, Text::new(alloc, path)?]?;
     let mut room = [0u8; 1024];
-    let got = run_on_system(alloc, Ok(words.into_iter()), rt, input, room.as_mut_slice());
+    let got = run_on_system(alloc, &words, rt, input, room.as_mut_slice());
     let rest = room.as_slice().strip_prefix(told);
     Ok(got == status && rest.is_some_and(|rest| rest.iter().all(|byte| *byte == 0)))
 }

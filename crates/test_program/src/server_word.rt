@@ -1,36 +1,40 @@
 //! Which words ask for the server.
 
-use hub_system::{NoMemory, words_of_serve};
+use hub_main::{NoMemory, words_of};
+use hub_words::asks_for_server;
 use std::alloc::Global;
 use std::io;
 use std::io::ErrorKind;
 use std::test::Fail;
 
-/// How many words the server is given of these.
-fn served(alloc: Global, words: &[&str]) -> Result<Option<usize>, NoMemory> {
+/// How many words are behind the program's name, and whether they ask for the server.
+fn asked(alloc: Global, words: &[&str]) -> Result<(usize, bool), NoMemory> {
     let mut copies = Vec::new(alloc);
     for word in words {
         copies.push(String::from_str(alloc, word)?)?;
     }
-    let words = words_of_serve(alloc, Ok(copies.into_iter()))?;
-    Ok(words.map(|words| words.len()))
+    let words = words_of(alloc, Ok(copies.into_iter()))?;
+    Ok((words.len(), asks_for_server(&words)))
 }
 
 #[test]
 fn the_server_is_asked_for_by_its_word(rt: HostRuntime) -> Result<(), Fail> {
     let alloc = rt.alloc();
-    assert_eq!(rt; served(alloc, &["hub", "serve", "hub.toml"])?, Some(2));
-    assert_eq!(rt; served(alloc, &["hub", "check", "serve"])?, None);
-    assert_eq!(rt; served(alloc, &["serve"])?, None);
+    let server = asked(alloc, &["hub", "serve", "hub.toml"])?;
+    let command = asked(alloc, &["hub", "check", "serve"])?;
+    let name = asked(alloc, &["serve"])?;
+    assert_eq!(rt;
+        (server, command, name),
+        ((2, true), (2, false), (0, false))
+    );
     Ok(())
 }
 
 #[test]
 fn words_that_are_not_given_are_no_usage(rt: HostRuntime) -> Result<(), Fail> {
     let alloc = rt.alloc();
-    let foreign = words_of_serve(alloc, Err(io::Error::from(ErrorKind::InvalidData)))?;
-    assert!(rt; foreign.is_none());
-    let starved = words_of_serve(alloc, Err(io::Error::from(ErrorKind::OutOfMemory)));
-    assert!(rt; starved.is_err());
+    let foreign = words_of(alloc, Err(io::Error::from(ErrorKind::InvalidData)))?;
+    let starved = words_of(alloc, Err(io::Error::from(ErrorKind::OutOfMemory)));
+    assert_eq!(rt; (foreign.len(), starved.is_err()), (0, true));
     Ok(())
 }

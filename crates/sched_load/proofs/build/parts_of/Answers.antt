@@ -19,12 +19,12 @@ use Rattle.sched_load.specs.Tables.{dataset_of}
 use Rattle.sched_load.proofs.ColumnLaws.{calendar_flags}
 use Rattle.sched_load.proofs.DayLemmas.{window_ends}
 use Rattle.sched_load.proofs.Laws.{file_within}
-use Rattle.sched_load.proofs.Numbered.{ids_rise}
+use Rattle.row_tables.proofs.Numbered.{ids_rise}
 use Rattle.sched_load.proofs.PartLemmas.{active_are, agency_ids_are, few_agency_rows, places_are, routes_are, table_made, visits_small}
 use Rattle.sched_load.proofs.PlainTable.{plain_table}
 use Rattle.sched_load.proofs.TripLemmas.{known_rows}
 use Rattle.sched_load.proofs.Laws.{file_few}
-use Rattle.sched_load.proofs.Keyed.{listed_short}
+use Rattle.row_tables.proofs.Keyed.{listed_short}
 use Rattle.std.specs.List.{range_with_len}
 use Rattle.std.specs.List.Sorted.{IsNonDecreasingBy}
 use Rattle.std.specs.Cmp.Lexicographic.{slice_cmp}

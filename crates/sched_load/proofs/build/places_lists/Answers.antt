@@ -6,7 +6,7 @@ use Rattle.std.proofs.lemmas.List.FromFn.{map-range_with_len_more}
 use Rattle.sched_load.specs.declared.visits.Visit.{Visit}
 use Rattle.sched_load.specs.Built.{places_of_trip}
 use Rattle.sched_load.specs.Course.{places_in}
-use Rattle.sched_load.specs.Listed.{most_rows}
+use Rattle.sched_load_defs.specs.Files.{most_rows}
 use Rattle.sched_load.proofs.PairLemmas.{kept_at}
 use Rattle.sched_load.proofs.PartLemmas.{filter_short}
 use Rattle.sched_load.proofs.build.places_lists.Goals as goal

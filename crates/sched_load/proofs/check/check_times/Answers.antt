@@ -16,7 +16,7 @@ use Rattle.std.specs.Cmp.Lexicographic.{slice_cmp}
 use Rattle.std.specs.Ordering.{nat_cmp}
 use Rattle.gtfs_rows.specs.declared.rows.TripRow.{TripRow}
 use Rattle.sched_load.specs.declared.visits.Visit.{Visit}
-use Rattle.sched_load.proofs.Keyed.{listed_short}
+use Rattle.row_tables.proofs.Keyed.{listed_short}
 use Rattle.sched_load.proofs.check.check_times.Goals as goal
 
 pub unreachable-requires : goal.unreachable-requires

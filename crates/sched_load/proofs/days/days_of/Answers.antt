@@ -5,7 +5,7 @@ use Rattle.text_defs.specs.Dates.{date_plus}
 use Rattle.sched_types.proofs.Days.{window_day}
 use Rattle.sched_load.specs.Days.{runs_by}
 use Rattle.sched_load.proofs.DayLemmas.{date_next, date_start, days_more, runs_day}
-use Rattle.sched_load.proofs.Places.{looked_up}
+use Rattle.row_tables.proofs.Places.{looked_up}
 use Rattle.sched_load.proofs.days.days_of.Goals as goal
 
 pub loop-day-init : goal.loop-day-init

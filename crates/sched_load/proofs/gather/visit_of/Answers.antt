@@ -5,7 +5,7 @@ use Rattle.gtfs_rows.specs.declared.rows.StopRow.{StopRow}
 use Rattle.gtfs_rows.specs.declared.rows.TripRow.{TripRow}
 use Rattle.sched_load.specs.Listed.{stay_of}
 use Rattle.sched_load.specs.declared.visits.Visit.{Visit}
-use Rattle.sched_load.proofs.Keyed.{listed_short}
+use Rattle.row_tables.proofs.Keyed.{listed_short}
 use Rattle.sched_load.proofs.VisitLemmas.{no_stop, no_trip, visit_is}
 use Rattle.sched_load.proofs.gather.visit_of.Goals as goal
 

@@ -1,5 +1,5 @@
 use Rattle.std.proofs.Common.{◌≡◌, ℕ, List, ◌++◌, map, take}
-use Rattle.sched_load.specs.Listed.{texts_seen}
+use Rattle.row_tables.specs.Order.{texts_seen}
 use Rattle.sched_load.specs.Services.{ids_gathered}
 use Rattle.sched_load.proofs.services.add_services.Given as goal
 

@@ -5,7 +5,7 @@ use Rattle.sched_load_defs.specs.declared.fault.File.TheVariants as file
 use Rattle.sched_load_defs.specs.References.{refers_to_none}
 use Rattle.sched_types.specs.Timetable.{number_of}
 use Rattle.sched_load.specs.Listed.{entries_of}
-use Rattle.sched_load.proofs.Faults.{judged_start}
+use Rattle.row_tables.proofs.Faults.{judged_start}
 use Rattle.sched_load.proofs.VisitLemmas.{no_groups}
 use Rattle.sched_load.proofs.ServiceLemmas.{same_exception, exception_twin, exceptions_more}
 use Rattle.sched_load.proofs.services.group_exceptions.Goals as goal

@@ -4,7 +4,7 @@ use Rattle.sched_load_defs.specs.declared.fault.File.TheVariants as file
 use Rattle.sched_load_defs.specs.References.{refers_to_none}
 use Rattle.sched_load.specs.Groups.{exceptions_of}
 use Rattle.sched_load.specs.Listed.{entries_of}
-use Rattle.sched_load.proofs.Faults.{Judged}
+use Rattle.row_tables.proofs.Faults.{Judged}
 use Rattle.sched_load.proofs.services.group_exceptions.Given as goal
 
 abbrev pub invariant-loop-place : goal.invariant-loop-place

@@ -1,5 +1,5 @@
 use Rattle.std.proofs.Common.{◌≡◌, ◌++◌, map}
-use Rattle.sched_load.specs.Listed.{texts_seen}
+use Rattle.row_tables.specs.Order.{texts_seen}
 use Rattle.sched_load.proofs.services.names_of.Given as goal
 
 abbrev pub invariant-loop-id : goal.invariant-loop-id

@@ -1,5 +1,5 @@
 use Rattle.std.proofs.Common.{◌++◌, [], ap, map}
-use Rattle.sched_load.specs.Listed.{texts_seen}
+use Rattle.row_tables.specs.Order.{texts_seen}
 use Rattle.sched_load.proofs.ServiceLemmas.{gathered_ok}
 use Rattle.sched_load.proofs.services.service_ids.Goals as goal
 

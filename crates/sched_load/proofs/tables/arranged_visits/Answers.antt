@@ -1,5 +1,6 @@
 use Rattle.std.proofs.Common.{true, arith, subst, sym}
 use Rattle.gtfs_rows.specs.Tables.{stop_times}
+use Rattle.sched_load_defs.specs.Files.{most_rows}
 use Rattle.sched_load_defs.specs.References.{consistent_stop_times}
 use Rattle.sched_load_defs.specs.declared.fault.File.TheVariants as file
 use Rattle.sched_load.specs.Gathering.{BelowAll}
@@ -26,7 +27,7 @@ arrange-requires-clause-few g c =
 pub arrange-requires-clause-room : goal.arrange-requires-clause-room
 arrange-requires-clause-room g c =
     let r = c.in_ok-gathered.ensures.reads in
-    gathered_room c.args.trips.now c.args.stops.now r.0 c.in_ok-gathered.gathered.visits.items c.in_ok-gathered.gathered.unknown 4000000 r.3 (file_few true file.StopTimes stop_times r.2.0 r.0 r.2.1)
+    gathered_room c.args.trips.now c.args.stops.now r.0 c.in_ok-gathered.gathered.visits.items c.in_ok-gathered.gathered.unknown most_rows r.3 (file_few true file.StopTimes stop_times r.2.0 r.0 r.2.1)
 
 pub returns-in_err-visits-clause-reads : goal.returns-in_err-visits-clause-reads
 returns-in_err-visits-clause-reads g c =

@@ -7,7 +7,7 @@ use Rattle.sched_load_defs.specs.References.{consistent_exceptions}
 use Rattle.sched_load.proofs.Chain.{days_passed, no_memory, step_alone, step_done, step_fails, step_value, told_same}
 use Rattle.sched_load.proofs.ColumnLaws.{exception_types}
 use Rattle.sched_load.proofs.Laws.{file_within}
-use Rattle.sched_load.proofs.Numbered.{ids_rise}
+use Rattle.row_tables.proofs.Numbered.{ids_rise}
 use Rattle.sched_load.proofs.ServiceLemmas.{known_service}
 use Rattle.sched_load.proofs.Stopping.{stops_alone, stops_by, stops_calendar, stops_dates, stops_passed}
 use Rattle.sched_load.proofs.WholeChain.{days_is}

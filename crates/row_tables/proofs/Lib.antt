@@ -1,0 +1,4 @@
+pub mod Keyed
+pub mod Numbered
+pub mod Faults
+pub mod Places
