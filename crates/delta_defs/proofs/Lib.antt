@@ -2,3 +2,4 @@ pub mod Examples
 pub mod IdOrder
 pub mod Told
 pub mod Applying
+pub mod Tables

@@ -18,6 +18,7 @@ use Rattle.feed_defs.specs.Rows.{message_bytes}
 use Rattle.feed_defs.specs.Table.{entity}
 use Rattle.feed_write.specs.Entities.{entity_field}
 use Rattle.delta_defs.specs.Changes.{is_same}
+use Rattle.delta_out.specs.Sent.{IsShort}
 
 abbrev of_bytes : List ℕ → Written
 of_bytes bytes = record { number = 2; payload = Span bytes }
@@ -74,3 +75,9 @@ taken_back a b before written cleared old bytes after start at is none held same
     by_same : (t : Bool) → (if t then before else before ++ entity_field b) ≡ before ++ (if t then [] else entity_field b)
     by_same true = sym (append-nil before)
     by_same false = refl
+
+-- what was written whole is short
+pub written_short : (e : Entity) (before written : List ℕ) → written ≡ before ++ entity_field e → length written < 2 ^ 64 → IsShort e
+unfolding entity_field
+written_short e before written is small =
+    content_short (message_bytes entity e) (omega (arith, ap length is, length-append before (field_bytes (of_bytes (message_bytes entity e))), small))

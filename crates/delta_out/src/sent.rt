@@ -1,13 +1,13 @@
 //! What is sent of each id of a feed.
 
 ghost use Rattle.std.specs.Prelude.{◌≡◌, ◌≤◌, ◌++◌, [], length, drop, take, OnOk, if◌then◌else◌};
-ghost use Rattle.std.specs.List.{flat_map};
+ghost use Rattle.std.specs.List.{flat_map, AllByRecursion};
 ghost use Rattle.std.specs.Str.{bytes_eq};
 ghost use Rattle.feed_defs.specs.Combined.{entity_under_feed};
 ghost use Rattle.feed_write.specs.Entities.{entity_field};
 ghost use Rattle.delta_defs.specs.Changes.{gone, is_same};
 ghost use Rattle.delta_out.specs.Pairs.{pairs_of};
-ghost use Rattle.delta_out.specs.Sent.{named_entity, pair_field};
+ghost use Rattle.delta_out.specs.Sent.{named_entity, pair_field, IsShort, IsShortPair};
 
 use crate::NoMemory;
 use crate::pairs::{Pair, Pairs};
@@ -24,8 +24,10 @@ pub(crate) fn push_feed(
     new: &Table,
     out: &mut Vec<u8>,
 ) -> Result<(), NoMemory>
-    ensures { OnOk result (out.new.items
+    ensures sent { OnOk result (out.new.items
         ≡ out.old.items ++ flat_map (pair_field prefix.now feed.now) (pairs_of old.now new.now)) }
+    ensures short { OnOk result (AllByRecursion (IsShortPair prefix.now feed.now)
+        (pairs_of old.now new.now)) }
 {
     let mut spare = Vec::new(*out.allocator());
     for pair in Pairs::of(old, new) {
@@ -42,8 +44,9 @@ fn push_pair(
     spare: &mut Vec<u8>,
     out: &mut Vec<u8>,
 ) -> Result<(), NoMemory>
-    ensures { OnOk result (out.new.items
+    ensures sent { OnOk result (out.new.items
         ≡ out.old.items ++ pair_field prefix.now feed.now pair.now) }
+    ensures short { OnOk result (IsShortPair prefix.now feed.now pair.now) }
 {
     match (pair.was, pair.is) {
         (Some(was), Some(is)) => {
@@ -64,9 +67,12 @@ fn push_changed(
     spare: &mut Vec<u8>,
     out: &mut Vec<u8>,
 ) -> Result<(), NoMemory>
-    ensures { OnOk result (out.new.items ≡ out.old.items
-        ++ (if is_same (named_entity prefix.now feed.now was.now) (named_entity prefix.now feed.now is.now)
-        then [] else entity_field (named_entity prefix.now feed.now is.now))) }
+    ensures sent { OnOk result (out.new.items ≡ out.old.items
+        ++ (if is_same (named_entity prefix.now feed.now was.now)
+        (named_entity prefix.now feed.now is.now) then []
+        else entity_field (named_entity prefix.now feed.now is.now))) }
+    ensures short { OnOk result (IsShort (named_entity prefix.now feed.now was.now)
+        × IsShort (named_entity prefix.now feed.now is.now)) }
 {
     let start = out.len();
     write_under_feed(feed, prefix, is, out)?;
