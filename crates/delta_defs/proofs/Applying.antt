@@ -372,14 +372,14 @@ module _ (prefix : List ℕ) (plan : ℕ) where
 abbrev pub IsTable : FeedFold → Type 0
 IsTable fold = T (is_sorted id_cmp fold.entities) × AllByRecursion IsKeyed fold.entities
 
-at_number : (P : FeedFold → Type 0) → P no_fold → (folds : List FeedFold) → AllByRecursion P folds → (i : ℕ) → P (slice_index_or folds i no_fold)
+pub at_number : (P : FeedFold → Type 0) → P no_fold → (folds : List FeedFold) → AllByRecursion P folds → (i : ℕ) → P (slice_index_or folds i no_fold)
 at_number P none [] each zero = none
 at_number P none [] each (suc i) = none
 at_number P none (fold ∷ folds) each zero = each.0
 at_number P none (fold ∷ folds) each (suc i) = at_number P none folds each.1 i
 
 module _ (plan : ℕ) where
-  each_feed : (P : NamedFeed → Type 0) (first : ℕ) (feeds : List NamedFeed) (folds : List FeedFold) → AllByRecursion P feeds → AllByRecursion (λ one. P one.feed) (filter (is_of_schedule plan) (feeds_from first feeds folds))
+  pub each_feed : (P : NamedFeed → Type 0) (first : ℕ) (feeds : List NamedFeed) (folds : List FeedFold) → AllByRecursion P feeds → AllByRecursion (λ one. P one.feed) (filter (is_of_schedule plan) (feeds_from first feeds folds))
   each_feed P first [] folds each = tt
   each_feed P first (feed ∷ feeds) [] each = tt
   each_feed P first (feed ∷ feeds) (fold ∷ folds) each = chosen (nat_eq feed.plan plan) (each_feed P (first + 1) feeds folds each.1)
@@ -391,7 +391,7 @@ module _ (plan : ℕ) where
       chosen true rest = (each.0, rest)
       chosen false rest = rest
 
-  each_fold : (P : FeedFold → Type 0) (first : ℕ) (feeds : List NamedFeed) (folds : List FeedFold) → AllByRecursion P folds → AllByRecursion (λ one. P one.fold) (filter (is_of_schedule plan) (feeds_from first feeds folds))
+  pub each_fold : (P : FeedFold → Type 0) (first : ℕ) (feeds : List NamedFeed) (folds : List FeedFold) → AllByRecursion P folds → AllByRecursion (λ one. P one.fold) (filter (is_of_schedule plan) (feeds_from first feeds folds))
   each_fold P first [] folds each = tt
   each_fold P first (feed ∷ feeds) [] each = tt
   each_fold P first (feed ∷ feeds) (fold ∷ folds) each = chosen (nat_eq feed.plan plan) (each_fold P (first + 1) feeds folds each.1)

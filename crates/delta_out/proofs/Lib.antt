@@ -1,3 +1,4 @@
 pub mod PairLemmas
 pub mod SentLemmas
 pub mod MessageLemmas
+pub mod LawLemmas

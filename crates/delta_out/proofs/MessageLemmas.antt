@@ -1,5 +1,5 @@
 -- The difference is a header, and then what is sent of each feed.
-use Rattle.std.proofs.Common.{◌≡◌, ℕ, List, [], ◌∷◌, ◌++◌, map, Bool, true, false, Option, Some, None, refl, sym, ap, ◌∙◌, append_assoc, codes}
+use Rattle.std.proofs.Common.{◌≡◌, ◌<◌, ℕ, List, [], ◌∷◌, ◌++◌, map, Bool, true, false, Option, Some, None, refl, sym, ap, ◌∙◌, append_assoc, length, get_or, codes}
 use Rattle.std.specs.Prelude.{if◌then◌else◌}
 use Rattle.std.specs.List.{flat_map, filter_map, cons_option}
 use Rattle.std.proofs.lemmas.List.Folds.{flat_map-map}
@@ -12,10 +12,14 @@ use Rattle.feed_defs.specs.History.{Change}
 use Rattle.feed_defs.specs.Table.{write}
 use Rattle.feed_write.specs.Entities.{entity_field}
 use Rattle.feed_write.proofs.Entities.{message_grows}
+use Rattle.feed_out.specs.Fields.{header_of}
+use Rattle.feed_out.proofs.Bytes.{prefix_is}
+use Rattle.sched_types.specs.declared.plans.NamedPlan.{NamedPlan}
 use Rattle.sched_types.specs.Schedules.{Schedules}
 use Rattle.board_defs.specs.Feed.{newest_of, prefix_of}
 use Rattle.board_defs.specs.Feeds.{HubFeed, schedule_feeds}
 use Rattle.board_defs.specs.Fold.{FeedFold}
+use Rattle.board_defs.specs.Views.{HubKept, folds_of}
 use Rattle.delta_defs.specs.Changes.{is_same, combined_of, change_sent, held_under, ids_of_both, feed_changes, held_before, changes, changes_bytes}
 use Rattle.delta_out.specs.Pairs.{IdPair, pair_under, pairs_of}
 use Rattle.delta_out.specs.Sent.{entity_sent, field_of, pair_field, feed_field}
@@ -67,3 +71,16 @@ changes_are schedules plan old new =
     let head = differential_header (newest_of ours) in
     ap (λ bytes. write (record { header = head; entity = []; unknown = [] }) ++ bytes) (sym (feeds_are (prefix_of schedules plan) old ours))
     ∙ sym (message_grows head (changes schedules plan old new).entity)
+
+-- what is appended is the difference
+pub sent_are : (kept : HubKept) (schedules : Schedules) (plans : List NamedPlan) (plan : ℕ) (named : NamedPlan) (prefix : List ℕ) (feeds others : List HubFeed) (newest : ℕ) (old folds : List FeedFold) (before headed after : List ℕ)
+    → schedules ≡ kept.plans → plans ≡ schedules.plans → plan < length kept.plans.plans → prefix ≡ (get_or plans plan named).prefix
+    → feeds ≡ schedule_feeds plan kept.plans.feeds (folds_of kept) → newest ≡ newest_of feeds → folds ≡ old → others ≡ schedule_feeds plan kept.plans.feeds (folds_of kept)
+    → headed ≡ before ++ write (header_of Differential newest) → after ≡ headed ++ flat_map (feed_field prefix folds) others
+    → after ≡ before ++ changes_bytes kept.plans plan old (folds_of kept)
+sent_are kept schedules plans plan named prefix feeds others newest old folds before headed after whole its_plans within is its_feeds stamp same its_others head written =
+    let ours = schedule_feeds plan kept.plans.feeds (folds_of kept) in
+    written
+    ∙ (λ i. (head ∙ ap (λ n. before ++ write (header_of Differential n)) (stamp ∙ ap newest_of its_feeds)) i ++ flat_map (feed_field (prefix_is kept schedules plans plan named prefix whole its_plans within is i) (same i)) (its_others i))
+    ∙ append_assoc before (write (header_of Differential (newest_of ours))) (flat_map (feed_field (prefix_of kept.plans plan) old) ours)
+    ∙ ap (λ bytes. before ++ bytes) (changes_are kept.plans plan old (folds_of kept))
