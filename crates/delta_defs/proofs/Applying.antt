@@ -110,7 +110,7 @@ module _ (name : List ℕ) (g : List ℕ → Stored → Option Entity) where
 
 -- ---- one feed
 
-abbrev IsKeyed : Change → Type 0
+abbrev pub IsKeyed : Change → Type 0
 IsKeyed c = c.1.entity.id ≡ c.0
 
 -- an entity of a feed, as the combined feed has it

@@ -2,3 +2,4 @@ pub mod PairLemmas
 pub mod SentLemmas
 pub mod MessageLemmas
 pub mod LawLemmas
+pub mod KeptLemmas

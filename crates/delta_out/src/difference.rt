@@ -42,14 +42,30 @@ pub fn since(
         → OnOk result (BringsTo view.now.plans plan old (folds_of view.now)
         (changes view.now.plans plan old (folds_of view.now))) }
 {
-    let mut bytes = Vec::new(alloc);
     match kept.at(number) {
-        Some(old) => {
-            push_changes(old, view, plan, &mut bytes)?;
-            Ok(bytes)
-        }
-        None => Ok(bytes),
+        Some(old) => changed_since(alloc, old, view, plan),
+        None => Ok(Vec::new(alloc)),
     }
+}
+
+/// The bytes of what changed since a kept view, or out of memory.
+fn changed_since(
+    alloc: Global,
+    old: &KeptView,
+    view: &HubView,
+    plan: u32,
+) -> Result<Vec<u8>, NoMemory>
+    requires { plan < length view.now.plans.plans }
+    ensures changes { IfOk result (λ bytes. bytes.items
+        ≡ changes_bytes view.now.plans plan old.now.folds (folds_of view.now)) }
+    ensures brings { (g h : List Entry) → WereRead g → WereRead h
+        → old.now.folds ≡ fold_of (length view.now.plans.feeds) g → StandsFor h view.now
+        → OnOk result (BringsTo view.now.plans plan old.now.folds (folds_of view.now)
+        (changes view.now.plans plan old.now.folds (folds_of view.now))) }
+{
+    let mut bytes = Vec::new(alloc);
+    push_changes(old, view, plan, &mut bytes)?;
+    Ok(bytes)
 }
 
 /// Appends what changed since a kept view, or as much of it as memory allows.
