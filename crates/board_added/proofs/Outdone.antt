@@ -12,6 +12,7 @@ use Rattle.std.proofs.lemmas.List.Sorted.{list_any-IsPermutation}
 use Rattle.std.proofs.lemmas.Map.Text.{is_eq-slice_cmp}
 use Rattle.sched_types.proofs.DepartureOrder.{up_to_last}
 use Rattle.order.proofs.Laws.{IsRising, rising_from_sorted, rising_take}
+use Rattle.order.proofs.Lists.{any_same, equal_then}
 use Rattle.board_defs.specs.Choice.{Update, text_or_none, choice_cmp, is_same_trip, is_outdone}
 use Rattle.board_added.specs.Added.{key_cmp, full_cmp, IsInOrder}
 
@@ -31,11 +32,6 @@ pub full_total : IsTotalOrder full_cmp
 full_total = then_total (on_total (λ u. u.update.trip) key_total) choice_total
 
 -- ---- one trip
-
-equal_then : (a b : Ordering) → is_eq (ordering_then a b) ≡ (is_eq a && is_eq b)
-equal_then Less b = refl
-equal_then Equal b = refl
-equal_then Greater b = refl
 
 same_key : (u other : Update) → is_same_trip u other ≡ is_eq (key_cmp other.update.trip u.update.trip)
 same_key u other =
@@ -58,10 +54,6 @@ outdone_by u other =
     ∙ tests_are (key_cmp other.update.trip u.update.trip) (choice_cmp other u)
 
 -- ---- lists
-
-any_same : {X : Type 0} (p q : X → Bool) (xs : List X) → ((x : X) → p x ≡ q x) → list_any p xs ≡ list_any q xs
-any_same p q [] same = refl
-any_same p q (x ∷ xs) same = ap (λ b. b || list_any p xs) (same x) ∙ ap (λ b. q x || b) (any_same p q xs same)
 
 -- the first so many alone pass
 any_before : {X : Type 0} (p q : X → Bool) (xs : List X) (n : ℕ) → ((k : ℕ) (d : X) → k < n → k < length xs → p (get_or xs k d) ≡ true)

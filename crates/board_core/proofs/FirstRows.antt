@@ -33,11 +33,6 @@ use Rattle.order.proofs.OrderedMap.{each_ordered, map_ordered}
 use Rattle.board_core.proofs.FirstPart.{first_part}
 use Rattle.board_core.proofs.RowOrder.{row_total, lines_order}
 
--- an answer that is one list is another that is equal
-pub if_ok_same : {X Y E : Type 0} (r : Result X E) (f : X → Y) (a b : Y) → a ≡ b → IfOk r (λ x. f x ≡ a) → IfOk r (λ x. f x ≡ b)
-if_ok_same (Ok x) f a b e is = is ∙ e
-if_ok_same (Err x) f a b e is = tt
-
 map_first : {X Y : Type 0} (f : X → Y) (n : ℕ) (xs : List X) → map f (take n xs) ≡ take n (map f xs)
 map_first f zero xs = refl
 map_first f (suc n) [] = refl

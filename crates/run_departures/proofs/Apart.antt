@@ -2,8 +2,8 @@
 use Rattle.std.proofs.Common.{◌≡◌, ℕ, true, false, cond, nat_eq, Option, Some, None, List, [], ◌∷◌, ◌++◌, refl, sym, ap, ◌∙◌, append-nil, inl, inr}
 use Rattle.std.specs.List.{AllByRecursion, cons_option, filter_map, flat_map}
 use Rattle.std.proofs.lemmas.Bool.{cases_eq, eq-eqb, ne_eqb}
-use Rattle.run_departures.proofs.Fusion.{all_given}
-use Rattle.run_departures.proofs.Merging.{all_weaker}
+use Rattle.keyed_lists.proofs.Entries.{all_from}
+use Rattle.keyed_lists.proofs.Tables.{all_each, all_with}
 
 eq_back : (a b : ℕ) → nat_eq a b ≡ false → nat_eq b a ≡ false
 eq_back a b apart = elim (cases_eq b a) [
@@ -13,10 +13,6 @@ eq_back a b apart = elim (cases_eq b a) [
 
 pub eq_itself : (a : ℕ) → nat_eq a a ≡ true
 eq_itself a = eq-eqb a a refl
-
-both_all : {X : Type 0} (P Q R : X → Type 0) → ((x : X) → P x → Q x → R x) → (xs : List X) → AllByRecursion P xs → AllByRecursion Q xs → AllByRecursion R xs
-both_all P Q R h [] all more = tt
-both_all P Q R h (x ∷ xs) all more = (h x all.0 more.0, both_all P Q R h xs all.1 more.1)
 
 module _ {F : Type 0} (number : F → ℕ) where
   -- no later one has the number of an earlier one
@@ -37,8 +33,8 @@ module _ {F : Type 0} (number : F → ℕ) where
     -- one in front with another number
     keyed_apart : (f : F) (fs : List F) → AllByRecursion (λ g. nat_eq (number g) (number f) ≡ false) fs → AllByRecursion (λ x. nat_eq (number f) (key x) ≡ false) (filter_map says fs)
     keyed_apart f fs apart =
-        all_given says (λ x. nat_eq (number f) (key x) ≡ false) fs
-        (all_weaker (λ g. nat_eq (number g) (number f) ≡ false) (λ g. (x : X) → says g ≡ Some x → nat_eq (number f) (key x) ≡ false)
+        all_from says (λ x. nat_eq (number f) (key x) ≡ false) fs
+        (all_each (λ g. nat_eq (number g) (number f) ≡ false) (λ g. (x : X) → says g ≡ Some x → nat_eq (number f) (key x) ≡ false)
         (λ g other x at. ap (nat_eq (number f)) (own g x at) ∙ eq_back (number g) (number f) other) fs apart)
 
     -- what all say under the number of one is what that one says
@@ -47,7 +43,7 @@ module _ {F : Type 0} (number : F → ℕ) where
     one_speaks (f ∷ fs) apart = by_option (says f) refl (later (one_speaks fs apart.1)) where
       later : AllByRecursion (λ x. flat_map (of_number rows (key x)) fs ≡ told x) (filter_map says fs) → AllByRecursion (λ x. flat_map (of_number rows (key x)) (f ∷ fs) ≡ told x) (filter_map says fs)
       later rest =
-          both_all (λ x. flat_map (of_number rows (key x)) fs ≡ told x) (λ x. nat_eq (number f) (key x) ≡ false) (λ x. flat_map (of_number rows (key x)) (f ∷ fs) ≡ told x)
+          all_with (λ x. flat_map (of_number rows (key x)) fs ≡ told x) (λ x. nat_eq (number f) (key x) ≡ false) (λ x. flat_map (of_number rows (key x)) (f ∷ fs) ≡ told x)
           (λ x same other. ap (λ b. cond b (rows f) [] ++ flat_map (of_number rows (key x)) fs) other ∙ same)
           (filter_map says fs) rest (keyed_apart f fs apart.0)
 

@@ -61,13 +61,6 @@ given_same_on P f g same [] all = refl
 given_same_on P f g same (a ∷ items) all =
     ap (λ o. cons_option o (filter_map f items)) (same a all.0) ∙ ap (cons_option (g a)) (given_same_on P f g same items all.1)
 
-pub all_given : {A X : Type 0} (f : A → Option X) (R : X → Type 0) (items : List A) → AllByRecursion (λ a. (x : X) → f a ≡ Some x → R x) items → AllByRecursion R (filter_map f items)
-all_given f R [] all = tt
-all_given {X = X} f R (a ∷ items) all = by_option (f a) refl (all_given f R items all.1) where
-  by_option : (given : Option X) → f a ≡ given → AllByRecursion R (filter_map f items) → AllByRecursion R (cons_option given (filter_map f items))
-  by_option None at rest = rest
-  by_option (Some x) at rest = (all.0 x at, rest)
-
 -- ---- of lists one after another
 
 pub given_flat : {A B X : Type 0} (f : B → Option X) (g : A → List B) (items : List A) → filter_map f (flat_map g items) ≡ flat_map (λ a. filter_map f (g a)) items
@@ -82,10 +75,6 @@ pub map_flat : {A X Y : Type 0} (f : X → Y) (g : A → List X) (items : List A
 map_flat f g [] = refl
 map_flat f g (a ∷ items) = map-append f (g a) (flat_map g items) ∙ ap (λ xs. map f (g a) ++ xs) (map_flat f g items)
 
-pub flat_same : {A X : Type 0} (f g : A → List X) → ((a : A) → f a ≡ g a) → (items : List A) → flat_map f items ≡ flat_map g items
-flat_same f g same [] = refl
-flat_same f g same (a ∷ items) = ap (λ xs. xs ++ flat_map f items) (same a) ∙ ap (λ xs. g a ++ xs) (flat_same f g same items)
-
 pub nothing_flat : {A X : Type 0} (f : A → List X) → ((a : A) → f a ≡ []) → (items : List A) → flat_map f items ≡ []
 nothing_flat f none [] = refl
 nothing_flat f none (a ∷ items) = ap (λ xs. xs ++ flat_map f items) (none a) ∙ nothing_flat f none items
@@ -98,37 +87,6 @@ all_flat {X = X} P R f each (a ∷ items) all = both (f a) (each a all.0) (all_f
   both (x ∷ xs) here rest = (here.0, both xs here.1 rest)
 
 -- ---- filters
-
-pub filter_twice : {X : Type 0} (p q : X → Bool) (xs : List X) → filter p (filter q xs) ≡ filter (λ x. if q x then p x else false) xs
-filter_twice p q [] = refl
-filter_twice p q (x ∷ xs) = by_test (q x) (filter_twice p q xs) where
-  by_test : (b : Bool) → filter p (filter q xs) ≡ filter (λ y. if q y then p y else false) xs
-      → filter p (cond b (x ∷ filter q xs) (filter q xs)) ≡ cond (if b then p x else false) (x ∷ filter (λ y. if q y then p y else false) xs) (filter (λ y. if q y then p y else false) xs)
-  by_test true rest = ap (λ ys. cond (p x) (x ∷ ys) ys) rest
-  by_test false rest = rest
-
-either_way : (a b : Bool) → (if a then b else false) ≡ (if b then a else false)
-either_way true true = refl
-either_way true false = refl
-either_way false true = refl
-either_way false false = refl
-
-pub filter_alike : {X : Type 0} (p q : X → Bool) → ((x : X) → p x ≡ q x) → (xs : List X) → filter p xs ≡ filter q xs
-filter_alike p q same [] = refl
-filter_alike p q same (x ∷ xs) = ap (λ b. cond b (x ∷ filter p xs) (filter p xs)) (same x) ∙ ap (λ ys. cond (q x) (x ∷ ys) ys) (filter_alike p q same xs)
-
-pub filter_turned : {X : Type 0} (p q : X → Bool) (xs : List X) → filter p (filter q xs) ≡ filter q (filter p xs)
-filter_turned p q xs =
-    filter_twice p q xs
-    ∙ filter_alike (λ x. if q x then p x else false) (λ x. if p x then q x else false) (λ x. either_way (q x) (p x)) xs
-    ∙ sym (filter_twice q p xs)
-
-pub filter_of_map : {X Y : Type 0} (p : Y → Bool) (f : X → Y) (xs : List X) → filter p (map f xs) ≡ map f (filter (λ x. p (f x)) xs)
-filter_of_map p f [] = refl
-filter_of_map p f (x ∷ xs) = by_test (p (f x)) (filter_of_map p f xs) where
-  by_test : (b : Bool) → filter p (map f xs) ≡ map f (filter (λ y. p (f y)) xs) → cond b (f x ∷ filter p (map f xs)) (filter p (map f xs)) ≡ map f (cond b (x ∷ filter (λ y. p (f y)) xs) (filter (λ y. p (f y)) xs))
-  by_test true rest = ap (λ ys. f x ∷ ys) rest
-  by_test false rest = rest
 
 -- those that pass do pass
 pub all_passing : {X : Type 0} (p : X → Bool) (xs : List X) → AllByRecursion (λ x. p x ≡ true) (filter p xs)

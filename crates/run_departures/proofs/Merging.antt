@@ -13,6 +13,7 @@ use Rattle.order.proofs.Laws.{IsLeast, IsRising}
 use Rattle.order.proofs.Ordered.{not_above_back}
 use Rattle.order.proofs.OrderedMap.{each_ordered}
 use Rattle.run_departures.specs.Merge.{joined, Headed, sooner, first_from, first_head}
+use Rattle.keyed_lists.proofs.Tables.{all_each}
 
 -- ---- lists
 
@@ -27,10 +28,6 @@ all_first P (x ∷ xs) ys all = (all.0, all_first P xs ys all.1)
 pub all_second : {X : Type 0} (P : X → Type 0) (xs ys : List X) → AllByRecursion P (xs ++ ys) → AllByRecursion P ys
 all_second P [] ys all = all
 all_second P (x ∷ xs) ys all = all_second P xs ys all.1
-
-pub all_weaker : {X : Type 0} (P Q : X → Type 0) → ((x : X) → P x → Q x) → (xs : List X) → AllByRecursion P xs → AllByRecursion Q xs
-all_weaker P Q h [] all = tt
-all_weaker P Q h (x ∷ xs) all = (h x all.0, all_weaker P Q h xs all.1)
 
 joined_more : {X : Type 0} (lists : List (List X)) (list : List X) → joined (lists ++ list ∷ []) ≡ joined lists ++ list
 joined_more lists list = flat_map-append (λ xs. xs) lists (list ∷ []) ∙ ap (λ xs. joined lists ++ xs) (append-nil list)
@@ -69,7 +66,7 @@ module _ {X : Type 0} {cmp : X → X → Ordering} (o : IsTotalOrder cmp) where
       subst Q (sym first.parts)
       (subst (AllByRecursion P) (sym (flat_map-append (λ xs. xs) first.before ((best.1 ∷ first.rest) ∷ first.after)))
       (all_append P (joined first.before) ((best.1 ∷ first.rest) ++ joined first.after)
-      (all_weaker (λ a. is_gt (cmp a best.1) ≡ true) P (λ a above. not_above_back o a best.1 above) (joined first.before) first.above)
+      (all_each (λ a. is_gt (cmp a best.1) ≡ true) P (λ a above. not_above_back o a best.1 above) (joined first.before) first.above)
       (all_append P (best.1 ∷ first.rest) (joined first.after) (ap is_gt (tied_itself o best.1), first.behind) first.least)))
 
   -- one list more
@@ -103,7 +100,7 @@ module _ {X : Type 0} {cmp : X → X → Ordering} (o : IsTotalOrder cmp) where
       after = [];
       parts = refl;
       place = refl;
-      above = all_weaker (λ a. is_gt (cmp best.1 a) ≡ false) (λ a. is_gt (cmp a y) ≡ true) (λ a low. over best.1 a y low above) (joined done) (first_least done best first);
+      above = all_each (λ a. is_gt (cmp best.1 a) ≡ false) (λ a. is_gt (cmp a y) ≡ true) (λ a low. over best.1 a y low above) (joined done) (first_least done best first);
       behind = up.0;
       least = tt;
     }
@@ -118,7 +115,7 @@ module _ {X : Type 0} {cmp : X → X → Ordering} (o : IsTotalOrder cmp) where
       least =
           subst (IsLeast o best.1) (sym (joined_more first.after (y ∷ ys)))
           (all_append (λ a. is_gt (cmp best.1 a) ≡ false) (joined first.after) (y ∷ ys) first.least
-          (low, all_weaker (λ a. is_gt (cmp y a) ≡ false) (λ a. is_gt (cmp best.1 a) ≡ false) (λ a up. upto o best.1 y a low up) ys up.0));
+          (low, all_each (λ a. is_gt (cmp y a) ≡ false) (λ a. is_gt (cmp best.1 a) ≡ false) (λ a up. upto o best.1 y a low up) ys up.0));
     }
 
   first_after : (place : ℕ) (done lists : List (List X)) (best : Option (Headed X)) → place ≡ length done → AllByRecursion (IsRising o) lists → FirstIs done best → FirstIs (done ++ lists) (first_from cmp place best lists)

@@ -21,11 +21,12 @@ use Rattle.board_defs.specs.Feeds.{HubFeed, held_in}
 use Rattle.run_overlay.specs.Live as live
 use Rattle.run_overlay.specs.Live.{live_between, live_rows, rows_by}
 use Rattle.run_overlay.specs.Updates.{updates_of}
+use Rattle.keyed_lists.proofs.Effects.{flat_same}
 use Rattle.run_departures.specs.declared.departure.Departure.{Departure}
 use Rattle.run_departures.specs.Bids.{Bid, LiveFeed, live_feed, winning}
 use Rattle.run_departures.specs.Sources.{live_departure, scheduled_departure}
 use Rattle.run_departures.proofs.Apart.{AreApart, of_number, one_speaks}
-use Rattle.run_departures.proofs.Fusion.{given_flat, filter_flat, map_flat, flat_same, nothing_flat}
+use Rattle.run_departures.proofs.Fusion.{given_flat, filter_flat, map_flat, nothing_flat}
 use Rattle.run_departures.proofs.Greatests.{passing}
 use Rattle.run_departures.proofs.Placed.{at_stop, departures_by, in_window, live_by, live_other, live_untold, live_won, scheduled_of_run, scheduled_told, scheduled_untold, there_by}
 use Rattle.run_departures.proofs.Spread.{gathered, same_append, same_given}

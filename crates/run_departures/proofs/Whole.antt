@@ -29,6 +29,9 @@ use Rattle.run_overlay.specs.Live.{live_between}
 use Rattle.run_overlay.specs.Updates.{updates_of}
 use Rattle.run_overlay.proofs.AllRuns.{is_this, run_once}
 use Rattle.run_overlay.proofs.Slots.{slots_are}
+use Rattle.keyed_lists.proofs.Effects.{flat_same}
+use Rattle.keyed_lists.proofs.Entries.{all_from, all_passing as all_that_pass}
+use Rattle.keyed_lists.proofs.Tables.{all_each, all_of}
 use Rattle.run_departures.specs.declared.asked.Asked.{Asked}
 use Rattle.run_departures.specs.declared.departure.Departure.{Departure}
 use Rattle.run_departures.specs.Bids.{LiveFeed, live_feed}
@@ -39,9 +42,8 @@ use Rattle.run_departures.specs.Orders.{departure_total}
 use Rattle.run_departures.specs.Sources.{live_departure, live_there, scheduled_there, sources_at}
 use Rattle.run_departures.proofs.Alike.{departures_alike}
 use Rattle.run_departures.proofs.Apart.{AreApart}
-use Rattle.run_departures.proofs.Fusion.{all_filter, all_flat, all_given, all_passing, filter_flat, filter_of_given, flat_same, map_flat, map_of_given}
+use Rattle.run_departures.proofs.Fusion.{all_filter, all_flat, all_passing, filter_flat, filter_of_given, map_flat, map_of_given}
 use Rattle.run_departures.proofs.Greatests.{passing}
-use Rattle.run_departures.proofs.Merging.{all_weaker}
 use Rattle.run_departures.proofs.Placed.{at_stop, departures_by, in_window, place_departure, placed}
 use Rattle.run_departures.proofs.RowOrder.{rows_order}
 use Rattle.run_departures.proofs.Split.{all_in_window, best, here_is, window_of}
@@ -58,17 +60,6 @@ joined_flat g (a ∷ items) = flat_map-append (λ xs. xs) (g a) (flat_map g item
 joined_map : {A X : Type 0} (g : A → List X) (items : List A) → joined (map g items) ≡ flat_map g items
 joined_map g [] = refl
 joined_map g (a ∷ items) = ap (λ xs. g a ++ xs) (joined_map g items)
-
-all_of : {X : Type 0} (P : X → Type 0) → ((x : X) → P x) → (xs : List X) → AllByRecursion P xs
-all_of P h [] = tt
-all_of P h (x ∷ xs) = (h x, all_of P h xs)
-
-all_filtered : {X : Type 0} (P : X → Type 0) (p : X → Bool) (xs : List X) → AllByRecursion P xs → AllByRecursion (λ x. P x × (p x ≡ true)) (filter p xs)
-all_filtered P p [] all = tt
-all_filtered P p (x ∷ xs) all = by_test (p x) refl (all_filtered P p xs all.1) where
-  by_test : (b : Bool) → p x ≡ b → AllByRecursion (λ y. P y × (p y ≡ true)) (filter p xs) → AllByRecursion (λ y. P y × (p y ≡ true)) (if b then x ∷ filter p xs else filter p xs)
-  by_test true e rest = ((all.0, e), rest)
-  by_test false e rest = rest
 
 -- ---- departures that tie
 
@@ -150,7 +141,7 @@ module _ (t : Timetable) (most : Option Update) (run : Run) where
 
   all_of_run : AllByRecursion IsOf (departures_by t most run)
   all_of_run =
-      all_given (place_departure t run most) IsOf (departures_of t run.trip)
+      all_from (place_departure t run most) IsOf (departures_of t run.trip)
       (all_of (λ item. (d : Departure) → place_departure t run most item ≡ Some d → IsOf d) each_of_run (departures_of t run.trip))
 
 -- ---- the rows of a run
@@ -298,7 +289,7 @@ module _ (t : Timetable) (p : ℕ) (named : List NamedFeed) (folds : List FeedFo
       (λ run runs.
       let most = best t fs apart asked.at start end run in
       all_filter OfRun (in_window start end) (departures_by t most run)
-      (all_weaker (λ (d : Departure). d.run ≡ run) OfRun (run_there run runs) (departures_by t most run) (all_of_run t most run)))
+      (all_each (λ (d : Departure). d.run ≡ run) OfRun (run_there run runs) (departures_by t most run) (all_of_run t most run)))
       (all_runs t) are_runs
 
   stop_within : asked.stop < length t.stops → (stop : ℕ) → is_asked t asked.stop stop ≡ true → stop < length t.stops
@@ -309,9 +300,9 @@ module _ (t : Timetable) (p : ℕ) (named : List NamedFeed) (folds : List FeedFo
 
   all_there : asked.stop < length t.stops → AllByRecursion (IsThere t) all_wanted
   all_there within =
-      all_weaker (λ (d : Departure). OfRun d × (wanted d ≡ true)) (IsThere t)
+      all_each (λ (d : Departure). OfRun d × (wanted d ≡ true)) (IsThere t)
       (λ d both. record { trip = both.0.0; day = both.0.1; stop = stop_within within d.stop both.1 })
-      all_wanted (all_filtered OfRun wanted all all_of_runs)
+      all_wanted (all_that_pass OfRun wanted all all_of_runs)
 
   -- ---- rows
 

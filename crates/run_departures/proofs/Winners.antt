@@ -26,11 +26,12 @@ use Rattle.board_defs.specs.Fold.{FeedFold}
 use Rattle.run_overlay.specs.Kept.{overlay_of, told_update}
 use Rattle.run_overlay.specs.Updates.{held_alone, update_alone, updates_of}
 use Rattle.run_overlay.proofs.Read.{chosen_is}
+use Rattle.keyed_lists.proofs.Once.{filter_of_map, filter_turned}
+use Rattle.keyed_lists.proofs.Tables.{all_each}
 use Rattle.run_departures.specs.Bids.{Bid, bid_by, bid_cmp, bid_of, live_feed, winner}
 use Rattle.run_departures.proofs.Apart.{AreApart}
-use Rattle.run_departures.proofs.Fusion.{given_of_map, filter_of_given, map_of_given, given_flat, filter_flat, filter_of_map, filter_turned, all_filter}
+use Rattle.run_departures.proofs.Fusion.{given_of_map, filter_of_given, map_of_given, given_flat, filter_flat, all_filter}
 use Rattle.run_departures.proofs.Greatests.{passing, greatest_flat, greatest_upward}
-use Rattle.run_departures.proofs.Merging.{all_weaker}
 
 -- ---- updates under the number of their feed
 
@@ -189,7 +190,7 @@ from_first first [] folds = tt
 from_first first (feed ∷ named) [] = tt
 from_first first (feed ∷ named) (fold ∷ folds) =
     let here : first ≤ first = omega arith in
-    (here, all_weaker (λ (one : HubFeed). first + 1 ≤ one.number) (λ one. first ≤ one.number) (λ one h. omega (arith, h)) (feeds_from (first + 1) named folds) (from_first (first + 1) named folds))
+    (here, all_each (λ (one : HubFeed). first + 1 ≤ one.number) (λ one. first ≤ one.number) (λ one h. omega (arith, h)) (feeds_from (first + 1) named folds) (from_first (first + 1) named folds))
 
 abbrev pub number_of_feed : HubFeed → ℕ
 number_of_feed one = one.number
@@ -203,7 +204,7 @@ apart_from p first (feed ∷ named) (fold ∷ folds) =
     by_test : (b : Bool) → AreApart number_of_feed (filter (is_of_schedule p) (feeds_from (first + 1) named folds))
         → AreApart number_of_feed (cond b (record { number = first; feed = feed; fold = fold } ∷ filter (is_of_schedule p) (feeds_from (first + 1) named folds)) (filter (is_of_schedule p) (feeds_from (first + 1) named folds)))
     by_test true rest = (
-      all_weaker (λ (g : HubFeed). first + 1 ≤ g.number) (λ g. nat_eq g.number first ≡ false) (λ g h. ne_eqb g.number first (λ e. omega (arith, h, e)))
+      all_each (λ (g : HubFeed). first + 1 ≤ g.number) (λ g. nat_eq g.number first ≡ false) (λ g h. ne_eqb g.number first (λ e. omega (arith, h, e)))
           (filter (is_of_schedule p) (feeds_from (first + 1) named folds))
           (all_filter (λ (g : HubFeed). first + 1 ≤ g.number) (is_of_schedule p) (feeds_from (first + 1) named folds) (from_first (first + 1) named folds)),
       rest,
