@@ -10,7 +10,7 @@ top=$(cd "$(dirname "$0")/../.." && pwd)
 cd "$top"
 build_hub
 
-[ $# -gt 0 ] || set -- run protoc polled agencies clients no_memory operating judge audit nginx readers two_hubs broker display moved operators city_of
+[ $# -gt 0 ] || set -- run protoc polled agencies clients soak no_memory operating judge audit nginx readers two_hubs broker display moved operators city_of
 declare -A counts=([ok]=0 [failed]=0 [untried]=0)
 for name; do
   script=samples/tests/$name.sh

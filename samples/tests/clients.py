@@ -6,7 +6,10 @@ usage: clients.py silent ADDRESS COUNT   opens COUNT connections that say nothin
        clients.py gone ADDRESS COUNT     COUNT times: asks for a thousand feeds at once, reads a little and goes away
        clients.py post ADDRESS           sends a POST with a body of 1 MB, and reads only then
        clients.py last ADDRESS           asks for a thousand feeds and says more, and reads only then, slowly
+       clients.py hello ADDRESS          sends the first bytes of TLS, with a line feed among them and without one
        clients.py deaf                   a sender that never answers: it says where, and stays until it is ended
+       clients.py bad COUNT EACH         a sender that says where, sends COUNT messages that are none, one each EACH
+                                         seconds, and ends; it says how many bytes the hub has sent to it
 """
 import socket
 import struct
@@ -119,6 +122,37 @@ def last(address):
     print(f"{whole(said)} whole answers in {len(said)} bytes")
 
 
+def hello(address):
+    for byte, told in ((10, "a"), (11, "no")):
+        # A client's hello of TLS 1.3 (RFC 8446, sections 4.1.2 and 5.1), its random of one byte.
+        body = b"\x03\x03" + bytes([byte] * 32) + b"\0\0\x02\x13\x01\x01\0"
+        shake = b"\x01" + len(body).to_bytes(3, "big") + body
+        began = time.monotonic()
+        with connect(address) as link:
+            link.sendall(b"\x16\x03\x01" + len(shake).to_bytes(2, "big") + shake)
+            said = answer(link)
+        print(f"a hello with {told} line feed: '{first_line(said)}' and closed after {time.monotonic() - began:.0f} s")
+
+
+def bad(count, each):
+    server = socket.create_server(("127.0.0.1", 0))
+    address = server.getsockname()
+    print(f"clients.py: bad at {address[0]}:{address[1]}", file=sys.stderr, flush=True)
+    link, _ = server.accept()
+    for _ in range(count):
+        link.sendall(b"\0\0\0\x03bad")
+        time.sleep(each)
+    link.shutdown(socket.SHUT_WR)
+    link.settimeout(2)
+    came = 0
+    try:
+        while part := link.recv(4096):
+            came += len(part)
+    except TimeoutError:  # the hub keeps the connection, and sends no more
+        pass
+    print(f"{came} bytes came from the hub")
+
+
 def deaf():
     server = socket.create_server(("127.0.0.1", 0), backlog=0)
     address = server.getsockname()
@@ -152,8 +186,9 @@ def gone(address, count):
 
 def main():
     what, *rest = sys.argv[1:]
-    words = {"silent": silent, "drip": drip, "gone": gone, "post": post, "last": last, "deaf": deaf}
-    words[what](*rest[:1], *map(int, rest[1:]))
+    words = {"silent": silent, "drip": drip, "gone": gone, "post": post, "last": last,
+             "hello": hello, "deaf": deaf, "bad": bad}
+    words[what](*(it if ":" in it else int(it) for it in rest))
 
 
 main()

@@ -1,9 +1,10 @@
 #!/usr/bin/env bash
 # Tries clients that a hub meets in the open: as many silent connections as it has readers, clients that send a byte now
-# and then, clients that go away in the midst of their answers, clients that send more than is read; senders that don't
-# answer; a hub that has no descriptors for longer than a minute; one whose standard error is closed or has no reader; and
-# how a hub ends by itself, with its lines. Ends by itself, with status 0 exactly where all was as it should be. HUB names
-# the program, where it is not ./hub. Needs curl, prlimit and python3.
+# and then, clients that go away in the midst of their answers, clients that send more than is read, clients that speak
+# TLS; senders that don't answer, and such that send what is no message; a hub that has no descriptors for longer than a
+# minute; one whose standard error is closed, is full, or has no reader; and how a hub ends by itself, with its lines. Ends
+# by itself, with status 0 exactly where all was as it should be. HUB names the program, where it is not ./hub. Needs curl,
+# prlimit and python3.
 set -euo pipefail
 top=$(cd "$(dirname "$0")/../.." && pwd)
 . "$top/samples/serve/functions.sh"
@@ -20,10 +21,25 @@ within() {
   awk -v most="$1" '/answered/ { sub(/.*after /, ""); exit !($1 < most) }' "$work/said"
 }
 
+# start_bad NAME COUNT EACH: a sender of so many messages that are none, at `bad_address`. What it says is in NAME of
+# `work`.
+start_bad() {
+  samples/tests/clients.py bad "$2" "$3" > "$work/$1" 2> "$work/$1.place" 7>&- &
+  bad_process=$!
+  started+=("$bad_process")
+  bad_address=$(wait_line "$work/$1.place" 'clients.py: bad at ' "$bad_process")
+}
+
 start_sender
 show_scene late
 samples/serve/send.py samples/serve/hub.toml spool "$work/spool" alert
 feeds=("$(notices_from "$work/spool")" "$(trams_from "$sender_address")")
+
+# Read at the end: what is told of a sender for longer than a minute.
+start_bad slow 4 21
+slow_process=$bad_process
+start_hub slow "${feeds[0]}" "$(trams_from "$bad_address")"
+slow_hub=$hub_process
 
 echo "== silent clients"
 start_hub many "${feeds[@]}" 's/^readers = .*/readers = 64/'
@@ -45,6 +61,12 @@ check "a POST of 1 MB gets its answer" grep -q '^1 whole answer: HTTP/1.1 405 ' 
 show samples/tests/clients.py last "$hub_address"
 check "and so do a thousand requests, the last one too" grep -q '^1000 whole answers' "$work/said"
 check "without a reset" is "$(grep -c '^reset' "$work/said")" 0
+
+echo "== clients that speak TLS"
+show samples/tests/clients.py hello "$hub_address"
+check "are answered once their first line is over" \
+  grep -Eq "with a line feed: 'HTTP/1.1 400 Bad Request' and closed after [01] s" "$work/said"
+check "and let go after ten seconds where it has no end" grep -Eq "no line feed: '.*' and closed after (9|10|11) s" "$work/said"
 
 echo "== clients that go away"
 stop_process "$hub_process"
@@ -78,6 +100,17 @@ check "and each is told" is "$(grep -c "can't connect to $deaf_address: no answe
 stop_process "$hub_process"
 stop_process "$deaf_process"
 
+echo "== a sender of messages that are none"
+start_bad bad 5 0
+start_hub told "${feeds[0]}" "$(trams_from "$bad_address")"
+check "is told to the last one" wait_for grep -qx 'hub: feed trams has ended' "$work/told.err"
+sed 's/^/        /' "$work/told.err"
+check "the first at once" grep -q '^hub: feed trams: 1 refused, the last one: a malformed message: ' "$work/told.err"
+check "the others when it ends" grep -qx 'hub: feed trams: 4 refused' "$work/told.err"
+check "and no more" is "$(grep -c '^hub: feed trams: ' "$work/told.err")" 2
+check "while the hub goes on" curl -fsS --max-time 5 -o "$work/answer" "http://$hub_address/status"
+stop_process "$hub_process"
+
 echo "== a hub without descriptors"
 start_hub poor "${feeds[0]}" "$no_trams" 's/^readers = .*/readers = 1/'
 wait_for has_accepted "$hub_address" notices
@@ -106,15 +139,21 @@ stop_process "$hub_process"
 
 echo "== a hub that can't tell"
 # A pipe that is open for writing, whose reader is gone.
-mkfifo "$work/no_reader"
+mkfifo "$work/no_reader" "$work/full"
 exec 8<> "$work/no_reader" 9> "$work/no_reader" 8>&-
-for how in closed no_reader; do
+# One that is full, whose reader doesn't read.
+exec 8<> "$work/full"
+timeout 1 cat /dev/zero >&8 || true
+for how in closed no_reader full; do
+  start_bad "bad_$how" 3 1
   # It can't say where it listens.
   hub_address=127.0.0.1:$(free_port)
   sed "s/^listen = .*/listen = \"$hub_address\"/" "$work/many.toml" > "$work/$how.toml"
+  printf '\n[[feed]]\nname = "bad"\nschedule = "city"\nkind = "stream"\nplace  = "%s"\n' "$bad_address" >> "$work/$how.toml"
   case $how in
-    closed) "$hub" serve "$work/$how.toml" 2>&- 7>&- 9>&- & ;;
-    no_reader) "$hub" serve "$work/$how.toml" 2>&9 7>&- & ;;
+    closed) "$hub" serve "$work/$how.toml" 2>&- 7>&- 8>&- 9>&- & ;;
+    no_reader) "$hub" serve "$work/$how.toml" 2>&9 7>&- 8>&- & ;;
+    full) "$hub" serve "$work/$how.toml" 2>&8 7>&- 9>&- & ;;
   esac
   hub_process=$!
   started+=("$hub_process")
@@ -122,9 +161,11 @@ for how in closed no_reader; do
   wait_for has_accepted "$hub_address" notices trams
   check "standard error, $how: it goes on" kill -0 "$hub_process"
   check "and answers" curl -fsS --max-time 5 -o "$work/answer" "http://$hub_address/board/city/ST"
+  check "and reads a sender of messages that are none, to which nothing is sent" \
+    wait_for grep -qx '0 bytes came from the hub' "$work/bad_$how"
   stop_process "$hub_process"
 done
-exec 9>&-
+exec 8>&- 9>&-
 
 echo "== a sender that ends"
 start_hub left "${feeds[@]}"
@@ -135,6 +176,15 @@ sed 's/^/        /' "$work/left.err"
 check "and so is the spool, once each" is "$(grep -c ' has ended$' "$work/left.err")" 2
 check "while the hub goes on" curl -fsS --max-time 5 -o "$work/answer" "http://$hub_address/status"
 stop_process "$hub_process"
+
+echo "== a sender that is told once a minute"
+wait "$slow_process" || true
+check "and ends" wait_for grep -qx 'hub: feed trams has ended' "$work/slow.err"
+sed 's/^/        /' "$work/slow.err"
+check "the first at once" grep -q '^hub: feed trams: 1 refused, the last one: ' "$work/slow.err"
+check "and three more after a minute" grep -q '^hub: feed trams: 3 refused, the last one: ' "$work/slow.err"
+check "with no line between" is "$(grep -c '^hub: feed trams: ' "$work/slow.err")" 2
+stop_process "$slow_hub"
 
 echo "== a hub that ends by itself"
 start_hub ends "${feeds[0]}" "$no_trams" 's/^readers = .*/readers = 2/' '1iconnections = 2'

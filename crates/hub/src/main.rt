@@ -13,7 +13,7 @@ use exit_status::ExitStatus;
 use feed_port::FeedPort;
 use hub_main::{Prepared, ServeConf, prepare_serve, run_on_system, words_of};
 use hub_outside::{StdFiles, StdSink};
-use hub_system::{NoMemory, SystemPort, serve_on_system};
+use hub_system::{NoMemory, SystemPort, Unblocked, serve_on_system};
 use hub_words::asks_for_server;
 use std::process::ExitCode;
 use std::rt::Stderr;
@@ -28,7 +28,7 @@ fn main(rt: HostRuntime) -> ExitCode {
         let status = run_on_system(alloc, &words, &rt, rt.stdin(), io::writer(&rt));
         return ExitCode::from(status);
     }
-    let boxed = |port: SystemPort<HostRuntime, Stderr>| -> Result<
+    let boxed = |port: SystemPort<HostRuntime, Unblocked<Stderr>>| -> Result<
         Box<dyn FeedPort + Send>,
         NoMemory,
     > {
@@ -40,9 +40,10 @@ fn main(rt: HostRuntime) -> ExitCode {
         }
     };
     let mut out = StdSink::new(io::writer(&rt));
+    let errors = Unblocked::new(rt.stderr());
     let status = match prepare_serve(alloc, &words, &mut StdFiles::new(&rt), &mut out) {
         Prepared::Ready(ServeConf { plans, conf }) => {
-            serve_on_system(&rt, alloc, plans, &conf, &boxed, &mut out, rt.stderr()).unwrap_or(
+            serve_on_system(&rt, alloc, plans, &conf, &boxed, &mut out, errors).unwrap_or(
                 ExitStatus::NoMemory.code(),
             )
         }

@@ -2,3 +2,4 @@ pub mod Dials
 pub mod Lines
 pub mod News
 pub mod Opened
+pub mod Pacing

@@ -1,5 +1,6 @@
 -- The lines on standard error.
 use Rattle.std.specs.Prelude.{ℕ, ◌≤◌, List, ◌++◌, length, take, codes, Option}
+use Rattle.std.specs.Fmt.{decimal}
 use Rattle.std.specs.Io.KnownBytes.{Appends}
 use Rattle.std.specs.Net.Text.{socket_text}
 use Rattle.std.specs.declared.io.ErrorKind.{ErrorKind}
@@ -60,6 +61,22 @@ feed_line feed words = codes "hub: feed " ++ feed ++ codes " " ++ words ++ codes
 -- `hub: feed <feed> <news>`
 abbrev pub news_line : List ℕ → FeedNews → List ℕ
 news_line feed given = feed_line feed (news_text given)
+
+-- `hub: feed <feed>: <count> refused, the last one: <cause>`
+abbrev pub refused_line : List ℕ → ℕ → List ℕ → List ℕ
+refused_line feed count cause =
+    codes "hub: feed " ++ feed ++ codes ": " ++ decimal count ++ codes " refused, the last one: "
+    ++ cause ++ codes "\n"
+
+-- `hub: feed <feed>: <count> refused`
+abbrev pub rest_line : List ℕ → ℕ → List ℕ
+rest_line feed count =
+    codes "hub: feed " ++ feed ++ codes ": " ++ decimal count ++ codes " refused\n"
+
+-- `hub: feed <feed>: <count> without memory`
+abbrev pub starved_line : List ℕ → ℕ → List ℕ
+starved_line feed count =
+    codes "hub: feed " ++ feed ++ codes ": " ++ decimal count ++ codes " without memory\n"
 
 -- the output has so many bytes of the line behind what it had, from its first on
 abbrev pub Tells : Option (List ℕ) → Option (List ℕ) → List ℕ → Type 0

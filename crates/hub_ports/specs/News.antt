@@ -1,5 +1,8 @@
 -- What is told of a feed while a server runs: each at most once.
-use Rattle.std.specs.Prelude.{Bool, true, false, Option, Some, None, if◌then◌else◌}
+use Rattle.std.specs.Prelude.{ℕ, ◌/◌, Bool, true, false, Option, Some, None, Result, Ok, Err, if◌then◌else◌}
+use Rattle.std.specs.Duration.{as_nanos}
+use Rattle.std.specs.declared.io.Error.{Error}
+use Rattle.std.specs.declared.time.Duration.{Duration}
 use Rattle.hub_config_defs.specs.declared.conf.PortKind.{PortKind}
 use Rattle.hub_config_defs.specs.declared.conf.PortKind.TheVariants as kind
 use Rattle.feed_port.specs.declared.port.PortAnswer.{PortAnswer}
@@ -10,7 +13,7 @@ use Rattle.hub_ports.specs.declared.told.ToldPort.{ToldPort}
 use Rattle.hub_ports.specs.declared.told.Untold.{Untold}
 
 -- the port whose answers are told
-abbrev pub port_in : {P E : Type 0} → ToldPort P E → P
+abbrev pub port_in : {R P E : Type 0} → ToldPort R P E → P
 port_in told = told.port
 
 -- what is still to be told of a feed that was not asked yet: of one without messages nothing is
@@ -34,3 +37,8 @@ untold_after untold Message = untold
 untold_after untold (TooLong n) = record untold { too_long = false }
 untold_after untold End = record untold { end = false }
 untold_after untold Failed = record untold { end = false }
+
+-- the whole seconds that a clock shows, and 0 where it can't be read
+abbrev pub seconds_of : Result Duration Error → ℕ
+seconds_of (Ok time) = as_nanos time / 1_000_000_000
+seconds_of (Err e) = 0

@@ -7,13 +7,14 @@
 //! door without a listener. Nothing connects before it is asked for its first message, so by the thread that asks: a
 //! stream by a [`Connection`], which tells on standard error where there is none, and a feed that is polled by a
 //! [`TcpDial`]. What becomes of a feed while a server runs, its port tells there by a [`ToldPort`] around it: that it
-//! has ended, that it has failed, that it has sent a message that is too long, each once.
+//! has ended, that it has failed, that it has sent a message that is too long, each once; and that messages are
+//! refused, once a minute at most ([`Refusals`], each by a [`Pace`]).
 //!
 //! What the contracts say: each port is of its feed's kind (`specs/Opened`), there are as many ports as feeds, and as
 //! many doors and clocks as are asked for. What the system itself does, no contract knows.
 //!
-//! It stands on `hub_config_defs` for the configuration, on `feed_port` and `poll_port` for ports, and on `hub_outside` for files, doors,
-//! clocks and lines.
+//! It stands on `hub_config_defs` for the configuration, on `feed_port` and `poll_port` for ports, on `hub_core` for why
+//! a message is refused, and on `hub_outside` for files, doors, clocks and lines.
 #![tactic(auto)]
 
 mod connecting;
@@ -21,12 +22,20 @@ mod connection;
 mod dialing;
 mod listening;
 mod opening;
+mod pacing;
+mod refused;
+mod standard;
 mod telling;
 mod told;
+mod unblocked;
 
 pub use connection::{Calling, Connection};
 pub use dialing::TcpDial;
 pub use listening::{clocks_of, doors_of, listen};
 pub use opening::{SystemPort, open_port, open_ports};
+pub use pacing::Pace;
+pub use refused::Refusals;
+pub use standard::HeldNumbers;
 pub use std::alloc::AllocError as NoMemory;
 pub use told::ToldPort;
+pub use unblocked::Unblocked;

@@ -42,7 +42,7 @@ pub fn open_ports<R, P, F, E>(
     feeds: &[FeedConf],
     boxed: &F,
     errors: E,
-) -> Result<Vec<ToldPort<P, E>>, NoMemory>
+) -> Result<Vec<ToldPort<R, P, E>>, NoMemory>
 where
     R: rt::Files + rt::Clock + Net<Listener = TcpListener, Stream = TcpStream> + Send + Copy,
     R::File: Send,
@@ -57,7 +57,7 @@ where
     let mut ports = Vec::with_capacity(alloc, feeds.len())?;
     for feed in feeds {
         let port = boxed(open_port(rt, alloc, feed, errors)?)?;
-        ports.push(ToldPort::new(alloc, port, feed, errors)?)?;
+        ports.push(ToldPort::new(*rt, alloc, port, feed, errors)?)?;
     }
     Ok(ports)
 }

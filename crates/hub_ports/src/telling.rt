@@ -7,11 +7,15 @@ ghost use Rattle.hub_ports.specs.Lines.{Tells};
 
 use crate::NoMemory;
 use crate::told::FeedNews;
+use hub_core::Refusal;
 use hub_outside::{Sink, write_all};
 use std::alloc::Global;
 use std::io::ErrorKind;
 use std::net::SocketAddr;
 use texts::push_cleaned;
+
+/// The most bytes of a version that are shown: a line is short, whatever a message has.
+const LONGEST_VERSION: usize = 32;
 
 /// Writes a line, or a front of it where the output fails. There is no place to tell that.
 pub(crate) fn tell<E: Sink>(errors: &mut E, line: &[u8])
@@ -79,6 +83,48 @@ fn news_text(news: FeedNews) -> &'static str
         FeedNews::Ended => "has ended",
         FeedNews::Failed => "has failed",
     }
+}
+
+/// How many messages of a feed were refused, with the cause of the last one; or for how many there was
+/// no memory, where that is the cause. With an LF.
+pub(crate) fn refusal_line(
+    alloc: Global,
+    feed: &str,
+    count: u64,
+    refusal: &Refusal,
+) -> Result<String, NoMemory> {
+    match refusal {
+        Refusal::NoMemory => starved_line(alloc, feed, count),
+        Refusal::Version(version) if version.as_str().len() > LONGEST_VERSION => {
+            refused_line(alloc, feed, count, "its version isn't known")
+        }
+        _ => {
+            let cause = format!(in alloc; "{refusal}")?;
+            refused_line(alloc, feed, count, cause.as_str())
+        }
+    }
+}
+
+/// `hub: feed <feed>: <count> refused, the last one: <cause>`, with an LF.
+fn refused_line(alloc: Global, feed: &str, count: u64, cause: &str) -> Result<String, NoMemory>
+    ensures { IfOk result (λ line. string_bytes line
+        ≡ lines.refused_line feed.now count cause.now) }
+{
+    format!(in alloc; "hub: feed {feed}: {count} refused, the last one: {cause}\n")
+}
+
+/// `hub: feed <feed>: <count> refused`, with an LF.
+pub(crate) fn rest_line(alloc: Global, feed: &str, count: u64) -> Result<String, NoMemory>
+    ensures { IfOk result (λ line. string_bytes line ≡ lines.rest_line feed.now count) }
+{
+    format!(in alloc; "hub: feed {feed}: {count} refused\n")
+}
+
+/// `hub: feed <feed>: <count> without memory`, with an LF.
+pub(crate) fn starved_line(alloc: Global, feed: &str, count: u64) -> Result<String, NoMemory>
+    ensures { IfOk result (λ line. string_bytes line ≡ lines.starved_line feed.now count) }
+{
+    format!(in alloc; "hub: feed {feed}: {count} without memory\n")
 }
 
 /// What can't be done, the address with a space for each control character, and why.

@@ -8,7 +8,7 @@ use crate::NoMemory;
 use feed_port::FeedPort;
 use hub_config_defs::HubConf;
 use hub_outside::{OpenGate, Sink, StdSink};
-use hub_ports::{SystemPort, clocks_of, doors_of, listen, open_ports};
+use hub_ports::{HeldNumbers, SystemPort, clocks_of, doors_of, listen, open_ports};
 use hub_serve::run_serve;
 use sched_types::Plans;
 use std::alloc::Global;
@@ -22,6 +22,8 @@ use std::thread::Threads;
 /// have ended: gives the exit status of [`run_serve`], or want of memory for what it opens. `boxed`
 /// hands on the port of a feed, in a form that is one type for all kinds. `out` gets the lines at the
 /// end of the run, and `errors` those of `hub_ports`; several threads write to it, a whole line at once.
+/// Nothing that is opened is taken for standard input, output or error, also where the program was
+/// started without them.
 pub fn serve_on_system<R, P, F, K, E>(
     rt: &R,
     alloc: Global,
@@ -50,6 +52,7 @@ where
     requires feeds { length (arc_value plans).feeds ≡ length conf.now.feeds }
     requires legal { IsLegal conf.now }
 {
+    let _held = HeldNumbers::hold(rt);
     let mut ports = open_ports(rt, alloc, conf.feeds.as_slice(), boxed, errors)?;
     let readers = conf.readers;
     // The doors alone keep the listener, so that it is closed once all of them have let it go.

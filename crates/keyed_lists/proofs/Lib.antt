@@ -5,3 +5,4 @@ pub mod Once
 pub mod Said
 pub mod InOrder
 pub mod Turned
+pub mod Among

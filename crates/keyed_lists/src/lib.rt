@@ -6,14 +6,17 @@
 //! (`all_changed`) and of items that several things give (`find_given`); `Tables` has lists of what the entries of a
 //! table give (`find_of_entries`); `Entries` what is true of each entry; `Once` that a key is held once, and so what
 //! an order of the items is; `InOrder` that items in order, or put there by a stable sort, make their list at once;
-//! `Turned` what goes and what comes of a thing's items where those that stay at their places are left out. [`changed`]
-//! is the call: a list after changes, where the given one stays as it is.
+//! `Among` that items in order, as many as some others and each one of these, are their list; `Turned` what goes and what
+//! comes of a thing's items where those that stay at their places are left out. [`changed`] is a list after changes, where
+//! the given one stays as it is, and [`listed_by_rank`] the list of many plain items, which are sorted by numbers.
 //!
 //! It stands on `shared_list` and `order`. The overlay of a feed is made of such lists.
 #![tactic(auto)]
 
+mod by_rank;
 mod changes;
 mod listed;
 
+pub use by_rank::listed_by_rank;
 pub use changes::changed;
 pub use std::alloc::AllocError as NoMemory;

@@ -9,7 +9,7 @@ use crate::NoMemory;
 use shared_list::{Keyed, SharedList};
 
 /// Whether keys strictly rise.
-fn rises<T: Keyed>(items: &[T]) -> bool
+pub(crate) fn rises<T: Keyed>(items: &[T]) -> bool
     ensures { OnTrue result (Rises T.key_cmp T.key_of items.now) }
 {
     for i in 1..items.len() {

@@ -6,8 +6,14 @@ ghost use Rattle.pb_wire_defs.specs.Writing.{varint, field_bytes};
 
 use crate::NoMemory;
 
+/// The bytes of the longest varint.
+const LONGEST_VARINT: usize = 10;
+
 /// Appends the shortest varint of the value (Protocol Buffers, "Encoding", "Base 128 Varints"). Want of memory
 /// leaves `out` as it was.
+///
+/// Most tags, lengths and numbers are below 128: in line, those are one push, and a tag is a constant.
+#[inline(always)]
 pub fn write_varint(value: u64, out: &mut Vec<u8>) -> Result<(), NoMemory>
     ensures written { OnOk result (out.new.items ≡ out.old.items ++ varint value) }
     ensures kept { OnErr result (out.new.items ≡ out.old.items) }
@@ -16,16 +22,23 @@ pub fn write_varint(value: u64, out: &mut Vec<u8>) -> Result<(), NoMemory>
         out.push(value as u8)?;
         return Ok(());
     }
-    let mut spelling = [0u8; 10];
-    let mut length = 0usize;
+    write_groups(value, out)
+}
+
+/// The same, group by group. Room for the longest varint is taken first, so that no push runs out of memory.
+#[inline(never)]
+fn write_groups(value: u64, out: &mut Vec<u8>) -> Result<(), NoMemory>
+    ensures written { OnOk result (out.new.items ≡ out.old.items ++ varint value) }
+    ensures kept { OnErr result (out.new.items ≡ out.old.items) }
+{
+    out.reserve(LONGEST_VARINT)?;
     let mut rest = value;
     'groups: while rest >= 128 {
-        spelling[length] = (rest % 128) as u8 + 128;
+        out.push_reserved((rest % 128) as u8 + 128);
         rest /= 128;
-        length += 1;
     }
-    spelling[length] = rest as u8;
-    out.extend_from_slice(&spelling[..length + 1])
+    out.push_reserved(rest as u8);
+    Ok(())
 }
 
 /// Puts the length of what stands behind the place, as its shortest varint, in place of the byte there. So a run of

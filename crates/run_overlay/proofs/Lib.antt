@@ -13,3 +13,4 @@ pub mod After
 pub mod Slots
 pub mod Read
 pub mod CityOverlay
+pub mod FirstRows

@@ -76,6 +76,9 @@ abbrev pub rows_kept : Option LiveRun → List LiveRow
 rows_kept None = []
 rows_kept (Some live) = live.rows
 
+abbrev pub rows_now : Turn → List LiveRow
+rows_now turn = rows_kept turn.now
+
 -- the same is known of two departures
 abbrev pub same_state : SlotState → SlotState → Bool
 same_state told.Scheduled told.Scheduled = true

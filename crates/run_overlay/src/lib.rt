@@ -27,6 +27,7 @@
 
 mod at_stop;
 mod candidate;
+mod first_rows;
 mod found;
 mod id_changes;
 mod link;

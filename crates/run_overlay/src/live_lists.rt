@@ -7,7 +7,7 @@ ghost use Rattle.std.specs.Option.{option_copied};
 ghost use Rattle.shared_list.specs.declared.change.Change.TheVariants.{Put, Remove};
 ghost use Rattle.keyed_lists.specs.Keyed as keyed;
 ghost use Rattle.keyed_lists.specs.Keyed.{naming_keys};
-ghost use Rattle.run_overlay.specs.Keys.{row_key};
+ghost use Rattle.run_overlay.specs.Keys.{row_cmp, row_key};
 ghost use Rattle.run_overlay.specs.Kept.{mentions_of, nothing_live};
 ghost use Rattle.run_overlay.specs.Sought.{row_at};
 ghost use Rattle.run_overlay.specs.Turning as rule;
@@ -16,7 +16,8 @@ ghost use Rattle.run_overlay.specs.Updates.{updates_of};
 
 use crate::NoMemory;
 use crate::candidate::Candidate;
-use crate::live_run::LiveRun;
+use crate::first_rows::first_rows;
+use crate::live_run::{LiveRun, rows_of};
 use crate::row::{LiveRow, is_same};
 use crate::turns::{Turn, turns_of};
 use delay_rule::Steps;
@@ -71,10 +72,7 @@ impl LiveLists {
         ensures few { steps.new ≤ steps.old + length runs.now }
     {
         let turns = turns_of(alloc, plan, table, candidates, runs, steps)?;
-        let rows = changed(
-            &self.rows,
-            row_changes(alloc, &self.runs, turns.as_slice())?,
-        )?;
+        let rows = rows_after(alloc, &self.runs, &self.rows, turns.as_slice())?;
         let runs = changed(&self.runs, run_changes(alloc, turns)?)?;
         Ok(LiveLists { runs, rows })
     }
@@ -91,16 +89,6 @@ impl LiveLists {
         ensures { result.now ≡ self.now.rows }
     {
         &self.rows
-    }
-}
-
-/// The departures of a run, if it has an update.
-fn rows_of<'a>(live: Option<&'a LiveRun>) -> &'a [LiveRow]
-    ensures { result.now ≡ rows_kept (option_copied live.entry) }
-{
-    match live {
-        Some(live) => live.rows.get().as_slice(),
-        None => &[],
     }
 }
 
@@ -223,6 +211,22 @@ fn row_changes<'a>(
         push_turn(runs, turn, &mut changes)?;
     }
     Ok(changes)
+}
+
+/// The departures after turns; or out of memory. Where there was no run before, they are sorted at once.
+fn rows_after(
+    alloc: Global,
+    runs: &SharedList<LiveRun>,
+    rows: &SharedList<LiveRow>,
+    turns: &[Turn],
+) -> Result<SharedList<LiveRow>, NoMemory>
+    ensures { IfOk result (λ next. next ≡ keyed.changed row_cmp row_key rows.now
+        (flat_map (rule.row_changes runs.now) turns.now)) }
+{
+    if runs.len() == 0 && rows.len() == 0 {
+        return first_rows(alloc, turns);
+    }
+    changed(rows, row_changes(alloc, runs, turns)?)
 }
 
 /// What a turn changes of the runs.

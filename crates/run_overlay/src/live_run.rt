@@ -1,5 +1,9 @@
 //! Runs for which an update counts, with their departures.
 
+ghost use Rattle.std.specs.Prelude.{◌≡◌};
+ghost use Rattle.std.specs.Option.{option_copied};
+ghost use Rattle.run_overlay.specs.Turning.{rows_kept};
+
 use crate::NoMemory;
 use crate::row::LiveRow;
 use copying::Copied;
@@ -55,5 +59,15 @@ impl KeyFor<LiveRun> for Run {
 
     fn order_of(&self, live: &LiveRun) -> Ordering {
         live.run.cmp(self)
+    }
+}
+
+/// The departures of a run, if it has an update.
+pub(crate) fn rows_of<'a>(live: Option<&'a LiveRun>) -> &'a [LiveRow]
+    ensures { result.now ≡ rows_kept (option_copied live.entry) }
+{
+    match live {
+        Some(live) => live.rows.get().as_slice(),
+        None => &[],
     }
 }

@@ -8,6 +8,8 @@
 #[cfg(test)]
 mod given;
 #[cfg(test)]
+mod paces;
+#[cfg(test)]
 mod polling;
 #[cfg(test)]
 mod ports;

@@ -4,11 +4,12 @@ ghost use Rattle.std.specs.Prelude.{◌≡◌, IfOk};
 
 use feed_port::{FeedPort, LONGEST_MESSAGE, MemoryPort, PortAnswer, StreamPort};
 use hub_config_defs::{FeedConf, PortKind};
+use hub_core::Refusal;
 use hub_outside::{Buf, Door, DoorAnswer, MemorySink, MemorySource, NoMemory};
-use hub_ports::{SystemPort, ToldPort, doors_of, listen, open_port};
+use hub_ports::{SystemPort, ToldPort, Unblocked, doors_of, listen, open_port};
 use rt_types::Text;
 use std::alloc::Global;
-use std::io::{ErrorKind, Write};
+use std::io::{ErrorKind, Read, Write};
 use std::net::{Net, TcpListener, TcpStream};
 use std::test::Fail;
 use std::{io, rt, thread};
@@ -180,7 +181,7 @@ fn told_by<P: FeedPort>(rt: &HostRuntime, kind: PortKind, port: P) -> Result<Str
     let alloc = rt.alloc();
     let errors = errors_beside(rt)?;
     let feed = feed(alloc, kind, "")?;
-    let mut port = ToldPort::new(alloc, port, &feed, &errors.0)?;
+    let mut port = ToldPort::new(*rt, alloc, port, &feed, &errors.0)?;
     two_asks(alloc, &mut port)?;
     drop(port);
     told(alloc, errors)
@@ -223,6 +224,101 @@ fn a_message_that_is_too_long_is_told(rt: HostRuntime) -> Result<(), Fail> {
         told_by(&rt, PortKind::Stream, StreamPort::new(source))?.as_str(),
         lines
     );
+    Ok(())
+}
+
+/// What is told where a feed of that kind hears of those refusals and then ends.
+fn told_of_refusals(
+    rt: &HostRuntime,
+    kind: PortKind,
+    refusals: &[Refusal],
+) -> Result<String, Fail> {
+    let alloc = rt.alloc();
+    let errors = errors_beside(rt)?;
+    let feed = feed(alloc, kind, "")?;
+    let mut port = ToldPort::new(*rt, alloc, empty_port(alloc, &[])?, &feed, &errors.0)?;
+    for refusal in refusals {
+        port.hear(refusal);
+    }
+    two_asks(alloc, &mut port)?;
+    drop(port);
+    told(alloc, errors)
+}
+
+/// A message with the stamp of the one before.
+const REPEATED: Refusal = Refusal::Stale { last: 9, got: 9 };
+
+/// The first is told at once, and those that follow within a minute at the end.
+#[test]
+fn refusals_are_told(rt: HostRuntime) -> Result<(), Fail> {
+    let refusals = [
+        REPEATED,
+        Refusal::BadStamp { got: 0 },
+        Refusal::NoMemory,
+        Refusal::NoMemory,
+        Refusal::NoMemory,
+        Refusal::BadStamp { got: 0 },
+    ];
+    let lines = "\
+hub: feed b: 1 refused, the last one: the stamp 9 isn't above 9
+hub: feed b: 1 without memory
+hub: feed b: 2 refused
+hub: feed b: 2 without memory
+hub: feed b has ended
+";
+    let told = told_of_refusals(&rt, PortKind::Stream, &refusals)?;
+    assert_eq!(rt; told.as_str(), lines);
+    Ok(())
+}
+
+/// An address that has nothing new answers with the message that it had.
+#[test]
+fn a_repeated_answer_is_not_told(rt: HostRuntime) -> Result<(), Fail> {
+    let refusals = [REPEATED, REPEATED, Refusal::Stale { last: 9, got: 8 }];
+    let lines = "\
+hub: feed b: 1 refused, the last one: the stamp 8 isn't above 9
+hub: feed b has ended
+";
+    let told = told_of_refusals(&rt, PortKind::Poll, &refusals)?;
+    assert_eq!(rt; told.as_str(), lines);
+    Ok(())
+}
+
+/// A line is short, whatever a message has.
+#[test]
+fn a_long_version_is_not_shown(rt: HostRuntime) -> Result<(), Fail> {
+    let alloc = rt.alloc();
+    let long = "3.0000000000000000000000000000000";
+    let refusals = [Refusal::Version(Text::new(alloc, long)?)];
+    let lines = "\
+hub: feed b: 1 refused, the last one: its version isn't known
+hub: feed b has ended
+";
+    let told = told_of_refusals(&rt, PortKind::Spool, &refusals)?;
+    assert_eq!(rt; told.as_str(), lines);
+    let refusals = [Refusal::Version(Text::new(alloc, "3\n")?)];
+    let lines = "\
+hub: feed b: 1 refused, the last one: the version \"3\\n\" isn't known
+hub: feed b has ended
+";
+    let told = told_of_refusals(&rt, PortKind::Spool, &refusals)?;
+    assert_eq!(rt; told.as_str(), lines);
+    Ok(())
+}
+
+/// A pipe that is full and that nobody reads.
+#[test]
+fn nobody_waits_for_a_full_pipe(rt: HostRuntime) -> Result<(), Fail> {
+    let (mut read, written) = io::pipe(&rt)?;
+    let mut errors = Unblocked::new(written);
+    for _ in 0..1024 {
+        let _ = errors.write(&[b'-'; 4096]);
+    }
+    let answer = errors.write(b"hub: listening\n");
+    assert!(rt; matches!(answer, Err(cause) if cause.kind() == ErrorKind::WouldBlock));
+    let mut piece = [0; 4096];
+    read.read_exact(&mut piece)?;
+    assert_eq!(rt; errors.write(b"hub: listening\n")?, 15);
     Ok(())
 }
 

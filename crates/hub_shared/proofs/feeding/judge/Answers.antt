@@ -10,7 +10,7 @@ returns-in-Ok-clause-judged g c first given s = record {
   sorts = accepts first c.args.seat.now c.ingest.new.seat given c.args.bytes.now c.args.tally.now s c.requires.fit _ c.in-Ok.ensures.ingested;
 }
 
-pub returns-in-Err-clause-judged : goal.returns-in-Err-clause-judged
-returns-in-Err-clause-judged g c first given s =
+pub returns-clause-judged : goal.returns-clause-judged
+returns-clause-judged g c first given s =
     not_accepted first c.args.seat.now c.ingest.new.seat given c.args.bytes.now c.args.tally.now s c.requires.fit
     c.in-Err.ensures.ingested.1 (cause_of c.in-Err.refusal) c.in-Err.ensures.ingested.0 c.count.new.tally c.count.ensures
