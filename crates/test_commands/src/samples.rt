@@ -36,6 +36,19 @@ fn trips_go_at_noon(rt: HostRuntime) -> Result<(), Fail> {
     Ok(())
 }
 
+/// A trip begins each minute of a day, so those from the 1,441st on begin where the first did.
+#[test]
+fn trips_go_round_a_day(rt: HostRuntime) -> Result<(), Fail> {
+    let line = run_sample(rt.alloc(), 7, 2300, 5);
+    assert!(rt;
+        is_line(
+            line,
+            "trips 2300 messages 5 accepted 5 refused 0 rows 227 delays 128\n"
+        )
+    );
+    Ok(())
+}
+
 /// The file at that path.
 fn file_at<'a>(sample: &'a Sample, path: &str) -> Option<&'a [u8]> {
     for file in &sample.files {
