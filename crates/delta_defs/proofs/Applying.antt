@@ -422,15 +422,17 @@ module _ (plan : ℕ) where
   ready_all : (prefix : List ℕ) (old : List FeedFold) → AllByRecursion IsTable old → (feeds : List HubFeed) → AllByRecursion (λ one. HasNoColon one.feed.name) feeds → AllByRecursion (λ one. IsTable one.fold) feeds
       → AllByRecursion (λ one. AreTold prefix one (held_before old one) one.fold.entities) feeds → AllByRecursion (IsReady prefix old) feeds
   ready_all prefix old tables [] plain now alike = tt
-  ready_all prefix old tables (one ∷ feeds) plain now alike =
-      (record {
-        was_sorted = (at_number IsTable (tt, tt) old tables one.number).0;
-        was_keyed = (at_number IsTable (tt, tt) old tables one.number).1;
-        is_sorted_too = now.0.0;
-        is_keyed = now.0.1;
-        alike = alike.0;
-        plain = plain.0;
-      }, ready_all prefix old tables feeds plain.1 now.1 alike.1)
+  ready_all prefix old tables (one ∷ feeds) plain now alike = (
+    record {
+      was_sorted = (at_number IsTable (tt, tt) old tables one.number).0;
+      was_keyed = (at_number IsTable (tt, tt) old tables one.number).1;
+      is_sorted_too = now.0.0;
+      is_keyed = now.0.1;
+      alike = alike.0;
+      plain = plain.0;
+    },
+    ready_all prefix old tables feeds plain.1 now.1 alike.1,
+  )
 
 -- ---- names of feeds
 
@@ -458,9 +460,10 @@ by_index P (x ∷ xs) each = (each 0 x refl, by_index P xs (λ i y at. each (suc
 
 named_apart : (plan : ℕ) (feeds : List NamedFeed) → ((i j : ℕ) (p q : NamedFeed) → slice_get feeds i ≡ Some p → slice_get feeds j ≡ Some q → p.name ≡ q.name → i ≡ j) → AreNamedApart plan feeds
 named_apart plan [] each = tt
-named_apart plan (feed ∷ feeds) each =
-    (by_index (λ other. feed.name ≡ other.name → ⊥) feeds (λ j other at same. suc_apart j (each 0 (suc j) feed other refl at same)),
-    named_apart plan feeds (λ i j p q at there same. back i j (each (suc i) (suc j) p q at there same)))
+named_apart plan (feed ∷ feeds) each = (
+  by_index (λ other. feed.name ≡ other.name → ⊥) feeds (λ j other at same. suc_apart j (each 0 (suc j) feed other refl at same)),
+  named_apart plan feeds (λ i j p q at there same. back i j (each (suc i) (suc j) p q at there same)),
+)
   where
     suc_apart : (j : ℕ) → 0 ≡ suc j → ⊥
     suc_apart j e = omega (arith, e)

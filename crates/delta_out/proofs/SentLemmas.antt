@@ -54,11 +54,10 @@ same_fields a b short small =
     told = bytes_eq-Decides (entity_field b) (entity_field a)
 
     decided : Decides (bytes_eq (entity_field b) (entity_field a)) (message_bytes entity a ≡ message_bytes entity b)
-    decided =
-        (
-          (λ t. one_field (message_bytes entity a) (message_bytes entity b) (content_short (message_bytes entity a) short) (content_short (message_bytes entity b) small) (sym (told.0 t))),
-          (λ e. told.1 (ap (λ bytes. field_bytes (of_bytes bytes)) (sym e))),
-        )
+    decided = (
+      (λ t. one_field (message_bytes entity a) (message_bytes entity b) (content_short (message_bytes entity a) short) (content_short (message_bytes entity b) small) (sym (told.0 t))),
+      (λ e. told.1 (ap (λ bytes. field_bytes (of_bytes bytes)) (sym e))),
+    )
 
 -- what was written goes again where the entity had the same bytes
 pub taken_back : (a b : Entity) (before written cleared old bytes after : List ℕ) (start : ℕ) → start ≡ length before → written ≡ before ++ entity_field b → cleared ≡ [] → old ≡ cleared ++ entity_field a → bytes ≡ old

@@ -22,8 +22,8 @@ use rt_types::Incrementality;
 use std::alloc::Global;
 
 /// The bytes of what changed in the combined feed of the schedule of that number between a kept view, by its number of
-/// messages, and the given one (GTFS Realtime 2.0, FeedHeader, DIFFERENTIAL); or out of memory. Where the messages of both
-/// were read, who has the combined feed of the kept view and applies the message has that of the given one.
+/// messages, and the given one (GTFS Realtime 2.0, FeedHeader, DIFFERENTIAL); or out of memory. Where the messages of
+/// both were read, who has the combined feed of the kept view and applies the message has that of the given one.
 pub fn since(
     alloc: Global,
     kept: &Kept,
@@ -110,7 +110,13 @@ fn push_feeds(
     let nothing = Table::empty(*out.allocator());
     for one in feeds {
         let before = table_at(old, one.number(), &nothing);
-        push_feed(one.feed().name.as_str(), prefix, before, one.view().table(), out)?;
+        push_feed(
+            one.feed().name.as_str(),
+            prefix,
+            before,
+            one.view().table(),
+            out,
+        )?;
     }
     Ok(())
 }

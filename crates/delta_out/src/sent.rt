@@ -49,9 +49,7 @@ fn push_pair(
     ensures short { OnOk result (IsShortPair prefix.now feed.now pair.now) }
 {
     match (pair.was, pair.is) {
-        (Some(was), Some(is)) => {
-            push_changed(feed, prefix, &was.entity, &is.entity, spare, out)
-        }
+        (Some(was), Some(is)) => { push_changed(feed, prefix, &was.entity, &is.entity, spare, out) }
         (Some(_), None) => push_gone(feed, pair.id, out),
         (None, Some(is)) => write_under_feed(feed, prefix, &is.entity, out),
         (None, None) => Ok(()),

@@ -62,7 +62,15 @@ fn what_came_since_a_number(rt: HostRuntime) -> Result<(), Fail> {
     follow(&mut hub, &mut kept, &ENTITY)?;
     let came = b"\x0a\x09\x0a\x032.0\x10\x01\x18\x05\x12\x05\x0a\x03a:x";
     assert!(rt; changed(alloc, &hub, &kept, 0, came)?);
-    assert!(rt; changed(alloc, &hub, &kept, 1, b"\x0a\x09\x0a\x032.0\x10\x01\x18\x05")?);
+    assert!(rt;
+        changed(
+            alloc,
+            &hub,
+            &kept,
+            1,
+            b"\x0a\x09\x0a\x032.0\x10\x01\x18\x05"
+        )?
+    );
     assert!(rt; !kept.has(7));
     Ok(())
 }
@@ -74,7 +82,15 @@ fn what_went_and_what_stayed(rt: HostRuntime) -> Result<(), Fail> {
     let mut kept = Kept::new(alloc)?;
     follow(&mut hub, &mut kept, &ENTITY)?;
     follow(&mut hub, &mut kept, &AGAIN)?;
-    assert!(rt; changed(alloc, &hub, &kept, 1, b"\x0a\x09\x0a\x032.0\x10\x01\x18\x06")?);
+    assert!(rt;
+        changed(
+            alloc,
+            &hub,
+            &kept,
+            1,
+            b"\x0a\x09\x0a\x032.0\x10\x01\x18\x06"
+        )?
+    );
     follow(&mut hub, &mut kept, b"\x0a\x09\x0a\x032.0\x10\x00\x18\x07")?;
     let went = b"\x0a\x09\x0a\x032.0\x10\x01\x18\x07\x12\x07\x0a\x03a:x\x10\x01";
     assert!(rt; changed(alloc, &hub, &kept, 1, went)?);
@@ -89,7 +105,9 @@ fn sixty_four_views_are_kept(rt: HostRuntime) -> Result<(), Fail> {
     kept.put(hub.view())?;
     follow(&mut hub, &mut kept, &ENTITY)?;
     for stamp in 6..70 {
-        let message = [0x0a, 0x09, 0x0a, 0x03, b'2', b'.', b'0', 0x10, 0x01, 0x18, stamp];
+        let message = [
+            0x0a, 0x09, 0x0a, 0x03, b'2', b'.', b'0', 0x10, 0x01, 0x18, stamp,
+        ];
         follow(&mut hub, &mut kept, &message)?;
     }
     assert!(rt; !kept.has(1));
