@@ -1,1 +1,5 @@
 pub mod Examples
+pub mod IdOrder
+pub mod Told
+pub mod Applying
+pub mod Tables
