@@ -26,7 +26,7 @@ use Rattle.board_defs.specs.Views.{HubKept, StandsFor, folds_of}
 use Rattle.feed_out.specs.Fields.{schedule_message}
 
 -- that each entity of what a feed says was read
-abbrev IsSaid : FeedFold → Type 0
+abbrev pub IsSaid : FeedFold → Type 0
 IsSaid fold = AllByRecursion (λ change. WasSaid change.1.entity) fold.entities
 
 -- what the history says of each feed was read
@@ -42,7 +42,7 @@ folds_said h were feeds = from 0 feeds
     from a (suc n) = (held_each WasSaid (messages_of a h) (each_of_feed (λ m. AllByRecursion WasSaid m.entity) a h said), from (a + 1) n)
 
 -- a name before the colon of an id is text
-abbrev IsNameText : NamedFeed → Type 0
+abbrev pub IsNameText : NamedFeed → Type 0
 IsNameText feed = is_utf8 (feed.name ++ codes ":") ≡ true
 
 module _ (prefix : List ℕ) (is_text : is_utf8 prefix ≡ true) where
@@ -91,7 +91,8 @@ name_text name e =
     is_utf8-from_IsUtf8 (name ++ codes ":") (IsUtf8-from_ascii (name ++ codes ":")
     (IsAscii-append name (codes ":") (letters name parts.1) (IsAscii-cons 58 [] (omega arith) IsAscii-nil)))
 
-names_text : (feeds : List NamedFeed) → ((i : ℕ) (feed : NamedFeed) → slice_get feeds i ≡ Some feed → IsTrue (is_name feed.name)) → AllByRecursion IsNameText feeds
+-- the names of feeds are
+pub names_text : (feeds : List NamedFeed) → ((i : ℕ) (feed : NamedFeed) → slice_get feeds i ≡ Some feed → IsTrue (is_name feed.name)) → AllByRecursion IsNameText feeds
 names_text [] each = tt
 names_text (feed ∷ feeds) each = (name_text feed.name (each 0 feed refl), names_text feeds (λ i other at. each (suc i) other at))
 

@@ -1,6 +1,6 @@
 -- The combined feed as it is written: a message of no entities, and the entities behind it as further fields.
 use Rattle.std.specs.Prelude.{ℕ, List, [], Some, codes}
-use Rattle.rt_types.specs.declared.enums.Incrementality.TheVariants.{FullDataset}
+use Rattle.rt_types.specs.declared.enums.Incrementality.{Incrementality}
 use Rattle.rt_types.specs.declared.message.FeedMessage.{FeedMessage}
 use Rattle.sched_types.specs.Schedules.{Schedules}
 use Rattle.board_defs.specs.Feed.{prefix_of, feed_message, combined_entity}
@@ -17,13 +17,13 @@ abbrev pub schedule_message : Schedules → ℕ → List FeedFold → FeedMessag
 schedule_message schedules plan folds =
     feed_message (prefix_of schedules plan) (schedule_feeds plan schedules.feeds folds)
 
--- a whole data set of no entities, with its stamp
-abbrev pub header_of : ℕ → FeedMessage
-header_of newest = record {
+-- a message of no entities, of that kind and with that stamp
+abbrev pub header_of : Incrementality → ℕ → FeedMessage
+header_of incrementality stamp = record {
   header = record {
     version = codes "2.0";
-    incrementality = Some FullDataset;
-    timestamp = Some newest;
+    incrementality = Some incrementality;
+    timestamp = Some stamp;
     unknown = [];
   };
   entity = [];

@@ -71,7 +71,8 @@ fn push_message(view: &HubView, plan: u32, out: &mut Vec<u8>) -> Result<(), NoMe
     view.sound();
     let prefix = view.plans().plans()[plan as usize].prefix.as_str();
     is_text(prefix);
-    push_header(newest(view.feeds_of(plan)), out)?;
+    let newest = newest_stamp(view.feeds_of(plan));
+    push_header(Incrementality::FullDataset, newest, out)?;
     push_entities(prefix, view.entities_of(plan), out)
 }
 
@@ -80,18 +81,23 @@ fn is_text(_text: &str)
     ensures { is_utf8 _text.now ≡ true }
 {}
 
-/// Appends the header of a whole data set of that stamp: a message of no entities, which follow it as further
-/// fields.
-fn push_header(newest: u64, out: &mut Vec<u8>) -> Result<(), NoMemory>
-    ensures written { OnOk result (out.new.items ≡ out.old.items ++ write (header_of newest)) }
+/// Appends the header of a message of version 2.0 (GTFS Realtime 2.0, FeedHeader) with that stamp, in seconds since 1970:
+/// a message of no entities, which may follow it as further fields.
+pub fn push_header(
+    incrementality: Incrementality,
+    stamp: u64,
+    out: &mut Vec<u8>,
+) -> Result<(), NoMemory>
+    ensures written { OnOk result (out.new.items
+        ≡ out.old.items ++ write (header_of incrementality stamp)) }
     ensures begins { StartsWith out.new.items out.old.items }
 {
     let alloc = *out.allocator();
     let message = FeedMessage {
         header: Header {
             version: Text::new(alloc, "2.0")?,
-            incrementality: Some(Incrementality::FullDataset),
-            timestamp: Some(newest),
+            incrementality: Some(incrementality),
+            timestamp: Some(stamp),
             unknown: Bytes::new(alloc, b"")?,
         },
         entity: Entities::new(Vec::new(alloc)),
@@ -101,7 +107,7 @@ fn push_header(newest: u64, out: &mut Vec<u8>) -> Result<(), NoMemory>
 }
 
 /// The greatest last stamp of some feeds, 0 if there are none.
-fn newest(feeds: ScheduleFeeds<'_>) -> u64
+pub fn newest_stamp(feeds: ScheduleFeeds<'_>) -> u64
     ensures { result ≡ newest_of feeds.entry }
 {
     let mut newest = 0;

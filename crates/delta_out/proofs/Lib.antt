@@ -1,0 +1,5 @@
+pub mod PairLemmas
+pub mod SentLemmas
+pub mod MessageLemmas
+pub mod LawLemmas
+pub mod KeptLemmas

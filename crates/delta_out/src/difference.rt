@@ -1,0 +1,133 @@
+//! What changed in the combined feed of a schedule since an earlier view.
+
+ghost use Rattle.std.specs.Prelude.{◌≡◌, ◌<◌, ◌++◌, [], List, Some, length, true, slice_index_or, IfOk, OnOk, IsSome};
+ghost use Rattle.std.specs.List.{flat_map, AllByRecursion};
+ghost use Rattle.std.specs.Str.{is_utf8};
+ghost use Rattle.feed_defs.specs.declared.history.Entry.{Entry};
+ghost use Rattle.feed_defs.specs.History.{WereRead};
+ghost use Rattle.board_defs.specs.Fold.{FeedFold, fold_of};
+ghost use Rattle.board_defs.specs.Views.{StandsFor, folds_of, no_fold};
+ghost use Rattle.delta_defs.specs.Applied.{BringsTo};
+ghost use Rattle.delta_defs.specs.Changes.{changes, changes_bytes};
+ghost use Rattle.delta_defs.specs.Kept.{folds_at};
+ghost use Rattle.delta_out.specs.Sent.{feed_field, IsShortFeed};
+
+use crate::NoMemory;
+use crate::kept::{Kept, KeptFeed, KeptView};
+use crate::sent::push_feed;
+use board_parts::{HubView, ScheduleFeeds};
+use entity_table::Table;
+use feed_out::{newest_stamp, push_header};
+use rt_types::Incrementality;
+use std::alloc::Global;
+
+/// The bytes of what changed in the combined feed of the schedule of that number between a kept view, by its number of
+/// messages, and the given one (GTFS Realtime 2.0, FeedHeader, DIFFERENTIAL); or out of memory. Where the messages of
+/// both were read, who has the combined feed of the kept view and applies the message has that of the given one.
+pub fn since(
+    alloc: Global,
+    kept: &Kept,
+    view: &HubView,
+    plan: u32,
+    number: u64,
+) -> Result<Vec<u8>, NoMemory>
+    requires kept { IsSome (folds_at number kept.now) }
+    requires plan { plan < length view.now.plans.plans }
+    ensures changes { (old : List FeedFold) → folds_at number kept.now ≡ Some old
+        → IfOk result (λ bytes. bytes.items
+        ≡ changes_bytes view.now.plans plan old (folds_of view.now)) }
+    ensures brings { (old : List FeedFold) → folds_at number kept.now ≡ Some old
+        → (g h : List Entry) → WereRead g → WereRead h
+        → old ≡ fold_of (length view.now.plans.feeds) g → StandsFor h view.now
+        → OnOk result (BringsTo view.now.plans plan old (folds_of view.now)
+        (changes view.now.plans plan old (folds_of view.now))) }
+{
+    match kept.at(number) {
+        Some(old) => changed_since(alloc, old, view, plan),
+        None => Ok(Vec::new(alloc)),
+    }
+}
+
+/// The bytes of what changed since a kept view, or out of memory.
+fn changed_since(
+    alloc: Global,
+    old: &KeptView,
+    view: &HubView,
+    plan: u32,
+) -> Result<Vec<u8>, NoMemory>
+    requires { plan < length view.now.plans.plans }
+    ensures changes { IfOk result (λ bytes. bytes.items
+        ≡ changes_bytes view.now.plans plan old.now.folds (folds_of view.now)) }
+    ensures brings { (g h : List Entry) → WereRead g → WereRead h
+        → old.now.folds ≡ fold_of (length view.now.plans.feeds) g → StandsFor h view.now
+        → OnOk result (BringsTo view.now.plans plan old.now.folds (folds_of view.now)
+        (changes view.now.plans plan old.now.folds (folds_of view.now))) }
+{
+    let mut bytes = Vec::new(alloc);
+    push_changes(old, view, plan, &mut bytes)?;
+    Ok(bytes)
+}
+
+/// Appends what changed since a kept view, or as much of it as memory allows.
+fn push_changes(
+    old: &KeptView,
+    view: &HubView,
+    plan: u32,
+    out: &mut Vec<u8>,
+) -> Result<(), NoMemory>
+    requires { plan < length view.now.plans.plans }
+    ensures sent { OnOk result (out.new.items ≡ out.old.items
+        ++ changes_bytes view.now.plans plan old.now.folds (folds_of view.now)) }
+    ensures brings { (g h : List Entry) → WereRead g → WereRead h
+        → old.now.folds ≡ fold_of (length view.now.plans.feeds) g → StandsFor h view.now
+        → OnOk result (BringsTo view.now.plans plan old.now.folds (folds_of view.now)
+        (changes view.now.plans plan old.now.folds (folds_of view.now))) }
+{
+    view.sound();
+    let prefix = view.plans().plans()[plan as usize].prefix.as_str();
+    is_text(prefix);
+    let stamp = newest_stamp(view.feeds_of(plan));
+    push_header(Incrementality::Differential, stamp, out)?;
+    push_feeds(prefix, old.feeds(), view.feeds_of(plan), out)
+}
+
+/// Does nothing; its contract tells that a text is UTF-8.
+fn is_text(_text: &str)
+    ensures { is_utf8 _text.now ≡ true }
+{}
+
+/// Appends what changed in some feeds, or as much of it as memory allows.
+fn push_feeds(
+    prefix: &str,
+    old: &[KeptFeed],
+    feeds: ScheduleFeeds<'_>,
+    out: &mut Vec<u8>,
+) -> Result<(), NoMemory>
+    ensures sent { OnOk result (out.new.items
+        ≡ out.old.items ++ flat_map (feed_field prefix.now old.now) feeds.entry) }
+    ensures short { OnOk result (AllByRecursion (IsShortFeed prefix.now old.now) feeds.entry) }
+{
+    let nothing = Table::empty(*out.allocator());
+    for one in feeds {
+        let before = table_at(old, one.number(), &nothing);
+        push_feed(
+            one.feed().name.as_str(),
+            prefix,
+            before,
+            one.view().table(),
+            out,
+        )?;
+    }
+    Ok(())
+}
+
+/// What the feed of that number held, or else the given table.
+fn table_at<'a>(feeds: &'a [KeptFeed], number: u32, other: &'a Table) -> &'a Table
+    requires { other.now ≡ [] }
+    ensures { result.now ≡ (slice_index_or feeds.entry.now number no_fold).entities }
+{
+    match feeds.get(number as usize) {
+        Some(feed) => feed.table(),
+        None => other,
+    }
+}

@@ -1,0 +1,109 @@
+//! What is sent of each id of a feed.
+
+ghost use Rattle.std.specs.Prelude.{◌≡◌, ◌≤◌, ◌++◌, [], length, drop, take, OnOk, if◌then◌else◌};
+ghost use Rattle.std.specs.List.{flat_map, AllByRecursion};
+ghost use Rattle.std.specs.Str.{bytes_eq};
+ghost use Rattle.feed_defs.specs.Combined.{entity_under_feed};
+ghost use Rattle.feed_write.specs.Entities.{entity_field};
+ghost use Rattle.delta_defs.specs.Changes.{gone, is_same};
+ghost use Rattle.delta_out.specs.Pairs.{pairs_of};
+ghost use Rattle.delta_out.specs.Sent.{named_entity, pair_field, IsShort, IsShortPair};
+
+use crate::NoMemory;
+use crate::pairs::{Pair, Pairs};
+use entity_table::Table;
+use feed_write::write_under_feed;
+use rt_types::{Bytes, Entity, Text};
+
+/// Appends what changed in the feed of that name, which held the one and holds the other, by id; or as much as memory
+/// allows. The ids of the timetable are behind the prefix.
+pub(crate) fn push_feed(
+    feed: &str,
+    prefix: &str,
+    old: &Table,
+    new: &Table,
+    out: &mut Vec<u8>,
+) -> Result<(), NoMemory>
+    ensures sent { OnOk result (out.new.items
+        ≡ out.old.items ++ flat_map (pair_field prefix.now feed.now) (pairs_of old.now new.now)) }
+    ensures short { OnOk result (AllByRecursion (IsShortPair prefix.now feed.now)
+        (pairs_of old.now new.now)) }
+{
+    let mut spare = Vec::new(*out.allocator());
+    for pair in Pairs::of(old, new) {
+        push_pair(feed, prefix, &pair, &mut spare, out)?;
+    }
+    Ok(())
+}
+
+/// Appends what is sent of an id. `spare` is for the bytes of what was held.
+fn push_pair(
+    feed: &str,
+    prefix: &str,
+    pair: &Pair<'_>,
+    spare: &mut Vec<u8>,
+    out: &mut Vec<u8>,
+) -> Result<(), NoMemory>
+    ensures sent { OnOk result (out.new.items
+        ≡ out.old.items ++ pair_field prefix.now feed.now pair.now) }
+    ensures short { OnOk result (IsShortPair prefix.now feed.now pair.now) }
+{
+    match (pair.was, pair.is) {
+        (Some(was), Some(is)) => { push_changed(feed, prefix, &was.entity, &is.entity, spare, out) }
+        (Some(_), None) => push_gone(feed, pair.id, out),
+        (None, Some(is)) => write_under_feed(feed, prefix, &is.entity, out),
+        (None, None) => Ok(()),
+    }
+}
+
+/// Appends an entity as it is, unless its bytes are those that it had.
+fn push_changed(
+    feed: &str,
+    prefix: &str,
+    was: &Entity,
+    is: &Entity,
+    spare: &mut Vec<u8>,
+    out: &mut Vec<u8>,
+) -> Result<(), NoMemory>
+    ensures sent { OnOk result (out.new.items ≡ out.old.items
+        ++ (if is_same (named_entity prefix.now feed.now was.now)
+        (named_entity prefix.now feed.now is.now) then []
+        else entity_field (named_entity prefix.now feed.now is.now))) }
+    ensures short { OnOk result (IsShort (named_entity prefix.now feed.now was.now)
+        × IsShort (named_entity prefix.now feed.now is.now)) }
+{
+    let start = out.len();
+    write_under_feed(feed, prefix, is, out)?;
+    spare.clear();
+    write_under_feed(feed, prefix, was, spare)?;
+    take_back(out, start, spare.as_slice());
+    Ok(())
+}
+
+/// Takes back what is behind a place, if it is just these bytes.
+fn take_back(out: &mut Vec<u8>, start: usize, bytes: &[u8])
+    requires { start ≤ length out.old.items }
+    ensures { out.new.items ≡ (if bytes_eq (drop start out.old.items) bytes.now
+        then take start out.old.items else out.old.items) }
+{
+    if &out[start..] == bytes {
+        out.truncate(start);
+    }
+}
+
+/// Appends an entity that says that its id is gone.
+fn push_gone(feed: &str, id: &str, out: &mut Vec<u8>) -> Result<(), NoMemory>
+    ensures { OnOk result (out.new.items
+        ≡ out.old.items ++ entity_field (entity_under_feed feed.now (gone id.now))) }
+{
+    let alloc = *out.allocator();
+    let gone = Entity {
+        id: Text::new(alloc, id)?,
+        is_deleted: Some(true),
+        trip_update: None,
+        vehicle: None,
+        alert: None,
+        unknown: Bytes::new(alloc, b"")?,
+    };
+    write_under_feed(feed, "", &gone, out)
+}
