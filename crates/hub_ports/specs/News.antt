@@ -1,8 +1,5 @@
 -- What is told of a feed while a server runs: each at most once.
-use Rattle.std.specs.Prelude.{ℕ, ◌/◌, Bool, true, false, Option, Some, None, Result, Ok, Err, if◌then◌else◌}
-use Rattle.std.specs.Duration.{as_nanos}
-use Rattle.std.specs.declared.io.Error.{Error}
-use Rattle.std.specs.declared.time.Duration.{Duration}
+use Rattle.std.specs.Prelude.{Bool, true, false, Option, Some, None, if◌then◌else◌}
 use Rattle.hub_config_defs.specs.declared.conf.PortKind.{PortKind}
 use Rattle.hub_config_defs.specs.declared.conf.PortKind.TheVariants as kind
 use Rattle.feed_port.specs.declared.port.PortAnswer.{PortAnswer}
@@ -37,8 +34,3 @@ untold_after untold Message = untold
 untold_after untold (TooLong n) = record untold { too_long = false }
 untold_after untold End = record untold { end = false }
 untold_after untold Failed = record untold { end = false }
-
--- the whole seconds that a clock shows, and 0 where it can't be read
-abbrev pub seconds_of : Result Duration Error → ℕ
-seconds_of (Ok time) = as_nanos time / 1_000_000_000
-seconds_of (Err e) = 0

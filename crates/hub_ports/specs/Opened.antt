@@ -16,7 +16,7 @@ use Rattle.hub_ports.specs.declared.opening.SystemPort.TheVariants.{Nothing, Spo
 
 -- The port of a feed that is polled, before its first poll: it asks the host of the feed's place for
 -- the path behind it.
-abbrev pub IsPollingPortOf : {D : Type 0} → FeedConf → PollPort D → Type 0
+abbrev pub IsPollingPortOf : {D H : Type 0} → FeedConf → PollPort D H → Type 0
 IsPollingPortOf feed port =
     polling_of port
     ≡ new_polling (request_for (host_of feed.place) (path_of feed.place)) feed.polls feed.tries

@@ -1,6 +1,10 @@
 -- How often something is told that happens again and again: at once the first time, and from there on
 -- once a minute at most.
-use Rattle.std.specs.Prelude.{ℕ, ◌-◌, Bool, true, false, ◌&&◌, nat_le, nat_eq, Option, Some, None, if◌then◌else◌}
+use Rattle.std.specs.Prelude.{ℕ, ◌-◌, ◌/◌, Bool, true, false, ◌&&◌, nat_le, nat_eq, List, Option, Some, None, Result, Ok, Err, if◌then◌else◌}
+use Rattle.std.specs.Duration.{as_nanos}
+use Rattle.std.specs.Option.{option_map}
+use Rattle.std.specs.declared.io.Error.{Error}
+use Rattle.std.specs.declared.time.Duration.{Duration}
 use Rattle.hub_outside.specs.Count.{one_more}
 use Rattle.hub_core.specs.declared.refusal.Refusal.{Refusal}
 use Rattle.hub_core.specs.declared.refusal.Refusal.TheVariants.{TooLong, Malformed, Version, BadStamp, Stale, NoMemory}
@@ -30,6 +34,10 @@ pace_after pace now =
     if is_due pace.told now then record { told = Some now; untold = 0 }
     else record { told = pace.told; untold = one_more pace.untold }
 
+-- the line that tells it at that moment, where it is told then, made of how often it has happened
+abbrev pub line_at : Pace → ℕ → (ℕ → List ℕ) → Option (List ℕ)
+line_at pace now line = option_map line (due_at pace now)
+
 -- how often it has happened since it was told last, where it has
 abbrev pub rest_of : Pace → Option ℕ
 rest_of pace = if nat_eq pace.untold 0 then None else Some pace.untold
@@ -37,6 +45,11 @@ rest_of pace = if nat_eq pace.untold 0 then None else Some pace.untold
 -- and once that is told too
 abbrev pub pace_at_rest : Pace → Pace
 pace_at_rest pace = record { told = pace.told; untold = 0 }
+
+-- the whole seconds that a clock shows, and 0 where it can't be read
+abbrev pub seconds_of : Result Duration Error → ℕ
+seconds_of (Ok time) = as_nanos time / 1_000_000_000
+seconds_of (Err e) = 0
 
 -- ---- messages that are refused
 

@@ -89,6 +89,7 @@ where
                 calling.alloc,
                 calling.feed.as_str(),
                 place,
+                1,
                 cause,
             ) {
                 tell(&mut StdSink::new(calling.errors), line.as_slice());

@@ -17,23 +17,29 @@
 //! a message is refused, and on `hub_outside` for files, doors, clocks and lines.
 #![tactic(auto)]
 
+mod accepting;
 mod connecting;
 mod connection;
 mod dialing;
+mod failing;
 mod listening;
 mod opening;
 mod pacing;
+mod poll_teller;
 mod refused;
 mod standard;
 mod telling;
 mod told;
 mod unblocked;
 
+pub use accepting::ToldListener;
 pub use connection::{Calling, Connection};
 pub use dialing::TcpDial;
+pub use failing::{accept_news, dial_news, poll_news};
 pub use listening::{clocks_of, doors_of, listen};
 pub use opening::{SystemPort, open_port, open_ports};
 pub use pacing::Pace;
+pub use poll_teller::PollTeller;
 pub use refused::Refusals;
 pub use standard::HeldNumbers;
 pub use std::alloc::AllocError as NoMemory;

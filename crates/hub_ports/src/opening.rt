@@ -9,6 +9,7 @@ ghost use Rattle.hub_ports.specs.Opened.{IsPortOf, IsPollingPortOf};
 use crate::NoMemory;
 use crate::connection::Connection;
 use crate::dialing::TcpDial;
+use crate::poll_teller::PollTeller;
 use crate::told::ToldPort;
 use copying::Copied;
 use feed_port::{FeedPort, MemoryPort, SpoolPort, StreamPort};
@@ -20,8 +21,8 @@ use std::io::Write;
 use std::net::{Net, TcpListener, TcpStream};
 use std::{rt, str};
 
-/// The port of a feed, by the kind that the configuration gives it. It tells on `E` that the connection
-/// of a stream can't be made.
+/// The port of a feed, by the kind that the configuration gives it. It tells on `E` that a connection
+/// can't be made, and why polls fail.
 #[derive(Drop)]
 pub enum SystemPort<R, E> {
     /// No message comes.
@@ -31,7 +32,7 @@ pub enum SystemPort<R, E> {
     /// Messages come over a TCP connection.
     Stream(StreamPort<StdSource<Connection<R, E>>>),
     /// Messages come as replies to polls.
-    Poll(PollPort<TcpDial<R>>),
+    Poll(PollPort<TcpDial<R, E>, PollTeller<R, E>>),
 }
 
 /// A port for each feed, in their order, as `boxed` hands it on. What becomes of each is told on `errors`. Their
@@ -92,14 +93,20 @@ where
             let connection = Connection::ahead(*rt, alloc, name, place, errors)?;
             Ok(SystemPort::Stream(StreamPort::new(StdSource::new(connection))))
         }
-        PortKind::Poll => Ok(SystemPort::Poll(polling_port(rt, alloc, feed)?)),
+        PortKind::Poll => Ok(SystemPort::Poll(polling_port(rt, alloc, feed, errors)?)),
     }
 }
 
 /// The port of a feed that is polled. No connection is made before its first ask.
-fn polling_port<R>(rt: &R, alloc: Global, feed: &FeedConf) -> Result<PollPort<TcpDial<R>>, NoMemory>
+fn polling_port<R, E>(
+    rt: &R,
+    alloc: Global,
+    feed: &FeedConf,
+    errors: E,
+) -> Result<PollPort<TcpDial<R, E>, PollTeller<R, E>>, NoMemory>
 where
     R: Net<Listener = TcpListener, Stream = TcpStream> + rt::Clock + Send + Copy,
+    E: Write + Send + Copy,
     requires { 1 ≤ feed.now.tries }
     ensures { IfOk result (IsPollingPortOf feed.now) }
 {
@@ -107,8 +114,10 @@ where
     let (Some(host), Some(path)) = (host_in(place), path_in(place)) else {
         return Err(NoMemory);
     };
-    let dial = TcpDial::new(*rt, alloc, host, feed.every)?;
-    PollPort::new(alloc, dial, host, path, feed.polls, feed.tries)
+    let name = feed.name.as_str();
+    let dial = TcpDial::new(*rt, alloc, name, host, feed.every, errors)?;
+    let teller = PollTeller::new(*rt, alloc, name, errors)?;
+    PollPort::new(alloc, dial, host, path, feed.polls, feed.tries, teller)
 }
 
 /// The host of a place. There is one, since a `/` never stands within a character.

@@ -1,7 +1,10 @@
 //! How often something is told.
 
 ghost use Rattle.std.specs.Prelude.{◌≡◌};
-ghost use Rattle.hub_ports.specs.Pacing.{new_pace, is_due, due_at, pace_after, rest_of, pace_at_rest};
+ghost use Rattle.hub_ports.specs.Pacing.{new_pace, is_due, due_at, pace_after, rest_of, pace_at_rest, seconds_of};
+
+use std::io;
+use std::time::Duration;
 
 /// For how many seconds nothing more is told, once something was.
 const PAUSE: u64 = 60;
@@ -60,5 +63,15 @@ fn is_due(told: Option<u64>, now: u64) -> bool
     match told {
         Some(told) => now.saturating_sub(told) >= PAUSE,
         None => true,
+    }
+}
+
+/// The whole seconds of a reading, and 0 where the clock can't be read.
+pub(crate) fn seconds_of(reading: io::Result<Duration>) -> u64
+    ensures { result ≡ seconds_of reading }
+{
+    match reading {
+        Ok(time) => time.as_secs(),
+        Err(_) => 0,
     }
 }

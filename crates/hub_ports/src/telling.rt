@@ -9,6 +9,7 @@ use crate::NoMemory;
 use crate::told::FeedNews;
 use hub_core::Refusal;
 use hub_outside::{Sink, write_all};
+use poll_port::{PollFault, ReplyFault};
 use std::alloc::Global;
 use std::io::ErrorKind;
 use std::net::SocketAddr;
@@ -39,26 +40,81 @@ pub(crate) fn no_listener_line(
 ) -> Result<Vec<u8>, NoMemory>
     ensures { IfOk result (λ line. line.items ≡ lines.no_listener_line address.now cause) }
 {
-    fault_line(alloc, "hub: can't listen on ", address, cause)
+    fault_line(alloc, "hub: can't listen on ", address, cause_text(cause))
 }
 
-/// `hub: feed <feed> can't connect to <place>: <cause>`, with an LF.
+/// `hub: feed <feed> can't connect to <place>: <cause>`, with the count before the cause of the last where they are
+/// several, and with an LF.
 pub(crate) fn no_connection_line(
     alloc: Global,
     feed: &str,
     place: &str,
+    count: u64,
     cause: ErrorKind,
 ) -> Result<Vec<u8>, NoMemory>
-    ensures { IfOk result (λ line. line.items ≡ lines.no_connection_line feed.now place.now cause) }
+    ensures { IfOk result (λ line. line.items
+        ≡ lines.no_connection_line feed.now place.now count cause) }
 {
     let front = connecting_text(alloc, feed)?;
-    fault_line(alloc, front.as_str(), place, cause)
+    let words = counted(alloc, count, cause_text(cause))?;
+    fault_line(alloc, front.as_str(), place, words.as_str())
 }
 
 fn connecting_text(alloc: Global, feed: &str) -> Result<String, NoMemory>
     ensures { IfOk result (λ text. string_bytes text ≡ lines.connecting_text feed.now) }
 {
     format!(in alloc; "hub: feed {feed} can't connect to ")
+}
+
+/// `hub: can't accept a connection: <cause>`, with the count before the cause of the last where they are several, and
+/// with an LF.
+pub(crate) fn no_accept_line(
+    alloc: Global,
+    count: u64,
+    cause: ErrorKind,
+) -> Result<String, NoMemory>
+    ensures { IfOk result (λ line. string_bytes line ≡ lines.no_accept_line count cause) }
+{
+    let words = counted(alloc, count, accept_text(cause))?;
+    accept_line(alloc, words.as_str())
+}
+
+fn accept_line(alloc: Global, words: &str) -> Result<String, NoMemory>
+    ensures { IfOk result (λ line. string_bytes line ≡ lines.accept_line words.now) }
+{
+    format!(in alloc; "hub: can't accept a connection: {words}\n")
+}
+
+/// `hub: feed <feed> got no good reply: <fault>`, with the count before the fault of the last where they are several,
+/// and with an LF.
+pub(crate) fn bad_reply_line(
+    alloc: Global,
+    feed: &str,
+    count: u64,
+    fault: PollFault,
+) -> Result<String, NoMemory>
+    ensures { IfOk result (λ line. string_bytes line ≡ lines.bad_reply_line feed.now count fault) }
+{
+    let fault = fault_text(alloc, fault)?;
+    let words = counted(alloc, count, fault.as_str())?;
+    reply_line(alloc, feed, words.as_str())
+}
+
+fn reply_line(alloc: Global, feed: &str, words: &str) -> Result<String, NoMemory>
+    ensures { IfOk result (λ line. string_bytes line ≡ lines.reply_line feed.now words.now) }
+{
+    format!(in alloc; "hub: feed {feed} got no good reply: {words}\n")
+}
+
+/// What has happened so often since it was told last, in words of the last time.
+fn counted(alloc: Global, count: u64, words: &str) -> Result<String, NoMemory>
+    ensures { IfOk result (λ text. string_bytes text ≡ lines.counted count words.now) }
+{
+    if count == 1 {
+        String::from_str(alloc, words)
+    } else {
+        format!(in alloc; "{count} times, the last one: {words}")
+    }
 }
 
 /// `hub: feed <feed> <news>`, with an LF.
@@ -128,18 +184,13 @@ pub(crate) fn starved_line(alloc: Global, feed: &str, count: u64) -> Result<Stri
 }
 
 /// What can't be done, the address with a space for each control character, and why.
-fn fault_line(
-    alloc: Global,
-    front: &str,
-    address: &str,
-    cause: ErrorKind,
-) -> Result<Vec<u8>, NoMemory>
-    ensures { IfOk result (λ line. line.items ≡ lines.fault_line front.now address.now cause) }
+fn fault_line(alloc: Global, front: &str, address: &str, words: &str) -> Result<Vec<u8>, NoMemory>
+    ensures { IfOk result (λ line. line.items ≡ lines.fault_line front.now address.now words.now) }
 {
     let mut line = Vec::from_slice(alloc, front.as_bytes())?;
     push_cleaned(address.as_bytes(), &mut line)?;
     line.extend_from_slice(b": ")?;
-    line.extend_from_slice(cause_text(cause).as_bytes())?;
+    line.extend_from_slice(words.as_bytes())?;
     line.extend_from_slice(b"\n")?;
     Ok(line)
 }
@@ -151,14 +202,42 @@ fn cause_text(cause: ErrorKind) -> &'static str
     match cause {
         ErrorKind::AddrInUse => "address in use",
         ErrorKind::AddrNotAvailable => "not an address of this machine",
+        ErrorKind::ConnectionAborted => "broken off",
         ErrorKind::ConnectionRefused => "refused",
+        ErrorKind::ConnectionReset => "reset",
         ErrorKind::HostUnreachable => "host not reachable",
         ErrorKind::InvalidInput => "not an address with a port",
+        ErrorKind::NetworkDown => "network down",
         ErrorKind::NetworkUnreachable => "network not reachable",
         ErrorKind::NotFound => "no such host",
         ErrorKind::OutOfMemory => "out of memory",
         ErrorKind::PermissionDenied => "not permitted",
         ErrorKind::TimedOut => "no answer in time",
         _ => "a fault of the system",
+    }
+}
+
+/// Why a connection can't be accepted, in a few words. The system has no kind of its own for too many open files, and an
+/// input that is invalid is the listener.
+fn accept_text(cause: ErrorKind) -> &'static str
+    ensures { result.now ≡ lines.accept_text cause }
+{
+    match cause {
+        ErrorKind::InvalidInput => "the listener has failed",
+        ErrorKind::Uncategorized => "too many open files, or another fault of the system",
+        _ => cause_text(cause),
+    }
+}
+
+/// Why a poll failed, in a few words.
+fn fault_text(alloc: Global, fault: PollFault) -> Result<String, NoMemory>
+    ensures { IfOk result (λ text. string_bytes text ≡ lines.fault_text fault) }
+{
+    match fault {
+        PollFault::Unfit(ReplyFault::Head) => String::from_str(alloc, "it has no whole head"),
+        PollFault::Unfit(ReplyFault::Status(code)) => format!(in alloc; "its status is {code}"),
+        PollFault::Unfit(ReplyFault::Length) => String::from_str(alloc, "its length isn't told"),
+        PollFault::Unfit(ReplyFault::Cut) => String::from_str(alloc, "it is cut short"),
+        PollFault::Link => String::from_str(alloc, "the connection has failed"),
     }
 }

@@ -1,9 +1,10 @@
 //! A port that tells what becomes of its feed.
 
 ghost use Rattle.std.specs.Prelude.{◌≡◌, IfOk};
-ghost use Rattle.hub_ports.specs.News.{port_in, untold_of, news_of, told_if, untold_after, seconds_of};
+ghost use Rattle.hub_ports.specs.News.{port_in, untold_of, news_of, told_if, untold_after};
 
 use crate::NoMemory;
+use crate::pacing::seconds_of;
 use crate::refused::Refusals;
 use crate::telling::{news_line, refusal_line, rest_line, starved_line, tell};
 use feed_port::{FeedPort, PortAnswer};
@@ -12,8 +13,7 @@ use hub_core::Refusal;
 use hub_outside::{Buf, StdSink};
 use std::alloc::Global;
 use std::io::Write;
-use std::time::Duration;
-use std::{io, mem, rt};
+use std::{mem, rt};
 
 /// What is told of a feed, a line each.
 #[derive(Clone, Copy, Debug, PartialEq, Eq)]
@@ -136,16 +136,6 @@ impl<R: rt::Clock + Copy, E: Write + Copy> Teller<R, E> {
         if let Ok(line) = line {
             tell(&mut StdSink::new(self.errors), line.as_bytes());
         }
-    }
-}
-
-/// The whole seconds of a reading, and 0 where the clock can't be read.
-fn seconds_of(reading: io::Result<Duration>) -> u64
-    ensures { result ≡ seconds_of reading }
-{
-    match reading {
-        Ok(time) => time.as_secs(),
-        Err(_) => 0,
     }
 }
 

@@ -7,7 +7,7 @@ ghost use Rattle.hub_config_defs.specs.Right.{IsLegal};
 use crate::NoMemory;
 use feed_port::FeedPort;
 use hub_config_defs::HubConf;
-use hub_outside::{OpenGate, Sink, StdSink};
+use hub_outside::{OpenGate, Sink};
 use hub_ports::{HeldNumbers, SystemPort, clocks_of, doors_of, listen, open_ports};
 use hub_serve::run_serve;
 use sched_types::Plans;
@@ -57,8 +57,7 @@ where
     let readers = conf.readers;
     // The doors alone keep the listener, so that it is closed once all of them have let it go.
     let mut doors = {
-        let mut errors = StdSink::new(errors);
-        let listener = listen(rt, alloc, conf.listen.as_str(), &mut errors)?;
+        let listener = listen(rt, alloc, conf.listen.as_str(), errors)?;
         doors_of(rt, alloc, &listener, readers, conf.connections)?
     };
     let clocks = clocks_of(rt, alloc, readers)?;

@@ -169,5 +169,5 @@ met (TooLong n) front held left mid next fills (is, more, some, given) = (
   omega (arith, is),
   subst (λ k. IfSome left (λ bytes. IsOver ToEnd (front ++ bytes) k)) (sym is) (longest_passed front held more left mid next fills given some),
 )
-met Unfit front held left mid next fills never = absurd never
+met (Unfit why) front held left mid next fills never = absurd never
 met Failed front held left mid next fills ends = tt

@@ -20,7 +20,8 @@ use Rattle.poll_port.specs.Heads.{reply_in}
 use Rattle.poll_port.specs.Polling.{has_polls}
 use Rattle.poll_port.specs.Polls.{Ends, PortState, PollsLink, FailsPoll, EndsPolls, FailPolls, CallAnswers, PollAnswers}
 use Rattle.poll_port.specs.Ports.{ahead_at, poll_ahead, poll_faults}
-use Rattle.poll_port.specs.Replies.{message_in, IsReply, IsLongReply, NoReply}
+use Rattle.poll_port.specs.Reading.{IsUnfit}
+use Rattle.poll_port.specs.Replies.{message_in, IsReply, IsLongReply}
 use Rattle.poll_port.proofs.Aheads.{Loses, link_taken, over_none, ended_none}
 use Rattle.poll_port.proofs.ReplyLaws.{good_reply, reply_is_found, no_reply_found}
 
@@ -183,11 +184,11 @@ module _ {I O : Type 0} (seen : Ends I O) where
       let rose : Rose (poll_faults a) (poll_faults b) =
       subst (λ n. Rose (poll_faults a) (min (b.faults + n) last_count)) (sym own) (first_rose a.faults b.faults a.polling.faults d.faults) in
       (same_moves a b d.links d.polling rose.0, rose)
-  fail_moves a b (inr (inl p)) =
+  fail_moves a b (inr (inl (why, p))) =
       let rose = own_fault a b p.faults (ap (λ q. q.faults) p.polling) in (
         loses_none (poll_ahead seen a) (poll_ahead seen b) (poll_faults a) (poll_faults b)
-            (loses None Unfit [] a b p (ap (λ q. q.lost) p.polling)
-            (if_some (seen.left p.link.input) NoReply (λ bytes. reply_in bytes ≡ None) (λ bytes none. no_reply_found bytes none) p.exchanged.reads)) rose.0,
+            (loses None (Unfit why) [] a b p (ap (λ q. q.lost) p.polling)
+            (if_some (seen.left p.link.input) (IsUnfit why) (λ bytes. reply_in bytes ≡ None) (λ bytes unfit. no_reply_found bytes unfit.0) p.exchanged.reads)) rose.0,
         rose,
       )
   fail_moves a b (inr (inr p)) =

@@ -5,13 +5,14 @@ use Rattle.httparse.proofs.OnLiterals.{httparse_on_literals}
 use Rattle.httparse.specs.Grammar.{trim_ows, print_response, is_token_byte}
 use Rattle.text_defs.specs.Numbers.{number}
 use Rattle.poll_port.specs.Fields.{has_name, length_in, extent_of, extent_behind}
-use Rattle.poll_port.specs.Heads.{head_in, reply_in}
+use Rattle.poll_port.specs.declared.faults.ReplyFault.TheVariants.{Head, Status, Length, Cut}
+use Rattle.poll_port.specs.Heads.{head_in, reply_in, fault_in}
 use Rattle.poll_port.specs.Replies.{message_in}
 use Rattle.poll_port.specs.Requests.{request_for}
 
 -- what an answer unfolds to compute this crate's specs on a literal
 unfoldable pub replies_on_literals : ⊤
-unfolding httparse_on_literals trim_ows print_response is_token_byte number has_name length_in extent_of extent_behind head_in reply_in message_in request_for
+unfolding httparse_on_literals trim_ows print_response is_token_byte number has_name length_in extent_of extent_behind head_in reply_in fault_in message_in request_for
 replies_on_literals = tt
 
 abbrev crlf : List ℕ
@@ -52,6 +53,17 @@ others =
 pub others_are_none : map reply_in others ≡ replicate 11 None
 unfolding replies_on_literals
 others_are_none = refl
+
+-- what is wrong with each of them, and nothing with the good ones
+pub faults_are : map fault_in others
+    ≡ Some (Status 404) ∷ Some Cut ∷ Some Length ∷ Some Length ∷ Some Length ∷ Some Length ∷ Some Length
+    ∷ Some Head ∷ Some Head ∷ Some Head ∷ Some Head ∷ []
+unfolding replies_on_literals
+faults_are = refl
+
+pub good_have_none : map fault_in replies ≡ replicate 4 None
+unfolding replies_on_literals
+good_have_none = refl
 
 pub request_is : request_for (codes "agency:80") (codes "/feed")
     ≡ codes "GET /feed HTTP/1.0\r\nHost: agency:80\r\nConnection: close\r\n\r\n"

@@ -4,7 +4,9 @@ use Rattle.std.specs.Option.{option_and_then}
 use Rattle.std.proofs.lemmas.Option.{none-some}
 use Rattle.httparse.specs.Grammar.{ResponseHead, print_response}
 use Rattle.poll_port.specs.Fields.{extent_behind}
-use Rattle.poll_port.specs.Heads.{head_in, message_behind, reply_in}
+use Rattle.poll_port.specs.declared.faults.ReplyFault.TheVariants as fault
+use Rattle.poll_port.specs.Heads.{head_in, message_behind, reply_in, head_fault, cut_fault, fault_behind, fault_by, fault_in}
+use Rattle.poll_port.specs.Reading.{IsUnfit}
 use Rattle.poll_port.specs.Replies.{BeginsWith, NoHead, IsGood, message_in, IsReply, NoReply}
 use Rattle.poll_port.specs.declared.extent.Extent.{Extent}
 use Rattle.poll_port.proofs.HeadLaws.{head_is_found, found_is_head, rest_is}
@@ -57,3 +59,34 @@ no_reply_found bytes none = by_head (head_in bytes) refl
     by_head : (found : Option ResponseHead) → head_in bytes ≡ found → option_and_then (message_behind bytes) found ≡ None
     by_head None e = refl
     by_head (Some head) e = by_message head e (extent_behind head) refl
+
+-- ---- what is wrong
+
+-- by a head in front
+fault_at : (bytes : List ℕ) (head : ResponseHead) (rest : List ℕ) → BeginsWith bytes head rest → fault_in bytes ≡ fault_behind rest head (extent_behind head)
+unfolding fault_in
+fault_at bytes head rest b =
+    ap (fault_by bytes) (head_is_found bytes head rest b)
+    ∙ ap (λ xs. fault_behind xs head (extent_behind head)) (rest_is bytes head rest b)
+
+-- no head is in front
+pub headless : (bytes : List ℕ) → NoHead bytes → IsUnfit fault.Head bytes
+unfolding fault_in
+headless bytes none = (no_head bytes none, by (head_in bytes) refl)
+  where
+    by : (found : Option ResponseHead) → head_in bytes ≡ found → fault_by bytes found ≡ Some fault.Head
+    by None e = refl
+    by (Some head) e = absurd (none head (drop (length (print_response head)) bytes) (found_is_head bytes head e))
+
+-- the head has a fault
+pub bad_head : (bytes : List ℕ) (head : ResponseHead) (rest : List ℕ) → BeginsWith bytes head rest → extent_behind head ≡ None
+    → IsUnfit (head_fault head) bytes
+bad_head bytes head rest b none =
+    (no_extent bytes head rest b none, fault_at bytes head rest b ∙ ap (fault_behind rest head) none)
+
+-- the message is cut
+pub cut_short : (bytes : List ℕ) (extent : Extent) (rest : List ℕ) → IsGood bytes extent rest → message_in extent rest ≡ None → IsUnfit fault.Cut bytes
+cut_short bytes extent rest good none = (
+  no_message bytes extent rest good none,
+  fault_at bytes good.head rest good.begins ∙ ap (fault_behind rest good.head) good.told ∙ ap cut_fault none,
+)

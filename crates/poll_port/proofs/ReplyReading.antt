@@ -5,10 +5,11 @@ use Rattle.std.specs.Io.KnownBytes.{Consumes}
 use Rattle.poll_port.specs.declared.extent.Extent.{Extent}
 use Rattle.poll_port.specs.declared.messages.Reply.{Reply}
 use Rattle.poll_port.specs.declared.messages.Reply.TheVariants.{Message, TooLong, Unfit, Failed}
-use Rattle.poll_port.specs.Reading.{ReadsMessage, ReadsReply}
-use Rattle.poll_port.specs.Replies.{IsGood, message_in, IsOver, IsReply, IsLongReply, NoReply}
+use Rattle.poll_port.specs.declared.faults.ReplyFault.TheVariants.{Cut}
+use Rattle.poll_port.specs.Reading.{IsUnfit, ReadsMessage, ReadsReply}
+use Rattle.poll_port.specs.Replies.{IsGood, message_in, IsOver, IsReply, IsLongReply}
 use Rattle.poll_port.proofs.FoundLemmas.{good_on}
-use Rattle.poll_port.proofs.ReplyLaws.{no_message}
+use Rattle.poll_port.proofs.ReplyLaws.{cut_short}
 
 module _ (extent : Extent) (whole front : List ℕ) (good : IsGood whole extent front) where
   -- what holds of the bytes behind the head holds of all of them, by what of these is a good reply
@@ -25,6 +26,7 @@ module _ (extent : Extent) (whole front : List ℕ) (good : IsGood whole extent 
       (fits, on_whole (λ bytes. message_in extent bytes ≡ Some held) (λ bytes. IsReply bytes held) (λ more at is. (extent, front ++ more, at, is)) first left read told)
   reply_read (TooLong n) first left held read (above, told) =
       (above, on_whole (λ bytes. IsOver extent bytes n) (λ bytes. IsLongReply bytes n) (λ more at is. (extent, front ++ more, at, is)) first left read told)
-  reply_read Unfit first left held read told =
-      on_whole (λ bytes. message_in extent bytes ≡ None) NoReply (λ more at is. no_message (whole ++ more) extent (front ++ more) at is) first left read told
+  reply_read (Unfit why) first left held read (cut, told) =
+      subst (λ f. IfSome first (IsUnfit f)) (sym cut)
+      (on_whole (λ bytes. message_in extent bytes ≡ None) (IsUnfit Cut) (λ more at is. cut_short (whole ++ more) extent (front ++ more) at is) first left read told)
   reply_read Failed first left held read told = tt

@@ -4,8 +4,11 @@ use Rattle.std.specs.Prelude.{ℕ, ◌-◌, Bool, ◌&&◌, ◌==◌, nat_le, na
 use Rattle.std.specs.List.{list_all, slice_split}
 use Rattle.std.specs.Char.{is_ascii_digit}
 use Rattle.std.specs.Option.{option_map, option_and_then}
-use Rattle.httparse.specs.Grammar.{LineEnd, crlf, lf, Field, is_token, is_value_byte, ResponseHead, reason_phrase, print_response}
-use Rattle.poll_port.specs.Fields.{extent_behind}
+use Rattle.httparse.specs.Grammar.{LineEnd, crlf, lf, Field, is_token, is_value_byte, ResponseHead, reason_phrase, print_response, status_code}
+use Rattle.poll_port.specs.declared.extent.Extent.{Extent}
+use Rattle.poll_port.specs.declared.faults.ReplyFault.{ReplyFault}
+use Rattle.poll_port.specs.declared.faults.ReplyFault.TheVariants as fault
+use Rattle.poll_port.specs.Fields.{success, extent_behind}
 use Rattle.poll_port.specs.Replies.{head_limit, message_in}
 
 -- the bytes before the first one of this value, and those behind it, if it is there
@@ -105,3 +108,30 @@ message_behind bytes head =
 -- the message of the good reply that bytes are; none where they are none
 unfoldable pub reply_in : List ℕ → Option (List ℕ)
 reply_in bytes = option_and_then (message_behind bytes) (head_in bytes)
+
+-- ---- what is wrong with a reply
+
+-- a head behind which no message goes: of another status, or of a length that isn't told
+abbrev pub head_fault : ResponseHead → ReplyFault
+head_fault head =
+    if status_code head == success then fault.Length else fault.Status (status_code head)
+
+-- behind a good head, by the message that there is
+abbrev pub cut_fault : Option (List ℕ) → Option ReplyFault
+cut_fault None = Some fault.Cut
+cut_fault (Some message) = None
+
+-- by how far the message goes in the bytes behind the head
+abbrev pub fault_behind : List ℕ → ResponseHead → Option Extent → Option ReplyFault
+fault_behind rest head None = Some (head_fault head)
+fault_behind rest head (Some extent) = cut_fault (message_in extent rest)
+
+-- by the head in front
+abbrev pub fault_by : List ℕ → Option ResponseHead → Option ReplyFault
+fault_by bytes None = Some fault.Head
+fault_by bytes (Some head) =
+    fault_behind (drop (length (print_response head)) bytes) head (extent_behind head)
+
+-- what is wrong with the reply that bytes are, if anything is
+unfoldable pub fault_in : List ℕ → Option ReplyFault
+fault_in bytes = fault_by bytes (head_in bytes)

@@ -3,6 +3,7 @@ pub mod Replies
 pub mod Heads
 pub mod Requests
 pub mod Reading
+pub mod Hearing
 pub mod Polling
 pub mod Polls
 pub mod Ports

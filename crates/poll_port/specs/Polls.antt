@@ -6,9 +6,11 @@ use Rattle.hub_outside.specs.Doors.{Links, HandsOut, GivesBack}
 use Rattle.hub_outside.specs.declared.doors.DoorAnswer.TheVariants.{Link, End as DoorEnd}
 use Rattle.feed_port.specs.declared.port.PortAnswer.{PortAnswer}
 use Rattle.feed_port.specs.declared.port.PortAnswer.TheVariants as answer
+use Rattle.poll_port.specs.declared.faults.PollFault.{PollFault}
+use Rattle.poll_port.specs.declared.faults.ReplyFault.{ReplyFault}
 use Rattle.poll_port.specs.declared.messages.Reply.{Reply}
 use Rattle.poll_port.specs.declared.messages.Reply.TheVariants.{Message, TooLong, Unfit, Failed}
-use Rattle.poll_port.specs.Polling.{PollingState, has_polls, after_link, after_reply}
+use Rattle.poll_port.specs.Polling.{PollingState, has_polls, after_link, after_reply, heard_after}
 use Rattle.poll_port.specs.Reading.{ReadsReply}
 
 -- what contracts see of the two ends of a link: the bytes that a source has left and its faults, the
@@ -28,14 +30,22 @@ ends left faults written write_faults = record {
   write_faults = write_faults;
 }
 
--- a port at a moment: the links of its door and the door's faults, and what it keeps beside it
+-- a port at a moment: the links of its door and the door's faults, what it keeps beside it, and the
+-- faults of polls that were heard of
 pub record PortState (I O : Type 0) : Type 0 where
   pub links : Option (Links I O)
   pub faults : ℕ
   pub polling : PollingState
+  pub heard : Option (List PollFault)
 
-abbrev pub port_state : {I O : Type 0} → Option (Links I O) → ℕ → PollingState → PortState I O
-port_state links faults polling = record { links = links; faults = faults; polling = polling }
+abbrev pub port_state : {I O : Type 0} → Option (Links I O) → ℕ → PollingState
+    → Option (List PollFault) → PortState I O
+port_state links faults polling heard = record {
+  links = links;
+  faults = faults;
+  polling = polling;
+  heard = heard;
+}
 
 -- a link that was polled: its ends as they were handed out and as they were given back
 pub record Polled (I O : Type 0) : Type 0 where
@@ -48,7 +58,7 @@ pub record Polled (I O : Type 0) : Type 0 where
 abbrev pub IsAsked : Reply → Option (List ℕ) → Option (List ℕ) → List ℕ → Type 0
 IsAsked Message before after request = Appends before after request
 IsAsked (TooLong n) before after request = Appends before after request
-IsAsked Unfit before after request = Appends before after request
+IsAsked (Unfit fault) before after request = Appends before after request
 IsAsked Failed before after request = Unit {0}
 
 -- the counts of faults of a source and of a sink did not fall, and where an end failed, one of them
@@ -69,7 +79,7 @@ pub record Exchanges
       (seen.write_faults link.output) (seen.write_faults link.output_left)
 
 -- One poll with a link: where a further link might be taken, the door handed it out, the request was
--- written to it and the reply read from it, and it was given back.
+-- written to it and the reply read from it, it was given back, and a fault was heard of.
 pub record PollsLink
     {I O : Type 0} (seen : Ends I O) (before after : PortState I O) (reply : Reply)
     (held : List ℕ) : Type 0 where
@@ -81,6 +91,7 @@ pub record PollsLink
   pub faults : before.faults ≤ after.faults
   pub exchanged : Exchanges seen before.polling.request link reply held
   pub polling : after.polling ≡ after_reply reply (after_link before.polling)
+  pub heard : after.heard ≡ heard_after reply before.heard
 
 -- a poll for which the door failed: nothing but its count of faults changed
 pub record MissesDoor {I O : Type 0} (before after : PortState I O) : Type 0 where
@@ -88,12 +99,14 @@ pub record MissesDoor {I O : Type 0} (before after : PortState I O) : Type 0 whe
   pub links : after.links ≡ before.links
   pub faults : Rose before.faults after.faults
   pub polling : after.polling ≡ before.polling
+  pub heard : after.heard ≡ before.heard
 
 -- a poll failed: the door, an end of the link, or the reply was no good one
 abbrev pub FailsPoll : {I O : Type 0} → Ends I O → PortState I O → PortState I O → Type 0
 FailsPoll seen before after =
     MissesDoor before after
-    ⊎ (PollsLink seen before after Unfit [] ⊎ PollsLink seen before after Failed [])
+    ⊎ (((fault : ReplyFault) × PollsLink seen before after (Unfit fault) [])
+    ⊎ PollsLink seen before after Failed [])
 
 -- there was no further poll: no further link may be taken, or the door ended
 pub record EndsPolls {I O : Type 0} (before after : PortState I O) : Type 0 where
@@ -101,6 +114,7 @@ pub record EndsPolls {I O : Type 0} (before after : PortState I O) : Type 0 wher
       ⊎ HandsOut DoorEnd before.links after.links
   pub faults : before.faults ≤ after.faults
   pub polling : after.polling ≡ before.polling
+  pub heard : after.heard ≡ before.heard
 
 -- so many polls, one after another, failed
 unfoldable pub FailPolls : {I O : Type 0} → ℕ → Ends I O → PortState I O → PortState I O → Type 0

@@ -9,10 +9,13 @@ use Rattle.poll_port.specs.Heads.{reply_in}
 use Rattle.poll_port.specs.Polling.{PollingState}
 use Rattle.poll_port.specs.Polls.{Ends, PortState}
 
-abbrev pub door_of : {D : Type 0} → PollPort D → D
+abbrev pub door_of : {D H : Type 0} → PollPort D H → D
 door_of port = port.door
 
-abbrev pub polling_of : {D : Type 0} → PollPort D → PollingState
+abbrev pub ear_of : {D H : Type 0} → PollPort D H → H
+ear_of port = port.ear
+
+abbrev pub polling_of : {D H : Type 0} → PollPort D H → PollingState
 polling_of port = port.polling
 
 -- the first links, as many as may still be taken

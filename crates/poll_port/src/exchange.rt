@@ -60,7 +60,7 @@ fn read_reply<S: Source>(
         HeadRead::Good(extent, start, filled) => {
             read_message(source, extent, &head[start..filled], into)
         }
-        HeadRead::Unfit => Reply::Unfit,
+        HeadRead::Unfit(fault) => Reply::Unfit(fault),
         HeadRead::Failed => Reply::Failed,
     }
 }

@@ -5,10 +5,10 @@ ghost use Rattle.httparse.specs.Grammar.{ResponseHead, HasNoResponse};
 ghost use Rattle.httparse.specs.Spans.{IsResponseAt, IsResponseWithin};
 ghost use Rattle.httparse.specs.declared.spans.HeaderSpan.{HeaderSpan};
 ghost use Rattle.hub_outside.specs.Source.{IsReadWithin, TakesBytes, HasReadCause};
-ghost use Rattle.poll_port.specs.Fields.{extent_behind};
-ghost use Rattle.poll_port.specs.Reading.{StandsAt, FoundIs, JudgesHead, ReadsHead, HasHeadCause};
+ghost use Rattle.poll_port.specs.Reading.{StandsAt, FoundIs, JudgesExtent, JudgesHead, ReadsHead, HasHeadCause};
 
 use crate::extent::Extent;
+use crate::faults::ReplyFault;
 use crate::fields::extent_of;
 use httparse::Status;
 use httparse::spans::{HeaderSpan, ResponseSpans, parse_response};
@@ -40,7 +40,7 @@ pub(crate) enum HeadRead {
     /// bytes of the buffer were read.
     Good(Extent, usize, usize),
     /// What came is no head of a good reply.
-    Unfit,
+    Unfit(ReplyFault),
     /// The source failed.
     Failed,
 }
@@ -61,12 +61,12 @@ pub(crate) fn read_head<S: Source>(
     'heads: loop {
         match look(&buf[..filled], headers) {
             Found::Head(spans) => return good_head(&buf[..filled], headers, spans),
-            Found::Never => return HeadRead::Unfit,
+            Found::Never => return HeadRead::Unfit(ReplyFault::Head),
             Found::More => {}
         }
         match read_behind(source, buf, filled) {
             ReadAnswer::Got(count) => filled += count,
-            ReadAnswer::End => return HeadRead::Unfit,
+            ReadAnswer::End => return HeadRead::Unfit(ReplyFault::Head),
             ReadAnswer::Failed => return HeadRead::Failed,
         }
     }
@@ -117,19 +117,26 @@ fn good_head(bytes: &[u8], headers: &[HeaderSpan], spans: ResponseSpans) -> Head
     ensures { JudgesHead result bytes.now }
 {
     match extent_at(bytes, headers, spans) {
-        Some(extent) => HeadRead::Good(extent, spans.len, bytes.len()),
-        None => HeadRead::Unfit,
+        Ok(extent) => HeadRead::Good(extent, spans.len, bytes.len()),
+        Err(fault) => HeadRead::Unfit(fault),
     }
 }
 
-/// How far the message behind a head goes; or none, where this is no good reply.
-fn extent_at(bytes: &[u8], headers: &[HeaderSpan], spans: ResponseSpans) -> Option<Extent>
+/// How far the message behind a head goes; or what is wrong with the head.
+fn extent_at(
+    bytes: &[u8],
+    headers: &[HeaderSpan],
+    spans: ResponseSpans,
+) -> Result<Extent, ReplyFault>
     requires { IsResponseWithin bytes.now headers.now spans }
     ensures { (head : ResponseHead) → IsResponseAt bytes.now headers.now spans head
-        → result ≡ extent_behind head }
+        → JudgesExtent result head }
 {
     if spans.code != SUCCESS {
-        return None;
+        return Err(ReplyFault::Status(spans.code));
     }
-    extent_of(bytes, &headers[..spans.headers])
+    match extent_of(bytes, &headers[..spans.headers]) {
+        Some(extent) => Ok(extent),
+        None => Err(ReplyFault::Length),
+    }
 }

@@ -11,6 +11,8 @@
 //!   of the link, or a reply that is no good one. A good reply begins the count anew;
 //! - it is at its end where the door is, or where it took as many links as it may;
 //! - each link is given back, and where no end of it failed it got the whole request;
+//! - what is wrong with a reply that is no good one, and that an end of a link failed, is heard of by the port's
+//!   [`PollEar`], each once and in order; a door knows itself why it fails;
 //! - the count of faults is the door's and the port's own, which rises at each link that failed and at
 //!   each reply that is no good one; a call takes no memory.
 //!
@@ -21,6 +23,7 @@
 
 mod exchange;
 mod extent;
+mod faults;
 mod fields;
 mod heads;
 mod messages;
@@ -29,5 +32,6 @@ mod port;
 mod request;
 
 pub use extent::Extent;
+pub use faults::{PollEar, PollFault, ReplyFault};
 pub use port::PollPort;
 pub use std::alloc::AllocError as NoMemory;

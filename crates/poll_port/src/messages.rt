@@ -6,6 +6,7 @@ ghost use Rattle.hub_outside.specs.Buffer.{room_of};
 ghost use Rattle.poll_port.specs.Reading.{FillsUp, HasFillCause, MeetsEnd, ReadsMessage, HasReplyCause};
 
 use crate::extent::Extent;
+use crate::faults::ReplyFault;
 use feed_defs::LONGEST_MESSAGE;
 use hub_outside::{Buf, ReadAnswer, Source};
 
@@ -32,7 +33,7 @@ pub(crate) enum Reply {
     /// are known.
     TooLong(u64),
     /// This is no good reply.
-    Unfit,
+    Unfit(ReplyFault),
     /// The source or the sink failed.
     Failed,
 }
@@ -79,7 +80,7 @@ fn read_sized<S: Source>(source: &mut S, size: usize, front: &[u8], into: &mut B
     keep(front, into);
     match fill_up(source, into, size) {
         Filled::Whole => Reply::Message,
-        Filled::Ended => Reply::Unfit,
+        Filled::Ended => Reply::Unfit(ReplyFault::Cut),
         Filled::Failed => Reply::Failed,
     }
 }

@@ -165,7 +165,7 @@ fn faults_after(reply: Reply, faults: u64) -> u64
 {
     match reply {
         Reply::Message | Reply::TooLong(_) => faults,
-        Reply::Unfit | Reply::Failed => faults.saturating_add(1),
+        Reply::Unfit(_) | Reply::Failed => faults.saturating_add(1),
     }
 }
 
@@ -174,7 +174,7 @@ fn lost_after(reply: Reply, lost: bool) -> bool
     ensures { result ≡ lost_after reply lost }
 {
     match reply {
-        Reply::Message | Reply::TooLong(_) | Reply::Unfit => lost,
+        Reply::Message | Reply::TooLong(_) | Reply::Unfit(_) => lost,
         Reply::Failed => true,
     }
 }

@@ -6,6 +6,10 @@
 #![tactic(auto)]
 
 #[cfg(test)]
+mod accepting;
+#[cfg(test)]
+mod failing;
+#[cfg(test)]
 mod given;
 #[cfg(test)]
 mod paces;

@@ -1,16 +1,47 @@
 //! Polling ports, over links in memory, with ample memory.
 
-ghost use Rattle.std.specs.Prelude.{◌≤◌};
+ghost use Rattle.std.specs.Prelude.{◌≤◌, None};
 
 use crate::given::{buffer, comes_to, copy, hands_in};
-use feed_port::{LONGEST_MESSAGE, NoMemory, PortAnswer};
+use feed_port::{FeedPort, LONGEST_MESSAGE, NoMemory, PortAnswer};
 use hub_outside::{MemoryDoor, MemoryLink, MemorySink, MemorySource};
-use poll_port::PollPort;
+use poll_port::{PollEar, PollFault, PollPort, ReplyFault};
 use std::alloc::Global;
 use std::test::Fail;
 
 /// A reply with the bytes `fed` as its message.
 const FED: &[u8] = b"HTTP/1.1 200 OK\r\nContent-Length: 3\r\n\r\nfed";
+
+/// An ear that notes the first faults, up to three, and how many there were.
+#[derive(Clone, Copy, Debug, PartialEq, Eq)]
+struct Noted {
+    first: Option<PollFault>,
+    second: Option<PollFault>,
+    third: Option<PollFault>,
+    count: u32,
+}
+
+/// Before the first fault.
+const NOTHING: Noted = Noted {
+    first: None,
+    second: None,
+    third: None,
+    count: 0,
+};
+
+impl PollEar for Noted {
+    ghost heard = { λ _. None };
+
+    fn hear(&mut self, fault: PollFault) {
+        match self.count {
+            0 => self.first = Some(fault),
+            1 => self.second = Some(fault),
+            2 => self.third = Some(fault),
+            _ => {}
+        }
+        self.count = self.count.saturating_add(1);
+    }
+}
 
 /// A link on which these bytes come, the first of them in pieces.
 fn link(alloc: Global, bytes: &[u8]) -> Result<MemoryLink, NoMemory> {
@@ -22,11 +53,15 @@ fn link(alloc: Global, bytes: &[u8]) -> Result<MemoryLink, NoMemory> {
 }
 
 /// A port over these links, without end of its polls.
-fn port(alloc: Global, links: Vec<MemoryLink>, tries: u32) -> Result<PollPort<MemoryDoor>, NoMemory>
+fn port(
+    alloc: Global,
+    links: Vec<MemoryLink>,
+    tries: u32,
+) -> Result<PollPort<MemoryDoor, Noted>, NoMemory>
     requires { 1 ≤ tries }
 {
     let door = MemoryDoor::new(alloc, links, Vec::new(alloc))?;
-    PollPort::new(alloc, door, "agency:80", "/feed", 0, tries)
+    PollPort::new(alloc, door, "agency:80", "/feed", 0, tries, NOTHING)
 }
 
 /// A message, a 404, and a message that goes to the end of its connection.
@@ -104,6 +139,69 @@ fn no_good_replies_fail(rt: HostRuntime) -> Result<(), Fail> {
     Ok(())
 }
 
+/// What is wrong with each of them.
+const FAULTS: [ReplyFault; 9] = [
+    ReplyFault::Head,
+    ReplyFault::Cut,
+    ReplyFault::Status(404),
+    ReplyFault::Length,
+    ReplyFault::Length,
+    ReplyFault::Length,
+    ReplyFault::Length,
+    ReplyFault::Head,
+    ReplyFault::Head,
+];
+
+/// What is heard of a poll of one link with these bytes.
+fn heard_of(alloc: Global, bytes: &[u8]) -> Result<Noted, NoMemory> {
+    let mut into = buffer(alloc)?;
+    let mut port = port(alloc, vec![in alloc; link(alloc, bytes)?]?, 1)?;
+    port.next(&mut into);
+    Ok(*port.ear())
+}
+
+#[test]
+fn what_is_wrong_with_a_reply_is_heard(rt: HostRuntime) -> Result<(), Fail> {
+    for (bytes, fault) in BAD.iter().zip(&FAULTS) {
+        let noted = Noted {
+            first: Some(PollFault::Unfit(*fault)),
+            count: 1,
+            ..NOTHING
+        };
+        assert_eq!(rt; heard_of(rt.alloc(), bytes)?, noted);
+    }
+    assert_eq!(rt; heard_of(rt.alloc(), FED)?, NOTHING);
+    Ok(())
+}
+
+/// What is heard by one call of a port over a 404, a link whose source fails, and one that ends at once, of which it
+/// may try each.
+fn three_faults(alloc: Global) -> Result<Noted, NoMemory> {
+    let first = link(alloc, b"HTTP/1.0 404 Not Found\r\n\r\n")?;
+    let second = MemoryLink {
+        input: MemorySource::new(copy(alloc, FED)?, Vec::new(alloc), vec![in alloc; 1]?),
+        output: MemorySink::new(alloc, Vec::new(alloc), Vec::new(alloc)),
+    };
+    let third = link(alloc, b"")?;
+    let mut into = buffer(alloc)?;
+    let mut port = port(alloc, vec![in alloc; first, second, third]?, 3)?;
+    port.next(&mut into);
+    Ok(*port.ear())
+}
+
+/// Each poll that fails is heard of, also those behind which the call tries a further one.
+#[test]
+fn each_poll_that_fails_is_heard(rt: HostRuntime) -> Result<(), Fail> {
+    let noted = Noted {
+        first: Some(PollFault::Unfit(ReplyFault::Status(404))),
+        second: Some(PollFault::Link),
+        third: Some(PollFault::Unfit(ReplyFault::Head)),
+        count: 3,
+    };
+    assert_eq!(rt; three_faults(rt.alloc())?, noted);
+    Ok(())
+}
+
 /// Replies that have a message.
 const GOOD: [&[u8]; 4] = [
     FED,
@@ -170,7 +268,7 @@ fn a_message_without_length_has_a_limit(rt: HostRuntime) -> Result<(), Fail> {
 fn two_polls(alloc: Global) -> Result<bool, NoMemory> {
     let mut into = buffer(alloc)?;
     let door = MemoryDoor::new(alloc, three_links(alloc)?, Vec::new(alloc))?;
-    let mut port = PollPort::new(alloc, door, "agency", "/feed", 2, 1)?;
+    let mut port = PollPort::new(alloc, door, "agency", "/feed", 2, 1, NOTHING)?;
     let first = hands_in(&mut port, &mut into, b"fed");
     let failed = comes_to(&mut port, &mut into, PortAnswer::Failed);
     Ok(first && failed && comes_to(&mut port, &mut into, PortAnswer::End))

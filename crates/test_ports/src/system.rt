@@ -5,12 +5,12 @@ ghost use Rattle.std.specs.Prelude.{◌≡◌, IfOk};
 use feed_port::{FeedPort, LONGEST_MESSAGE, MemoryPort, PortAnswer, StreamPort};
 use hub_config_defs::{FeedConf, PortKind};
 use hub_core::Refusal;
-use hub_outside::{Buf, Door, DoorAnswer, MemorySink, MemorySource, NoMemory};
+use hub_outside::{Buf, Door, DoorAnswer, MemorySource, NoMemory};
 use hub_ports::{SystemPort, ToldPort, Unblocked, doors_of, listen, open_port};
 use rt_types::Text;
 use std::alloc::Global;
 use std::io::{ErrorKind, Read, Write};
-use std::net::{Net, TcpListener, TcpStream};
+use std::net::{Net, OpenListener, TcpListener, TcpStream};
 use std::test::Fail;
 use std::{io, rt, thread};
 
@@ -30,11 +30,6 @@ fn feed(alloc: Global, kind: PortKind, place: &str) -> Result<FeedConf, NoMemory
     })
 }
 
-/// Standard error in memory.
-fn errors_of(alloc: Global) -> MemorySink {
-    MemorySink::new(alloc, Vec::new(alloc), Vec::new(alloc))
-}
-
 /// What the first two asks of a port come to.
 fn two_asks<P: FeedPort>(
     alloc: Global,
@@ -47,7 +42,10 @@ fn two_asks<P: FeedPort>(
 }
 
 /// A standard error on the loopback: what is written to the first is read from the second.
-fn errors_beside(rt: &HostRuntime) -> Result<(TcpStream, TcpStream), Fail> {
+pub(crate) fn errors_beside<R>(rt: &R) -> Result<(TcpStream, TcpStream), Fail>
+where
+    R: Net<Listener = TcpListener, Stream = TcpStream>,
+{
     let listener = TcpListener::bind(rt, "127.0.0.1:0")?;
     let written = TcpStream::connect(rt, listener.local_addr()?)?;
     let (read, _) = listener.accept()?;
@@ -55,7 +53,7 @@ fn errors_beside(rt: &HostRuntime) -> Result<(TcpStream, TcpStream), Fail> {
 }
 
 /// What was written there until now. No more is written.
-fn told(alloc: Global, errors: (TcpStream, TcpStream)) -> Result<String, Fail> {
+pub(crate) fn told(alloc: Global, errors: (TcpStream, TcpStream)) -> Result<String, Fail> {
     let (written, read) = errors;
     drop(written);
     Ok(io::read_to_string(alloc, read)?)
@@ -122,11 +120,15 @@ fn send(listener: &TcpListener, bytes: &[u8]) -> io::Result<()> {
     sender.write_all(bytes)
 }
 
-/// What the first two asks of a stream from that place come to, and what is told of it.
-fn told_of(rt: &HostRuntime, place: &str) -> Result<((PortAnswer, PortAnswer), String), Fail> {
+/// What the first two asks of a feed of that kind come to, and what is told of it.
+fn told_of(
+    rt: &HostRuntime,
+    kind: PortKind,
+    place: &str,
+) -> Result<((PortAnswer, PortAnswer), String), Fail> {
     let alloc = rt.alloc();
     let errors = errors_beside(rt)?;
-    let feed = feed(alloc, PortKind::Stream, place)?;
+    let feed = feed(alloc, kind, place)?;
     let port = open_port(rt, alloc, &feed, &errors.0)?;
     let asked = two_asks_of(alloc, port)?;
     Ok((asked, told(alloc, errors)?))
@@ -139,7 +141,7 @@ fn a_connection_that_cannot_be_made_is_told(rt: HostRuntime) -> Result<(), Fail>
     let place = format!(in alloc; "{}", gone.local_addr()?)?;
     drop(gone);
     let line = format!(in alloc; "hub: feed b can't connect to {place}: refused\n")?;
-    let (asked, told) = told_of(&rt, place.as_str())?;
+    let (asked, told) = told_of(&rt, PortKind::Stream, place.as_str())?;
     assert_eq!(rt; asked, (PortAnswer::Failed, PortAnswer::End));
     assert_eq!(rt; told, line);
     Ok(())
@@ -160,17 +162,40 @@ fn nothing_is_connected_to_before_the_first_ask(rt: HostRuntime) -> Result<(), F
 fn a_feed_that_is_polled_fails_where_nobody_listens(rt: HostRuntime) -> Result<(), Fail> {
     let alloc = rt.alloc();
     let gone = TcpListener::bind(&rt, "127.0.0.1:0")?;
+    let host = format!(in alloc; "{}", gone.local_addr()?)?;
     let place = format!(in alloc; "{}/feed", gone.local_addr()?)?;
     drop(gone);
-    let asked = opened(&rt, PortKind::Poll, place.as_str())?;
+    // The second poll fails within a minute of the first.
+    let line = format!(in alloc; "hub: feed b can't connect to {host}: refused\n")?;
+    let (asked, told) = told_of(&rt, PortKind::Poll, place.as_str())?;
     assert_eq!(rt; asked, (PortAnswer::Failed, PortAnswer::Failed));
+    assert_eq!(rt; told, line);
+    Ok(())
+}
+
+#[test]
+fn why_polls_fail_is_told(rt: HostRuntime) -> Result<(), Fail> {
+    let alloc = rt.alloc();
+    let listener = TcpListener::bind(&rt, "127.0.0.1:0")?;
+    let place = format!(in alloc; "{}/feed", listener.local_addr()?)?;
+    let reply = b"HTTP/1.0 503 Service Unavailable\r\n\r\n";
+    let Ok(sender) = thread::spawn(&rt, move || send(&listener, reply)) else {
+        return Err(Fail::from(io::Error::from(ErrorKind::OutOfMemory)));
+    };
+    let (asked, told) = told_of(&rt, PortKind::Poll, place.as_str())?;
+    assert!(rt; sender.join(&rt).is_ok());
+    assert_eq!(rt; asked, (PortAnswer::Failed, PortAnswer::End));
+    assert_eq!(rt;
+        told.as_str(),
+        "hub: feed b got no good reply: its status is 503\n"
+    );
     Ok(())
 }
 
 #[test]
 fn an_address_is_cleaned_and_judged(rt: HostRuntime) -> Result<(), Fail> {
     let line = "hub: feed b can't connect to no port: not an address with a port\n";
-    let (asked, told) = told_of(&rt, "no\nport")?;
+    let (asked, told) = told_of(&rt, PortKind::Stream, "no\nport")?;
     assert_eq!(rt; asked, (PortAnswer::Failed, PortAnswer::End));
     assert_eq!(rt; told.as_str(), line);
     Ok(())
@@ -325,29 +350,30 @@ fn nobody_waits_for_a_full_pipe(rt: HostRuntime) -> Result<(), Fail> {
 #[test]
 fn a_listener_is_told_and_shared(rt: HostRuntime) -> Result<(), Fail> {
     let alloc = rt.alloc();
-    let mut errors = errors_of(alloc);
-    let Some(listener) = listen(&rt, alloc, "127.0.0.1:0", &mut errors)? else {
+    let errors = errors_beside(&rt)?;
+    let Some(listener) = listen(&rt, alloc, "127.0.0.1:0", &errors.0)? else {
         return Err(Fail::from(io::Error::from(ErrorKind::NotConnected)));
     };
     let address = listener.local_addr()?;
     let line = format!(in alloc; "hub: listening on {address}\n")?;
-    assert_eq!(rt; errors.bytes(), line.as_bytes());
     assert_eq!(rt; doors_of(&rt, alloc, &Some(listener), 3, 0)?.len(), 3);
+    assert_eq!(rt; told(alloc, errors)?, line);
     Ok(())
 }
 
 #[test]
 fn an_address_in_use_closes_the_doors(rt: HostRuntime) -> Result<(), Fail> {
     let alloc = rt.alloc();
-    let mut errors = errors_of(alloc);
+    let errors = errors_beside(&rt)?;
     let first = TcpListener::bind(&rt, "127.0.0.1:0")?;
     let address = format!(in alloc; "{}", first.local_addr()?)?;
-    let listener = listen(&rt, alloc, address.as_str(), &mut errors)?;
+    let listener = listen(&rt, alloc, address.as_str(), &errors.0)?;
     assert!(rt; listener.is_none());
-    let line = format!(in alloc; "hub: can't listen on {address}: address in use\n")?;
-    assert_eq!(rt; errors.bytes(), line.as_bytes());
     for mut door in doors_of(&rt, alloc, &listener, 2, 5)? {
         assert!(rt; matches!(door.next(), DoorAnswer::Failed));
     }
+    drop(listener);
+    let line = format!(in alloc; "hub: can't listen on {address}: address in use\n")?;
+    assert_eq!(rt; told(alloc, errors)?, line);
     Ok(())
 }

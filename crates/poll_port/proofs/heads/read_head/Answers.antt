@@ -1,5 +1,5 @@
 use Rattle.std.proofs.Common.{rules, arith}
-use Rattle.poll_port.proofs.HeadReading.{grown, judged}
+use Rattle.poll_port.proofs.HeadReading.{grown, judged, never_head, ended}
 use Rattle.poll_port.proofs.heads.read_head.Goals as goal
 
 pub returns-in-Head-clause-reads : goal.returns-in-Head-clause-reads
@@ -15,3 +15,9 @@ heads-preserved g c = record {
   told = search rules;
   later = search rules;
 }
+
+pub returns-in-Never-clause-reads : goal.returns-in-Never-clause-reads
+returns-in-Never-clause-reads g c = never_head _ _ _ c.heads.invariant.read c.in-Never.ensures
+
+pub returns-in-End-clause-reads : goal.returns-in-End-clause-reads
+returns-in-End-clause-reads g c = ended _ _ _ _ c.heads.invariant.read c.in-More.ensures.0 c.in-End.ensures.bytes.0 c.in-End.ensures.bytes.1

@@ -1,4 +1,4 @@
-use Rattle.std.proofs.Common.{◌≡◌, ◌≤◌, ◌++◌, length, Some, sym, subst, arith}
+use Rattle.std.proofs.Common.{◌≡◌, ◌≤◌, ◌++◌, length, Some, refl, sym, subst, arith}
 use Rattle.std.specs.Prelude.{IfSome}
 use Rattle.std.proofs.lemmas.List.{length-take-le}
 use Rattle.feed_defs.specs.History.{longest_message}
@@ -28,4 +28,4 @@ pub returns-in-Ended-clause-reads : goal.returns-in-Ended-clause-reads
 returns-in-Ended-clause-reads g c =
     let fills = subst (λ start. FillsUp Ended (g.S.Source.left c.args.source.now) (g.S.Source.left c.fill_up.new.source) start c.fill_up.new.into.bytes c.args.size)
     c.keep-2.ensures.bytes c.in-Ended.ensures.fills in
-    sized_ended c.args.size c.args.front.now _ _ _ c.requires.size fills
+    (refl, sized_ended c.args.size c.args.front.now _ _ _ c.requires.size fills)

@@ -21,9 +21,9 @@ polls-preserved g c = record {
 pub returns-in_default : goal.returns-in_default
 returns-in_default g c =
     let seen = ends g.D.In.Source.left g.D.In.Source.faults g.D.Out.Sink.written g.D.Out.Sink.faults in
-    let before = port_state (g.D.Door.links c.args.self.now.door) (g.D.Door.faults c.args.self.now.door) c.args.self.now.polling in
-    let mid = port_state (g.D.Door.links c.polls.self.door) (g.D.Door.faults c.polls.self.door) c.polls.self.polling in
-    let after = port_state (g.D.Door.links c.poll.new.self.door) (g.D.Door.faults c.poll.new.self.door) c.poll.new.self.polling in
+    let before = port_state (g.D.Door.links c.args.self.now.door) (g.D.Door.faults c.args.self.now.door) c.args.self.now.polling (g.H.PollEar.heard c.args.self.now.ear) in
+    let mid = port_state (g.D.Door.links c.polls.self.door) (g.D.Door.faults c.polls.self.door) c.polls.self.polling (g.H.PollEar.heard c.polls.self.ear) in
+    let after = port_state (g.D.Door.links c.poll.new.self.door) (g.D.Door.faults c.poll.new.self.door) c.poll.new.self.polling (g.H.PollEar.heard c.poll.new.self.ear) in
     let few : c.polls.failed < c.args.self.now.polling.tries = omega (arith, c.polls-test.true, c.tries-tries.ensures.tries) in
     let some : 1 ≤ c.args.self.now.polling.tries = omega (arith, c.tries-tries.ensures.tries, c.tries-tries.ensures.some) in
     let call = comes_of seen c.poll.result c.polls.failed before mid after c.poll.new.into.bytes few c.polls.invariant.fails c.poll.ensures.polls c.in_default.not-Failed in
@@ -38,8 +38,8 @@ returns-in_default g c =
 pub returns-clause-told : goal.returns-clause-told
 returns-clause-told g c =
     let seen = ends g.D.In.Source.left g.D.In.Source.faults g.D.Out.Sink.written g.D.Out.Sink.faults in
-    let before = port_state (g.D.Door.links c.args.self.now.door) (g.D.Door.faults c.args.self.now.door) c.args.self.now.polling in
-    let after = port_state (g.D.Door.links c.polls.self.door) (g.D.Door.faults c.polls.self.door) c.polls.self.polling in
+    let before = port_state (g.D.Door.links c.args.self.now.door) (g.D.Door.faults c.args.self.now.door) c.args.self.now.polling (g.H.PollEar.heard c.args.self.now.ear) in
+    let after = port_state (g.D.Door.links c.polls.self.door) (g.D.Door.faults c.polls.self.door) c.polls.self.polling (g.H.PollEar.heard c.polls.self.ear) in
     let some : 1 ≤ c.args.self.now.polling.tries = omega (arith, c.tries-tries.ensures.tries, c.tries-tries.ensures.some) in
     let all : c.polls.failed ≡ c.args.self.now.polling.tries = omega (arith, c.polls-test.false, c.polls.invariant.within, c.tries-tries.ensures.tries) in
     (answers seen Failed before after c.polls.into.bytes some (subst (λ n. FailPolls n seen before after) all c.polls.invariant.fails)).1
@@ -47,8 +47,8 @@ returns-clause-told g c =
 pub returns-clause-cause : goal.returns-clause-cause
 returns-clause-cause g c =
     let seen = ends g.D.In.Source.left g.D.In.Source.faults g.D.Out.Sink.written g.D.Out.Sink.faults in
-    let before = port_state (g.D.Door.links c.args.self.now.door) (g.D.Door.faults c.args.self.now.door) c.args.self.now.polling in
-    let after = port_state (g.D.Door.links c.polls.self.door) (g.D.Door.faults c.polls.self.door) c.polls.self.polling in
+    let before = port_state (g.D.Door.links c.args.self.now.door) (g.D.Door.faults c.args.self.now.door) c.args.self.now.polling (g.H.PollEar.heard c.args.self.now.ear) in
+    let after = port_state (g.D.Door.links c.polls.self.door) (g.D.Door.faults c.polls.self.door) c.polls.self.polling (g.H.PollEar.heard c.polls.self.ear) in
     let some : 1 ≤ c.args.self.now.polling.tries = omega (arith, c.tries-tries.ensures.tries, c.tries-tries.ensures.some) in
     let all : c.polls.failed ≡ c.args.self.now.polling.tries = omega (arith, c.polls-test.false, c.polls.invariant.within, c.tries-tries.ensures.tries) in
     (answers seen Failed before after c.polls.into.bytes some (subst (λ n. FailPolls n seen before after) all c.polls.invariant.fails)).2

@@ -1,0 +1,71 @@
+//! What is told of what fails again and again: at once the first time, and from there on once a minute at most, with
+//! how often it has failed since.
+
+ghost use Rattle.std.specs.Prelude.{◌≡◌, string_bytes, IfOk};
+ghost use Rattle.std.specs.Option.{option_map};
+ghost use Rattle.hub_ports.specs.Lines as lines;
+ghost use Rattle.hub_ports.specs.Pacing.{pace_after, line_at};
+
+use crate::NoMemory;
+use crate::pacing::Pace;
+use crate::telling::{bad_reply_line, no_accept_line, no_connection_line};
+use poll_port::PollFault;
+use std::alloc::Global;
+use std::io::ErrorKind;
+
+/// A further connection can't be accepted, for that cause. The line that tells it, where it is told at that moment, in
+/// seconds of a clock that never goes back. Or want of memory, which counts as told.
+pub fn accept_news(
+    alloc: Global,
+    pace: &mut Pace,
+    now: u64,
+    cause: ErrorKind,
+) -> Result<Option<String>, NoMemory>
+    ensures after { pace.new ≡ pace_after pace.old now }
+    ensures told { IfOk result (λ line. option_map (λ text. string_bytes text) line
+        ≡ line_at pace.old now (λ count. lines.no_accept_line count cause)) }
+{
+    match pace.count(now) {
+        Some(count) => Ok(Some(no_accept_line(alloc, count, cause)?)),
+        None => Ok(None),
+    }
+}
+
+/// A further poll of that feed has got no good reply. The line that tells it, where it is told at that moment, in
+/// seconds of a clock that never goes back. Or want of memory, which counts as told.
+pub fn poll_news(
+    alloc: Global,
+    feed: &str,
+    pace: &mut Pace,
+    now: u64,
+    fault: PollFault,
+) -> Result<Option<String>, NoMemory>
+    ensures after { pace.new ≡ pace_after pace.old now }
+    ensures told { IfOk result (λ line. option_map (λ text. string_bytes text) line
+        ≡ line_at pace.old now (λ count. lines.bad_reply_line feed.now count fault)) }
+{
+    match pace.count(now) {
+        Some(count) => Ok(Some(bad_reply_line(alloc, feed, count, fault)?)),
+        None => Ok(None),
+    }
+}
+
+/// A further connection of that feed to that place can't be made, for that cause. The line that tells it, where it is
+/// told at that moment, in seconds of a clock that never goes back. Or want of memory, which counts as told.
+pub fn dial_news(
+    alloc: Global,
+    feed: &str,
+    place: &str,
+    pace: &mut Pace,
+    now: u64,
+    cause: ErrorKind,
+) -> Result<Option<Vec<u8>>, NoMemory>
+    ensures after { pace.new ≡ pace_after pace.old now }
+    ensures told { IfOk result (λ line. option_map (λ text. text.items) line
+        ≡ line_at pace.old now (λ count. lines.no_connection_line feed.now place.now count cause)) }
+{
+    match pace.count(now) {
+        Some(count) => Ok(Some(no_connection_line(alloc, feed, place, count, cause)?)),
+        None => Ok(None),
+    }
+}

@@ -1,0 +1,121 @@
+//! What is told of what fails again and again, at given moments.
+
+use hub_ports::{Pace, accept_news, dial_news, poll_news};
+use poll_port::{PollFault, ReplyFault};
+use std::io::ErrorKind;
+use std::test::Fail;
+
+/// The line, and nothing where there is none.
+fn shown(line: &Option<String>) -> &str {
+    match line {
+        Some(line) => line.as_str(),
+        None => "",
+    }
+}
+
+/// The bytes of the line, and none where there is none.
+fn bytes_of(line: &Option<Vec<u8>>) -> &[u8] {
+    match line {
+        Some(line) => line.as_slice(),
+        None => &[],
+    }
+}
+
+/// The first is told at once, and those of a minute by one line, with the cause of the last.
+#[test]
+fn connections_that_are_not_accepted_are_told(rt: HostRuntime) -> Result<(), Fail> {
+    let alloc = rt.alloc();
+    let mut pace = Pace::new();
+    for (now, cause, line) in [
+        (
+            7,
+            ErrorKind::Uncategorized,
+            "hub: can't accept a connection: too many open files, or another fault of the system\n",
+        ),
+        (7, ErrorKind::PermissionDenied, ""),
+        (66, ErrorKind::OutOfMemory, ""),
+        (
+            67,
+            ErrorKind::ConnectionAborted,
+            "hub: can't accept a connection: 3 times, the last one: broken off\n",
+        ),
+        (126, ErrorKind::ConnectionAborted, ""),
+        (
+            200,
+            ErrorKind::NetworkDown,
+            "hub: can't accept a connection: 2 times, the last one: network down\n",
+        ),
+        (
+            260,
+            ErrorKind::ConnectionReset,
+            "hub: can't accept a connection: reset\n",
+        ),
+    ] {
+        let told = accept_news(alloc, &mut pace, now, cause)?;
+        assert_eq!(rt; shown(&told), line, "at {now}");
+    }
+    Ok(())
+}
+
+#[test]
+fn polls_that_fail_are_told(rt: HostRuntime) -> Result<(), Fail> {
+    let alloc = rt.alloc();
+    let mut pace = Pace::new();
+    for (now, fault, line) in [
+        (
+            0,
+            PollFault::Unfit(ReplyFault::Status(503)),
+            "hub: feed b got no good reply: its status is 503\n",
+        ),
+        (20, PollFault::Unfit(ReplyFault::Head), ""),
+        (40, PollFault::Link, ""),
+        (
+            60,
+            PollFault::Unfit(ReplyFault::Cut),
+            "hub: feed b got no good reply: 3 times, the last one: it is cut short\n",
+        ),
+        (
+            120,
+            PollFault::Link,
+            "hub: feed b got no good reply: the connection has failed\n",
+        ),
+        (
+            180,
+            PollFault::Unfit(ReplyFault::Head),
+            "hub: feed b got no good reply: it has no whole head\n",
+        ),
+        (
+            240,
+            PollFault::Unfit(ReplyFault::Length),
+            "hub: feed b got no good reply: its length isn't told\n",
+        ),
+    ] {
+        let told = poll_news(alloc, "b", &mut pace, now, fault)?;
+        assert_eq!(rt; shown(&told), line, "at {now}");
+    }
+    Ok(())
+}
+
+#[test]
+fn connections_that_are_not_made_are_told(rt: HostRuntime) -> Result<(), Fail> {
+    let alloc = rt.alloc();
+    let mut pace = Pace::new();
+    let place = "agency\n:80";
+    for (now, cause, line) in [
+        (
+            1000,
+            ErrorKind::ConnectionRefused,
+            "hub: feed b can't connect to agency :80: refused\n",
+        ),
+        (1030, ErrorKind::TimedOut, ""),
+        (
+            1061,
+            ErrorKind::NotFound,
+            "hub: feed b can't connect to agency :80: 2 times, the last one: no such host\n",
+        ),
+    ] {
+        let told = dial_news(alloc, "b", place, &mut pace, now, cause)?;
+        assert_eq!(rt; bytes_of(&told), line.as_bytes(), "at {now}");
+    }
+    Ok(())
+}
