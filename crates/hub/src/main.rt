@@ -1,8 +1,7 @@
 //! The program `hub`: the words of its command line, standard input, output and error, and an exit status.
 //!
 //! Commands are those of `hub_main`, and the server is that of `hub_system`, over `hub_serve`; their
-//! contracts say what is written and with which status it ends. Here the outside is the system's own, and
-//! the ports of feeds are boxed: only a program itself knows what its runtime is.
+//! contracts say what is written and with which status it ends. Here the outside is the system's own.
 //!
 //! Its stored run is `serve` on the messages of data/spool, with no address at which readers come in, so that it
 //! ends by itself. One of its feeds finds nobody to connect to, and the listener can't be bound, which standard error
@@ -10,13 +9,11 @@
 #![tactic(auto)]
 
 use exit_status::ExitStatus;
-use feed_port::FeedPort;
 use hub_main::{Prepared, ServeConf, prepare_serve, run_on_system, words_of};
 use hub_outside::{StdFiles, StdSink};
-use hub_system::{NoMemory, SystemPort, Unblocked, serve_on_system};
+use hub_system::{Unblocked, serve_on_system};
 use hub_words::asks_for_server;
 use std::process::ExitCode;
-use std::rt::Stderr;
 use std::{env, io};
 
 fn main(rt: HostRuntime) -> ExitCode {
@@ -28,22 +25,11 @@ fn main(rt: HostRuntime) -> ExitCode {
         let status = run_on_system(alloc, &words, &rt, rt.stdin(), io::writer(&rt));
         return ExitCode::from(status);
     }
-    let boxed = |port: SystemPort<HostRuntime, Unblocked<Stderr>>| -> Result<
-        Box<dyn FeedPort + Send>,
-        NoMemory,
-    > {
-        match port {
-            SystemPort::Nothing(port) => Ok(Box::new(alloc, port)?),
-            SystemPort::Spool(port) => Ok(Box::new(alloc, port)?),
-            SystemPort::Stream(port) => Ok(Box::new(alloc, port)?),
-            SystemPort::Poll(port) => Ok(Box::new(alloc, port)?),
-        }
-    };
     let mut out = StdSink::new(io::writer(&rt));
     let errors = Unblocked::new(rt.stderr());
     let status = match prepare_serve(alloc, &words, &mut StdFiles::new(&rt), &mut out) {
         Prepared::Ready(ServeConf { plans, conf }) => {
-            serve_on_system(&rt, alloc, plans, &conf, &boxed, &mut out, errors).unwrap_or(
+            serve_on_system(&rt, alloc, plans, &conf, &mut out, errors).unwrap_or(
                 ExitStatus::NoMemory.code(),
             )
         }

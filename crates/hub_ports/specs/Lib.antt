@@ -3,3 +3,4 @@ pub mod Lines
 pub mod News
 pub mod Opened
 pub mod Pacing
+pub mod SystemPorts

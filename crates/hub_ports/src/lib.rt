@@ -3,15 +3,18 @@
 //!
 //! [`open_port`] opens the port of a feed by its kind ([`SystemPort`]), [`open_ports`] those of all feeds; [`listen`]
 //! binds the listener, [`doors_of`] and [`clocks_of`] make what readers need. What can't be had is told on standard
-//! error, one line each, and so is the address at which readers are answered (`specs/Lines`). The server goes on without what can't be had, since a port without a connection fails when it is asked, and so does a
-//! door without a listener. Nothing connects before it is asked for its first message, so by the thread that asks: a
-//! stream by a [`Connection`], which tells on standard error where there is none, and a feed that is polled by a
-//! [`TcpDial`]. What becomes of a feed while a server runs, its port tells there by a [`ToldPort`] around it: that it
-//! has ended, that it has failed, that it has sent a message that is too long, each once; and that messages are
-//! refused, once a minute at most ([`Refusals`], each by a [`Pace`]).
+//! error, one line each, and so is the address at which readers are answered (`specs/Lines`). The server goes on without
+//! what can't be had, since a port without a connection fails when it is asked, and so does a door without a listener.
+//! Nothing connects before it is asked for its first message, so by the thread that asks: a stream by a [`Connection`],
+//! which tells on standard error where there is none, and a feed that is polled by a [`TcpDial`].
 //!
-//! What the contracts say: each port is of its feed's kind (`specs/Opened`), there are as many ports as feeds, and as
-//! many doors and clocks as are asked for. What the system itself does, no contract knows.
+//! What becomes of a feed while a server runs, its port tells there by a [`ToldPort`] around it: that it has ended, that
+//! it has failed, that it has sent a message that is too long, each once; and that messages are refused. Why polls fail
+//! tell the [`TcpDial`] and a [`PollTeller`], and why connections can't be accepted the listener ([`ToldListener`]).
+//! What happens again and again is told once a minute at most ([`Refusals`], each by a [`Pace`]).
+//!
+//! What the contracts say: the port of each feed is of its kind and at its place (`specs/Opened`), and there are as many
+//! doors and clocks as are asked for. What the system itself does, no contract knows.
 //!
 //! It stands on `hub_config_defs` for the configuration, on `feed_port` and `poll_port` for ports, on `hub_core` for why
 //! a message is refused, and on `hub_outside` for files, doors, clocks and lines.

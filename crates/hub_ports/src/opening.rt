@@ -5,6 +5,7 @@ ghost use Rattle.std.specs.List.{list_all, position_or_len};
 ghost use Rattle.hub_config_defs.specs.Right.{has_numbers};
 ghost use Rattle.hub_config_defs.specs.Values.{host_length, host_of, path_of};
 ghost use Rattle.hub_ports.specs.Opened.{IsPortOf, IsPollingPortOf};
+ghost use Rattle.hub_ports.specs.SystemPorts.{system_ahead, system_faults, ArePortsOf};
 
 use crate::NoMemory;
 use crate::connection::Connection;
@@ -12,9 +13,9 @@ use crate::dialing::TcpDial;
 use crate::poll_teller::PollTeller;
 use crate::told::ToldPort;
 use copying::Copied;
-use feed_port::{FeedPort, MemoryPort, SpoolPort, StreamPort};
+use feed_port::{FeedPort, MemoryPort, PortAnswer, SpoolPort, StreamPort};
 use hub_config_defs::{FeedConf, PortKind};
-use hub_outside::{StdFiles, StdSource};
+use hub_outside::{Buf, StdFiles, StdSource};
 use poll_port::PollPort;
 use std::alloc::Global;
 use std::io::Write;
@@ -35,29 +36,47 @@ pub enum SystemPort<R, E> {
     Poll(PollPort<TcpDial<R, E>, PollTeller<R, E>>),
 }
 
-/// A port for each feed, in their order, as `boxed` hands it on. What becomes of each is told on `errors`. Their
-/// numbers are in the ranges of a configuration.
-pub fn open_ports<R, P, F, E>(
-    rt: &R,
-    alloc: Global,
-    feeds: &[FeedConf],
-    boxed: &F,
-    errors: E,
-) -> Result<Vec<ToldPort<R, P, E>>, NoMemory>
+impl<R, E> FeedPort for SystemPort<R, E>
 where
     R: rt::Files + rt::Clock + Net<Listener = TcpListener, Stream = TcpStream> + Send + Copy,
     R::File: Send,
     R::Dir: Send,
-    P: FeedPort,
-    F: Fn(SystemPort<R, E>) -> Result<P, NoMemory>,
     E: Write + Send + Copy,
-    requires boxed { F.IsAlwaysCallable boxed.now }
+{
+    ghost ahead = { system_ahead };
+
+    ghost faults = { system_faults };
+
+    fn next(&mut self, into: &mut Buf) -> PortAnswer {
+        match self {
+            SystemPort::Nothing(port) => port.next(into),
+            SystemPort::Spool(port) => port.next(into),
+            SystemPort::Stream(port) => port.next(into),
+            SystemPort::Poll(port) => port.next(into),
+        }
+    }
+}
+
+/// The port of each feed, in their order. What becomes of each is told on `errors`. Their numbers are in the ranges of a
+/// configuration.
+pub fn open_ports<R, E>(
+    rt: &R,
+    alloc: Global,
+    feeds: &[FeedConf],
+    errors: E,
+) -> Result<Vec<ToldPort<R, SystemPort<R, E>, E>>, NoMemory>
+where
+    R: rt::Files + rt::Clock + Net<Listener = TcpListener, Stream = TcpStream> + Send + Copy,
+    R::File: Send,
+    R::Dir: Send,
+    E: Write + Send + Copy,
     requires numbers { list_all has_numbers feeds.now ≡ true }
-    ensures { IfOk result (λ ports. vec_len ports ≡ length feeds.now) }
+    ensures count { IfOk result (λ ports. vec_len ports ≡ length feeds.now) }
+    ensures each { IfOk result (λ ports. ArePortsOf feeds.now ports.items) }
 {
     let mut ports = Vec::with_capacity(alloc, feeds.len())?;
     for feed in feeds {
-        let port = boxed(open_port(rt, alloc, feed, errors)?)?;
+        let port = open_port(rt, alloc, feed, errors)?;
         ports.push(ToldPort::new(*rt, alloc, port, feed, errors)?)?;
     }
     Ok(ports)

@@ -1,7 +1,7 @@
 //! A running hub on the outside of a system.
 //!
 //! [`serve_on_system`] opens what a running hub needs, by the configuration, and hands it to
-//! `hub_serve::run_serve`: a port for each feed ([`SystemPort`]), a listener that all doors share, and a
+//! `hub_serve::run_serve`: a port for each feed, a listener that all doors share, and a
 //! door and a clock for each reader. Standard error has the lines of `hub_ports`, which nobody waits for
 //! where it is [`Unblocked`].
 //!
@@ -12,6 +12,6 @@
 
 mod server;
 
-pub use hub_ports::{SystemPort, Unblocked};
+pub use hub_ports::Unblocked;
 pub use server::serve_on_system;
 pub use std::alloc::AllocError as NoMemory;

@@ -5,10 +5,9 @@ ghost use Rattle.std.specs.Arc.{arc_value};
 ghost use Rattle.hub_config_defs.specs.Right.{IsLegal};
 
 use crate::NoMemory;
-use feed_port::FeedPort;
 use hub_config_defs::HubConf;
 use hub_outside::{OpenGate, Sink};
-use hub_ports::{HeldNumbers, SystemPort, clocks_of, doors_of, listen, open_ports};
+use hub_ports::{HeldNumbers, clocks_of, doors_of, listen, open_ports};
 use hub_serve::run_serve;
 use sched_types::Plans;
 use std::alloc::Global;
@@ -19,17 +18,16 @@ use std::sync::{Arc, Wait};
 use std::thread::Threads;
 
 /// Opens what the configuration names, and runs a hub on these timetables until all its ports and doors
-/// have ended: gives the exit status of [`run_serve`], or want of memory for what it opens. `boxed`
-/// hands on the port of a feed, in a form that is one type for all kinds. `out` gets the lines at the
-/// end of the run, and `errors` those of `hub_ports`; several threads write to it, a whole line at once.
+/// have ended: gives the exit status of [`run_serve`], or want of memory for what it opens. `out` gets the
+/// lines at the end of the run, and `errors` those of `hub_ports`; several threads write to it, a whole
+/// line at once.
 /// Nothing that is opened is taken for standard input, output or error, also where the program was
 /// started without them.
-pub fn serve_on_system<R, P, F, K, E>(
+pub fn serve_on_system<R, K, E>(
     rt: &R,
     alloc: Global,
     plans: Arc<Plans>,
     conf: &HubConf,
-    boxed: &F,
     out: &mut K,
     errors: E,
 ) -> Result<u8, NoMemory>
@@ -44,16 +42,13 @@ where
         + Copy,
     R::File: Send,
     R::Dir: Send,
-    P: FeedPort + Send,
-    F: Fn(SystemPort<R, E>) -> Result<P, NoMemory>,
     K: Sink,
     E: Write + Send + Copy,
-    requires boxed { F.IsAlwaysCallable boxed.now }
     requires feeds { length (arc_value plans).feeds ≡ length conf.now.feeds }
     requires legal { IsLegal conf.now }
 {
     let _held = HeldNumbers::hold(rt);
-    let mut ports = open_ports(rt, alloc, conf.feeds.as_slice(), boxed, errors)?;
+    let mut ports = open_ports(rt, alloc, conf.feeds.as_slice(), errors)?;
     let readers = conf.readers;
     // The doors alone keep the listener, so that it is closed once all of them have let it go.
     let mut doors = {

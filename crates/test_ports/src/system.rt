@@ -6,13 +6,13 @@ use feed_port::{FeedPort, LONGEST_MESSAGE, MemoryPort, PortAnswer, StreamPort};
 use hub_config_defs::{FeedConf, PortKind};
 use hub_core::Refusal;
 use hub_outside::{Buf, Door, DoorAnswer, MemorySource, NoMemory};
-use hub_ports::{SystemPort, ToldPort, Unblocked, doors_of, listen, open_port};
+use hub_ports::{ToldPort, Unblocked, doors_of, listen, open_port};
 use rt_types::Text;
 use std::alloc::Global;
 use std::io::{ErrorKind, Read, Write};
 use std::net::{Net, OpenListener, TcpListener, TcpStream};
 use std::test::Fail;
-use std::{io, rt, thread};
+use std::{io, thread};
 
 /// A feed `b` of that kind, with messages from that place.
 fn feed(alloc: Global, kind: PortKind, place: &str) -> Result<FeedConf, NoMemory>
@@ -59,25 +59,6 @@ pub(crate) fn told(alloc: Global, errors: (TcpStream, TcpStream)) -> Result<Stri
     Ok(io::read_to_string(alloc, read)?)
 }
 
-/// What the first two asks of a feed's port come to, whatever its kind.
-fn two_asks_of<R, E>(
-    alloc: Global,
-    port: SystemPort<R, E>,
-) -> Result<(PortAnswer, PortAnswer), NoMemory>
-where
-    E: Write + Send + Copy,
-    R: rt::Files + rt::Clock + Net<Listener = TcpListener, Stream = TcpStream> + Send + Copy,
-    R::File: Send,
-    R::Dir: Send,
-{
-    match port {
-        SystemPort::Nothing(mut port) => two_asks(alloc, &mut port),
-        SystemPort::Spool(mut port) => two_asks(alloc, &mut port),
-        SystemPort::Stream(mut port) => two_asks(alloc, &mut port),
-        SystemPort::Poll(mut port) => two_asks(alloc, &mut port),
-    }
-}
-
 /// What the first two asks of a feed of that kind come to, whose port is opened here.
 fn opened(
     rt: &HostRuntime,
@@ -86,8 +67,8 @@ fn opened(
 ) -> Result<(PortAnswer, PortAnswer), NoMemory> {
     let alloc = rt.alloc();
     let feed = feed(alloc, kind, place)?;
-    let port = open_port(rt, alloc, &feed, rt.stderr())?;
-    two_asks_of(alloc, port)
+    let mut port = open_port(rt, alloc, &feed, rt.stderr())?;
+    two_asks(alloc, &mut port)
 }
 
 #[test]
@@ -104,11 +85,11 @@ fn a_stream_gives_what_is_sent(rt: HostRuntime) -> Result<(), Fail> {
     let listener = TcpListener::bind(&rt, "127.0.0.1:0")?;
     let place = format!(in alloc; "{}", listener.local_addr()?)?;
     let feed = feed(alloc, PortKind::Stream, place.as_str())?;
-    let port = open_port(&rt, alloc, &feed, rt.stderr())?;
+    let mut port = open_port(&rt, alloc, &feed, rt.stderr())?;
     let Ok(sender) = thread::spawn(&rt, move || send(&listener, &[0, 0, 0, 2, 7, 8])) else {
         return Err(Fail::from(io::Error::from(ErrorKind::OutOfMemory)));
     };
-    let asked = two_asks_of(alloc, port)?;
+    let asked = two_asks(alloc, &mut port)?;
     assert!(rt; sender.join(&rt).is_ok());
     assert_eq!(rt; asked, (PortAnswer::Message, PortAnswer::End));
     Ok(())
@@ -129,8 +110,8 @@ fn told_of(
     let alloc = rt.alloc();
     let errors = errors_beside(rt)?;
     let feed = feed(alloc, kind, place)?;
-    let port = open_port(rt, alloc, &feed, &errors.0)?;
-    let asked = two_asks_of(alloc, port)?;
+    let mut port = open_port(rt, alloc, &feed, &errors.0)?;
+    let asked = two_asks(alloc, &mut port)?;
     Ok((asked, told(alloc, errors)?))
 }
 
