@@ -11,7 +11,7 @@ use Rattle.hub_shared.specs.declared.report.PortEnd.{PortEnd}
 use Rattle.hub_shared.specs.declared.report.PortEnd.TheVariants.{Ended, PortFault, Spent, NoMemory}
 use Rattle.hub_shared.specs.declared.report.Tally.{Tally}
 use Rattle.hub_shared.specs.Seats.{SeatSeen, history_at, Begins}
-use Rattle.hub_shared.specs.Feeding.{Given, IsFit, Sorts, Goes, Stops, StopsAs, AreFirst, AreAll, EndsAs, Ingests, Asks, newer_of, last_after, bytes_of, judged_of, most_answers, tally_of, total}
+use Rattle.hub_shared.specs.Feeding.{Given, IsFit, IsOfBytes, Sorts, Goes, Stops, StopsAs, AreFirst, AreAll, EndsAs, Ingests, Asks, newer_of, last_after, bytes_of, judged_of, most_answers, tally_of, total}
 use Rattle.hub_shared.proofs.Fronts.{begins_append}
 
 -- what was handed in first, and then
@@ -63,6 +63,7 @@ sorts_none seat = record {
   accepted = refl;
   starved = refl;
   fit = All-nil IsFit;
+  of_bytes = All-nil IsOfBytes;
   too_long = refl;
   all = refl;
 }

@@ -1,5 +1,7 @@
 -- Histories that begin with one another, and what they have of a feed.
-use Rattle.std.proofs.Common.{◌≡◌, ℕ, zero, suc, ◌+◌, ◌<◌, ◌≤◌, List, [], ◌∷◌, ◌++◌, length, take, refl, sym, ap, ◌∙◌, subst, arith, append-nil, length-append}
+use Rattle.std.proofs.Common.{◌≡◌, ℕ, zero, suc, ◌+◌, ◌<◌, ◌≤◌, List, [], ◌∷◌, ◌++◌, ◌-◌, length, take, Option, Some, refl, sym, ap, ◌∙◌, subst, arith, append-nil, length-append}
+use Rattle.std.specs.Prelude.{slice_get}
+use Rattle.std.specs.Option.{option_map}
 use mathlib.Core.List.{IsPrefix}
 use Rattle.rt_types.specs.declared.message.FeedMessage.{FeedMessage}
 use Rattle.feed_defs.specs.declared.history.Entry.{Entry}
@@ -8,7 +10,7 @@ use Rattle.hub_history.specs.declared.item.LogItem.{LogItem}
 use Rattle.hub_history.specs.Log.{entries_of}
 use Rattle.hub_history.proofs.Logs.{entries_append}
 use Rattle.std.proofs.lemmas.List.Elements.{filter_map-append}
-use Rattle.hub_shared.specs.Seats.{Begins, count_of}
+use Rattle.hub_shared.specs.Seats.{Begins, count_of, last_feed}
 
 pub begins_append : (xs ys : List Entry) → Begins xs (xs ++ ys)
 begins_append [] ys = refl
@@ -51,3 +53,15 @@ level feed old new begins few =
     let both : messages_of feed new ≡ messages_of feed old ++ messages_of feed t.0 = ap (messages_of feed) t.1 ∙ messages_append feed old t.0 in
     let none : messages_of feed t.0 ≡ [] = none_left (messages_of feed t.0) (omega (arith, ap length both, length-append (messages_of feed old) (messages_of feed t.0), few)) in
     both ∙ ap (λ (ms : List FeedMessage). messages_of feed old ++ ms) none ∙ append-nil (messages_of feed old)
+
+last_of_more : (xs : List Entry) (x : Entry) → slice_get (xs ++ x ∷ []) (length (xs ++ x ∷ []) - 1) ≡ Some x
+last_of_more xs x = let e : length (xs ++ x ∷ []) - 1 ≡ length xs = omega (arith, length-append xs (x ∷ [])) in
+    ap (slice_get (xs ++ x ∷ [])) e ∙ at xs
+  where
+    at : (ys : List Entry) → slice_get (ys ++ x ∷ []) (length ys) ≡ Some x
+    at [] = refl
+    at (y ∷ ys) = at ys
+
+-- a history with one message more ends with it
+pub last_feed_more : (h : List Entry) (entry : Entry) → last_feed (h ++ entry ∷ []) ≡ Some entry.feed
+last_feed_more h entry = ap (λ (o : Option Entry). option_map (λ e. e.feed) o) (last_of_more h entry)

@@ -6,6 +6,7 @@ use Rattle.std.proofs.lemmas.Bool.Decides.{nat_tests}
 use Rattle.std.proofs.lemmas.List.{map-append}
 use Rattle.std.proofs.lemmas.List.Elements.{All-nil, All-cons, All-append, filter-append}
 use Rattle.answer_defs.specs.Defined.{IsCause}
+use Rattle.pb_wire_defs.specs.Spelling.{AreBytes}
 use Rattle.rt_types.specs.declared.message.FeedMessage.{FeedMessage}
 use Rattle.feed_defs.specs.declared.history.Entry.{Entry}
 use Rattle.feed_defs.specs.History.{Refusal, judgement_of, well_formed, longest_message, messages_of, stamp_of}
@@ -14,7 +15,7 @@ use Rattle.hub_history.specs.Told.{Told, history_of}
 use Rattle.hub_shared.specs.declared.report.Tally.{Tally}
 use Rattle.hub_shared.specs.Seats.{SeatSeen, history_at, Begins}
 use Rattle.hub_shared.specs.Calls.{Accepts, Takes}
-use Rattle.hub_shared.specs.Feeding.{Given, IsFit, Sorts, SortsMore, newer_by, newer_of, last_after, exceeds, bytes_of, judged_of, count_by, counted, tally_of, total}
+use Rattle.hub_shared.specs.Feeding.{Given, IsFit, IsOfBytes, Sorts, SortsMore, newer_by, newer_of, last_after, exceeds, bytes_of, judged_of, count_by, counted, tally_of, total}
 use Rattle.hub_shared.proofs.Fronts.{begins_append, begins_trans}
 
 -- ---- what is accepted of one more
@@ -80,6 +81,9 @@ module _ (first old new : SeatSeen) (given : List Given) (bytes : List ℕ) (tal
   fit_with : (starved : Bool) → IsFit (record { bytes = bytes; starved = starved }) → All IsFit (with_one starved)
   fit_with starved is = All-append IsFit given (record { bytes = bytes; starved = starved } ∷ []) s.fit (All-cons IsFit (record { bytes = bytes; starved = starved }) [] is (All-nil IsFit))
 
+  bytes_with : (starved : Bool) → IsOfBytes (record { bytes = bytes; starved = starved }) → All IsOfBytes (with_one starved)
+  bytes_with starved are = All-append IsOfBytes given (record { bytes = bytes; starved = starved } ∷ []) s.of_bytes (All-cons IsOfBytes (record { bytes = bytes; starved = starved }) [] are (All-nil IsOfBytes))
+
   length_with : (starved : Bool) → length (with_one starved) ≡ length given + 1
   length_with starved = length-append given (record { bytes = bytes; starved = starved } ∷ [])
 
@@ -87,8 +91,8 @@ module _ (first old new : SeatSeen) (given : List Given) (bytes : List ℕ) (tal
   newer_with = ap (newer_of first.last) (judged_push given bytes) ∙ newer_push first.last (judged_of given) bytes ∙ ap (λ last. accepted_so_far ++ newer_of last (bytes ∷ [])) (sym s.last)
 
   -- it was accepted
-  pub accepts : length bytes ≤ longest_message → (receipt : Told) → Accepts bytes old new receipt → Sorts first new (with_one false) (record tally { accepted = tally.accepted + 1 })
-  accepts few receipt a = record {
+  pub accepts : length bytes ≤ longest_message → AreBytes bytes → (receipt : Told) → Accepts bytes old new receipt → Sorts first new (with_one false) (record tally { accepted = tally.accepted + 1 })
+  accepts few are receipt a = record {
     messages = ap (messages_of first.feed) history
         ∙ ap (λ feed. messages_of feed (history_of receipt)) (sym s.feed)
         ∙ a.taken.own
@@ -107,6 +111,7 @@ module _ (first old new : SeatSeen) (given : List Given) (bytes : List ℕ) (tal
     accepted = omega (arith, s.accepted, ap length newer, length-append accepted_so_far (a.message ∷ []));
     starved = omega (arith, s.starved, count_push (λ one. one.starved) given (record { bytes = bytes; starved = false }) false refl);
     fit = fit_with false (λ e. few);
+    of_bytes = bytes_with false (λ e. are);
     too_long = omega (arith, s.too_long, count_push exceeds given (record { bytes = bytes; starved = false }) false (fits bytes false few));
     all = omega (arith, s.all, length_with false);
   } where
@@ -119,9 +124,9 @@ module _ (first old new : SeatSeen) (given : List Given) (bytes : List ℕ) (tal
   -- it was not, and the seat is as it was
   module _ (same : new ≡ old) (starved : Bool) (newer : newer_of first.last (judged_of (with_one starved)) ≡ accepted_so_far) where
     pub leaves : (tally' : Tally) → tally'.accepted ≡ tally.accepted → tally'.starved ≡ tally.starved + (if starved then 1 else 0)
-        → (starved ≡ true → length bytes ≤ longest_message) → tally'.too_long ≡ count_by exceeds (with_one starved) → total tally' ≡ total tally + 1
+        → (starved ≡ true → length bytes ≤ longest_message) → IsOfBytes (record { bytes = bytes; starved = starved }) → tally'.too_long ≡ count_by exceeds (with_one starved) → total tally' ≡ total tally + 1
         → Sorts first new (with_one starved) tally'
-    leaves tally' accepted_is starved_is fit_is too_long_is total_is = record {
+    leaves tally' accepted_is starved_is fit_is bytes_are too_long_is total_is = record {
       messages = ap (λ seat. messages_of first.feed (history_at seat.receipt)) same ∙ s.messages ∙ ap (λ ms. messages_of first.feed (history_at first.receipt) ++ ms) (sym newer);
       begins = subst (λ seat. Begins (history_at first.receipt) (history_at seat.receipt)) (sym same) s.begins;
       hub = ap (λ seat. seat.ties) same ∙ s.hub;
@@ -131,26 +136,27 @@ module _ (first old new : SeatSeen) (given : List Given) (bytes : List ℕ) (tal
       accepted = accepted_is ∙ s.accepted ∙ ap length (sym newer);
       starved = starved_is ∙ ap (λ n. n + (if starved then 1 else 0)) s.starved ∙ sym (count_push (λ one. one.starved) given (record { bytes = bytes; starved = starved }) starved refl);
       fit = fit_with starved fit_is;
+      of_bytes = bytes_with starved bytes_are;
       too_long = too_long_is;
       all = total_is ∙ ap (λ n. n + 1) s.all ∙ sym (length_with starved);
     }
 
   -- it was refused
-  pub refuses : length bytes ≤ longest_message → new ≡ old → (cause : Refusal) → judgement_of old.last bytes ≡ Err cause → Sorts first new (with_one false) (counted (Some cause) tally)
-  refuses few same cause is = leaves same false (newer_with ∙ ap (λ ms. accepted_so_far ++ ms) (newer_none old.last bytes cause is) ∙ append-nil accepted_so_far)
-      (counted (Some cause) tally) refl (omega arith) (λ e. few) (omega (arith, s.too_long, count_push exceeds given (record { bytes = bytes; starved = false }) false (fits bytes false few))) (omega arith)
+  pub refuses : length bytes ≤ longest_message → AreBytes bytes → new ≡ old → (cause : Refusal) → judgement_of old.last bytes ≡ Err cause → Sorts first new (with_one false) (counted (Some cause) tally)
+  refuses few are same cause is = leaves same false (newer_with ∙ ap (λ ms. accepted_so_far ++ ms) (newer_none old.last bytes cause is) ∙ append-nil accepted_so_far)
+      (counted (Some cause) tally) refl (omega arith) (λ e. few) (λ e. are) (omega (arith, s.too_long, count_push exceeds given (record { bytes = bytes; starved = false }) false (fits bytes false few))) (omega arith)
 
   -- memory was wanting for it
-  pub starves : length bytes ≤ longest_message → new ≡ old → Sorts first new (with_one true) (counted None tally)
-  starves few same = leaves same true (ap (newer_of first.last) (judged_same given bytes)) (counted None tally) refl refl (λ e. few)
+  pub starves : length bytes ≤ longest_message → AreBytes bytes → new ≡ old → Sorts first new (with_one true) (counted None tally)
+  starves few are same = leaves same true (ap (newer_of first.last) (judged_same given bytes)) (counted None tally) refl refl (λ e. few) (λ e. are)
       (omega (arith, s.too_long, count_push exceeds given (record { bytes = bytes; starved = true }) false (fits bytes true few))) (omega arith)
 
   -- it was too long to be handed in
   pub exceeds_limit : longest_message < length bytes → new ≡ old → Sorts first new (with_one false) (record tally { too_long = tally.too_long + 1 })
   exceeds_limit many same = leaves same false (newer_with ∙ ap (λ ms. accepted_so_far ++ ms) (newer_none old.last bytes (TooLong (length bytes)) (too_long old.last bytes many)) ∙ append-nil accepted_so_far)
-      (record tally { too_long = tally.too_long + 1 }) refl (omega arith) (λ e. absurd (cc)) (omega (arith, s.too_long, count_push exceeds given (record { bytes = bytes; starved = false }) true (is_long bytes false many))) (omega arith)
+      (record tally { too_long = tally.too_long + 1 }) refl (omega arith) (λ e. absurd (cc)) (λ e. let long = is_long bytes false many in cc) (omega (arith, s.too_long, count_push exceeds given (record { bytes = bytes; starved = false }) true (is_long bytes false many))) (omega arith)
 
   -- it was refused, or memory was wanting for it
-  pub not_accepted : length bytes ≤ longest_message → new ≡ old → (o : Option Refusal) → IsCause (judgement_of old.last bytes) o → (tally' : Tally) → tally' ≡ counted o tally → SortsMore first new given bytes tally'
-  not_accepted few same None is tally' are = record { starved = true; sorts = subst (λ (t : Tally). Sorts first new (with_one true) t) (sym are) (starves few same) }
-  not_accepted few same (Some cause) is tally' are = record { starved = false; sorts = subst (λ (t : Tally). Sorts first new (with_one false) t) (sym are) (refuses few same cause is) }
+  pub not_accepted : length bytes ≤ longest_message → AreBytes bytes → new ≡ old → (o : Option Refusal) → IsCause (judgement_of old.last bytes) o → (tally' : Tally) → tally' ≡ counted o tally → SortsMore first new given bytes tally'
+  not_accepted few are same None is tally' is_now = record { starved = true; sorts = subst (λ (t : Tally). Sorts first new (with_one true) t) (sym is_now) (starves few are same) }
+  not_accepted few are same (Some cause) is tally' is_now = record { starved = false; sorts = subst (λ (t : Tally). Sorts first new (with_one false) t) (sym is_now) (refuses few are same cause is) }

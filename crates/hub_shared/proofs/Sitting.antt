@@ -90,6 +90,7 @@ module _ (key : KeySeen) (pass : PassSeen) (feed accepted last : ℕ) (receipt :
         some = newest.some;
         begins = begins_trans (history_of told) (history_of pass.line) (history_of new) newest.begins (prefix_begins pass.line.log new.log pre);
         counted = newest.counted;
+        ends = newest.ends;
         legal = newest.legal;
       }
 
@@ -112,6 +113,7 @@ module _ (key : KeySeen) (pass : PassSeen) (feed accepted last : ℕ) (receipt :
           record {
             hub = record { book = newest.hub.book ∙ sym book; feeds = feeds };
             some = newest.some;
+            ends = newest.ends;
             legal = subst (λ (n : ℕ). IsLegal n (history_of t)) feeds newest.legal;
           }
 

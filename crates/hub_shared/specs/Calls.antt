@@ -9,7 +9,7 @@ use Rattle.hub_core.specs.declared.refusal.Refusal.{Refusal}
 use Rattle.hub_core.specs.Answers.{cause_of}
 use Rattle.hub_history.specs.Told.{Told, history_of}
 use Rattle.snapshot_cell.specs.Seen.{PassSeen}
-use Rattle.hub_shared.specs.Seats.{Ties, IsOf, SeatSeen, history_at, count_of, Begins}
+use Rattle.hub_shared.specs.Seats.{Ties, IsOf, SeatSeen, history_at, count_of, last_feed, Begins}
 
 -- a pass of a hub that accepted nothing
 pub record IsFresh (hub : Ties) (pass : PassSeen) : Type 0 where
@@ -20,10 +20,11 @@ pub record IsFresh (hub : Ties) (pass : PassSeen) : Type 0 where
 
 -- ---- seats
 
--- what a receipt says of its feed
+-- what a receipt says of its feed, whose message is the last of its history
 pub record Receives (seat : SeatSeen) (told : Told) : Type 0 where
   pub hub : IsOf told seat.ties
   pub some : 0 < seat.accepted
+  pub ends : last_feed (history_of told) ≡ Some seat.feed
   pub legal : IsLegal (length seat.ties.plans.feeds) (history_of told)
 
 -- it is there exactly where some message was accepted

@@ -1,6 +1,7 @@
 -- What becomes of the messages that a port hands in, one after another.
 use Rattle.std.specs.Prelude.{◌≡◌, ℕ, ◌+◌, ◌<◌, ◌≤◌, not, Bool, true, false, nat_lt, List, [], ◌∷◌, ◌++◌, length, map, filter, Option, Some, None, Result, Ok, Err}
 use Rattle.std.specs.List.{All}
+use Rattle.pb_wire_defs.specs.Spelling.{AreBytes}
 use Rattle.rt_types.specs.declared.message.FeedMessage.{FeedMessage}
 use Rattle.feed_defs.specs.History.{Refusal, judgement_of, longest_message, messages_of, stamp_of}
 use Rattle.hub_outside.specs.Count.{Rose}
@@ -55,6 +56,10 @@ judged_of given = bytes_of (filter (λ one. not one.starved) given)
 abbrev pub IsFit : Given → Type 0
 IsFit one = one.starved ≡ true → length one.bytes ≤ longest_message
 
+-- what may be a message are bytes
+abbrev pub IsOfBytes : Given → Type 0
+IsOfBytes one = exceeds one ≡ false → AreBytes one.bytes
+
 abbrev pub count_by : (Given → Bool) → List Given → ℕ
 count_by test given = length (filter test given)
 
@@ -90,6 +95,7 @@ pub record Sorts (old new : SeatSeen) (given : List Given) (tally : Tally) : Typ
   pub accepted : tally.accepted ≡ length (newer_of old.last (judged_of given))
   pub starved : tally.starved ≡ count_by (λ one. one.starved) given
   pub fit : All IsFit given
+  pub of_bytes : All IsOfBytes given
   pub too_long : tally.too_long ≡ count_by exceeds given
   pub all : total tally ≡ length given
 

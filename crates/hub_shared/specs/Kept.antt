@@ -5,7 +5,7 @@ use Rattle.board_defs.specs.Views.{HubKept, StandsFor}
 use Rattle.feed_permits.specs.Seen.{DeskSeen, KeySeen}
 use Rattle.hub_history.specs.Told.{Told, history_of, AreOne}
 use Rattle.snapshot_cell.specs.Seen.{PassSeen, Publishing}
-use Rattle.hub_shared.specs.Seats.{history_at, count_of, Begins}
+use Rattle.hub_shared.specs.Seats.{history_at, count_of, last_feed, Begins}
 
 -- Under the lock: the core's view stands for the history that was published, which is legal, and has
 -- the timetables of the first view; and the desk's count of each feed is how many messages of it
@@ -19,13 +19,14 @@ pub record IsLocked (core : HubKept) (publisher : Publishing) (desk : DeskSeen) 
   pub counts : (feed : ℕ) → feed < 64
       → slice_index desk.counts feed ≡ count_of feed (history_of publisher.line)
 
--- what a receipt of a feed knows begins what is known of the same hub, and has all of the feed's
--- accepted messages
+-- what a receipt of a feed knows begins what is known of the same hub, ends with a message of the
+-- feed, and has all of the feed's accepted messages
 pub record IsNewest (line : Told) (feed accepted : ℕ) (told : Told) : Type 0 where
   pub hub : AreOne told line
   pub some : 0 < accepted
   pub begins : Begins (history_of told) (history_of line)
   pub counted : count_of feed (history_of told) ≡ accepted
+  pub ends : last_feed (history_of told) ≡ Some feed
   pub legal : IsLegal told.feeds (history_of told)
 
 -- the newest receipt is such a one, or nothing was accepted

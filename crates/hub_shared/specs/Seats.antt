@@ -1,6 +1,7 @@
 -- A hub and its seats as their callers see them.
-use Rattle.std.specs.Prelude.{◌≡◌, ℕ, List, [], length, take, map, Option, Some, None}
+use Rattle.std.specs.Prelude.{◌≡◌, ℕ, ◌-◌, List, [], length, slice_get, take, map, Option, Some, None}
 use Rattle.std.specs.List.{range_with_len}
+use Rattle.std.specs.Option.{option_map}
 use Rattle.logbook.specs.Pages.{Book}
 use Rattle.atomic_table.specs.Seated.{TableId}
 use Rattle.feed_defs.specs.declared.history.Entry.{Entry}
@@ -32,6 +33,10 @@ pub record SeatSeen : Type 0 where
 abbrev pub history_at : Option Told → List Entry
 history_at None = []
 history_at (Some told) = history_of told
+
+-- the feed of a history's last message
+abbrev pub last_feed : List Entry → Option ℕ
+last_feed history = option_map (λ entry. entry.feed) (slice_get history (length history - 1))
 
 -- how many messages of a feed there are
 abbrev pub count_of : ℕ → List Entry → ℕ

@@ -4,7 +4,7 @@ ghost use Rattle.std.specs.Prelude.{◌≡◌, ℕ, ◌+◌, ◌<◌, ◌≤◌,
 ghost use Rattle.feed_defs.specs.History.{IsLegal, messages_of, last_stamp};
 ghost use Rattle.feed_permits.specs.Seen.{fresh_key};
 ghost use Rattle.hub_history.specs.Told.{history_of};
-ghost use Rattle.hub_shared.specs.Seats.{IsOf, Begins, history_at, count_of, fresh_seat};
+ghost use Rattle.hub_shared.specs.Seats.{IsOf, Begins, history_at, count_of, fresh_seat, last_feed};
 ghost use Rattle.hub_shared.specs.Calls.{IsSound};
 
 use feed_permits::{Desk, Key};
@@ -136,6 +136,7 @@ impl FeedSeat {
         requires more { count_of self.old.feed (history_of publisher.old.line)
             ≡ self.old.accepted + 1 }
         requires last { last_stamp self.old.feed (history_of publisher.old.line) ≡ stamp }
+        requires ends { last_feed (history_of publisher.old.line) ≡ Some self.old.feed }
         requires legal { IsLegal publisher.old.line.feeds (history_of publisher.old.line) }
         ensures seat { self.new ≡ record self.old {
           accepted = self.old.accepted + 1;

@@ -9,7 +9,8 @@ use Rattle.board_defs.specs.Views.{HubKept, StandsFor, feed_at}
 use Rattle.feed_permits.specs.Seen.{DeskSeen}
 use Rattle.hub_history.specs.Told.{Told, history_of}
 use Rattle.snapshot_cell.specs.Seen.{Publishing}
-use Rattle.hub_shared.specs.Seats.{Ties, SeatSeen, count_of}
+use Rattle.hub_shared.specs.Seats.{Ties, SeatSeen, count_of, last_feed}
+use Rattle.hub_shared.proofs.Fronts.{last_feed_more}
 use Rattle.hub_shared.proofs.Taking.{newer_at, legal_at, room, more, last_more, locked_more, takes, legal_moved, stands_moved, grown_moved}
 use Rattle.hub_shared.proofs.locked.Locked.take_in.Goals as goal
 
@@ -80,6 +81,17 @@ count-requires-clause-last g c =
     ∙ ap (λ (h : List Entry). last_stamp seat.feed h) history
     ∙ last_more l.core l.publisher l.desk c.self.invariant seat.feed seat.accepted seat.last one c.level.ensures.counted c.level.ensures.last c.args.message c.requires.sound c.requires.newer
     ∙ stamp
+
+pub count-requires-clause-ends : goal.count-requires-clause-ends
+count-requires-clause-ends g c =
+    let l = c.self.inside in let seat = c.args.seat.now in
+    let feed_is : c.feed-feed.result ≡ seat.feed = c.feed-feed.ensures ∙ ap (λ (s : SeatSeen). s.feed) c.level.ensures.seat in
+    let history : history_of c.publish.new.publisher.line ≡ grown (history_of l.publisher.line) seat.feed c.args.message =
+    ap (λ (t : Told). history_of t) c.in_ok-receipt.ensures.published ∙ c.in_ok-receipt.ensures.history
+    ∙ grown_moved l.publisher c.level.new.publisher seat.feed c.feed-feed.result c.args.message c.of-noted.result.value c.level.ensures.publisher feed_is c.of-noted.ensures in
+    ap (λ (h : List Entry). last_feed h) history
+    ∙ last_feed_more (history_of l.publisher.line) (record { feed = seat.feed; message = c.args.message })
+    ∙ sym (ap (λ (s : SeatSeen). Some s.feed) c.level.ensures.seat)
 
 pub invariant_of-self-2 : goal.invariant_of-self-2
 invariant_of-self-2 g c =
