@@ -12,16 +12,20 @@ use std::test::Fail;
 use std::time::Duration;
 use std::{io, rt};
 
-/// A clock that shows the moment that is set, and makes no pauses. Who has it may wait where `R` may.
-#[derive(Clone, Copy)]
-struct SetClock<'a, R> {
+/// A clock that shows these moments, one a reading, and then the start. Who has it may wait where `R` may.
+#[derive(Drop)]
+struct Moments<R> {
     system: R,
-    seconds: &'a Cell<u64>,
+    moments: Vec<u64>,
+    readings: Cell<usize>,
 }
 
-impl<'a, R> rt::Clock for SetClock<'a, R> {
+impl<R> rt::Clock for Moments<R> {
     fn monotonic(&self) -> io::Result<Duration> {
-        Ok(Duration::from_secs(self.seconds.get()))
+        let reading = self.readings.get();
+        self.readings.set(reading.saturating_add(1));
+        let moment = self.moments.get(reading).copied().unwrap_or(0);
+        Ok(Duration::from_secs(moment))
     }
 
     fn since_1970(&self) -> io::Result<Duration> {
@@ -31,102 +35,104 @@ impl<'a, R> rt::Clock for SetClock<'a, R> {
     fn sleep(&self, _duration: Duration) {}
 }
 
-impl<'a, R: Wait> Wait for SetClock<'a, R> {}
+impl<R: Wait> Wait for Moments<R> {}
 
-/// A listener of which the first calls fail, at these moments and with these causes.
+/// A listener of which the first calls fail, with these causes.
 #[derive(Drop)]
-struct Flaky<'a> {
+struct Flaky {
     listener: TcpListener,
-    causes: &'a [(u64, ErrorKind)],
+    causes: Vec<ErrorKind>,
     calls: Cell<usize>,
-    seconds: &'a Cell<u64>,
 }
 
-impl<'a> OpenListener for Flaky<'a> {
+impl OpenListener for Flaky {
     type Stream = TcpStream;
 
     fn accept(&self) -> io::Result<(TcpStream, SocketAddr)> {
         let call = self.calls.get();
         self.calls.set(call.saturating_add(1));
         match self.causes.get(call) {
-            Some((moment, cause)) => {
-                self.seconds.set(*moment);
-                Err(io::Error::from(*cause))
-            }
+            Some(cause) => Err(io::Error::from(*cause)),
             None => self.listener.accept(),
         }
     }
 }
 
-/// What the next call of a door comes to over a listener of which the first calls fail so, where a client waits, and what
-/// is told of it.
+/// Whether the next call of a door hands out a link, over a listener of which the first calls fail so, at these moments,
+/// where a client waits; and what is told of it.
 fn told_by_door<R>(
     rt: &R,
     alloc: Global,
-    causes: &[(u64, ErrorKind)],
-) -> Result<(&'static str, String), Fail>
+    moments: Vec<u64>,
+    causes: Vec<ErrorKind>,
+) -> Result<(bool, String), Fail>
 where
-    R: Net<Listener = TcpListener, Stream = TcpStream> + Wait + Copy,
+    R: Net<Listener = TcpListener, Stream = TcpStream> + rt::Clock + Wait + Copy,
 {
     let errors = errors_beside(rt)?;
     let listener = TcpListener::bind(rt, "127.0.0.1:0")?;
     let _client = TcpStream::connect(rt, listener.local_addr()?)?;
-    let seconds = Cell::new(0);
     let flaky = Flaky {
         listener,
         causes,
         calls: Cell::new(0),
-        seconds: &seconds,
     };
-    let clock = SetClock {
+    let clock = Moments {
         system: *rt,
-        seconds: &seconds,
+        moments,
+        readings: Cell::new(0),
     };
     let listener = Arc::new(alloc, ToldListener::new(clock, alloc, flaky, &errors.0))?;
-    let mut door = TcpDoor::new(alloc, listener, 0, clock);
-    let answer = match door.next() {
+    let mut door = TcpDoor::new(alloc, listener, 0, *rt);
+    let is_linked = match door.next() {
         DoorAnswer::Link(input, output) => {
             door.done(input, output);
-            "link"
+            true
         }
-        DoorAnswer::End => "end",
-        DoorAnswer::Failed => "failed",
+        DoorAnswer::End | DoorAnswer::Failed => false,
     };
     drop(door);
-    Ok((answer, told(alloc, errors)?))
+    Ok((is_linked, told(alloc, errors)?))
 }
 
 /// The first is told at once, and those of a minute by one line, with how many they are and the cause of the last.
 #[test]
 fn what_passes_is_told_and_waited_for(rt: HostRuntime) -> Result<(), Fail> {
-    let causes = [
-        (5, ErrorKind::Uncategorized),
-        (6, ErrorKind::PermissionDenied),
-        (64, ErrorKind::PermissionDenied),
-        (65, ErrorKind::ConnectionAborted),
-        (124, ErrorKind::OutOfMemory),
-    ];
+    let alloc = rt.alloc();
+    let moments = vec![in alloc; 5, 6, 64, 65, 124]?;
+    let causes = vec![in alloc;
+        ErrorKind::Uncategorized,
+        ErrorKind::PermissionDenied,
+        ErrorKind::PermissionDenied,
+        ErrorKind::ConnectionAborted,
+        ErrorKind::OutOfMemory,
+    ]?;
     let lines = "\
 hub: can't accept a connection: too many open files, or another fault of the system
 hub: can't accept a connection: 3 times, the last one: broken off
 ";
-    let (answer, told) = told_by_door(&rt, rt.alloc(), &causes)?;
-    assert_eq!(rt; (answer, told.as_str()), ("link", lines));
+    let (is_linked, told) = told_by_door(&rt, alloc, moments, causes)?;
+    assert!(rt; is_linked);
+    assert_eq!(rt; told.as_str(), lines);
     Ok(())
 }
 
 #[test]
 fn a_listener_that_fails_is_told(rt: HostRuntime) -> Result<(), Fail> {
-    let causes = [(0, ErrorKind::InvalidInput)];
-    let (answer, told) = told_by_door(&rt, rt.alloc(), &causes)?;
+    let alloc = rt.alloc();
+    let causes = vec![in alloc; ErrorKind::InvalidInput]?;
+    let (is_linked, told) = told_by_door(&rt, alloc, Vec::new(alloc), causes)?;
     let line = "hub: can't accept a connection: the listener has failed\n";
-    assert_eq!(rt; (answer, told.as_str()), ("failed", line));
+    assert!(rt; !is_linked);
+    assert_eq!(rt; told.as_str(), line);
     Ok(())
 }
 
 #[test]
 fn a_connection_that_is_accepted_tells_nothing(rt: HostRuntime) -> Result<(), Fail> {
-    let (answer, told) = told_by_door(&rt, rt.alloc(), &[])?;
-    assert_eq!(rt; (answer, told.as_str()), ("link", ""));
+    let alloc = rt.alloc();
+    let (is_linked, told) = told_by_door(&rt, alloc, Vec::new(alloc), Vec::new(alloc))?;
+    assert!(rt; is_linked);
+    assert_eq!(rt; told.as_str(), "");
     Ok(())
 }
