@@ -19,7 +19,7 @@ one_less true before left all len count own taken = omega arith
 one_less false before left all len count own taken = omega arith
 
 module _ {K X : Type 0} {cmp : K → K → Ordering} (o : IsTotalOrder cmp) (key : X → K) where
-  pub AreNodes-put : (old new : List (Arc (Node (Vec X Global)) Global)) (k : K) (v : X) (replaced : Option X) (before len : ℕ) → AreNodes cmp key old before → replaced ≡ item_with cmp key k (items_in node_items old) → len ≡ (if is_some replaced then before else before + 1) → entries key (items_in node_items new) ≡ put cmp k v (entries key (items_in node_items old)) → AreSound node_items IsFilled new → AreNodes cmp key new len
+  pub AreNodes-put : (old new : List (Arc (Node (Node (Vec X Global))) Global)) (k : K) (v : X) (replaced : Option X) (before len : ℕ) → AreNodes cmp key old before → replaced ≡ item_with cmp key k (items_in node_items old) → len ≡ (if is_some replaced then before else before + 1) → entries key (items_in node_items new) ≡ put cmp k v (entries key (items_in node_items old)) → AreSound node_items IsFilled new → AreNodes cmp key new len
   AreNodes-put old new k v replaced before len are told count is sound =
       let es = entries key (items_in node_items old) in
       record {
@@ -32,7 +32,7 @@ module _ {K X : Type 0} {cmp : K → K → Ordering} (o : IsTotalOrder cmp) (key
             ∙ sym (ap length is ∙ length-put cmp o k v es are.rising.sorted);
       }
 
-  pub AreNodes-without : (old new : List (Arc (Node (Vec X Global)) Global)) (k : K) (taken : Option X) (before len : ℕ) → AreNodes cmp key old before → taken ≡ item_with cmp key k (items_in node_items old) → len ≡ (if is_some taken then before - 1 else before) → entries key (items_in node_items new) ≡ without cmp k (entries key (items_in node_items old)) → AreSound node_items IsFilled new → AreNodes cmp key new len
+  pub AreNodes-without : (old new : List (Arc (Node (Node (Vec X Global))) Global)) (k : K) (taken : Option X) (before len : ℕ) → AreNodes cmp key old before → taken ≡ item_with cmp key k (items_in node_items old) → len ≡ (if is_some taken then before - 1 else before) → entries key (items_in node_items new) ≡ without cmp k (entries key (items_in node_items old)) → AreSound node_items IsFilled new → AreNodes cmp key new len
   AreNodes-without old new k taken before len are told count is sound =
       let es = entries key (items_in node_items old) in
       record {
@@ -45,7 +45,7 @@ module _ {K X : Type 0} {cmp : K → K → Ordering} (o : IsTotalOrder cmp) (key
       }
 
   -- shares of the same nodes are the same list
-  pub AreNodes-same : (old new : List (Arc (Node (Vec X Global)) Global)) (len : ℕ) → items_in node_items new ≡ items_in node_items old → AreSound node_items IsFilled new → AreNodes cmp key old len → AreNodes cmp key new len
+  pub AreNodes-same : (old new : List (Arc (Node (Node (Vec X Global))) Global)) (len : ℕ) → items_in node_items new ≡ items_in node_items old → AreSound node_items IsFilled new → AreNodes cmp key old len → AreNodes cmp key new len
   AreNodes-same old new len same sound are = record {
     sound = sound;
     rising = subst (λ xs. Rises cmp key xs) (sym same) are.rising;

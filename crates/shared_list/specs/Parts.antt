@@ -46,22 +46,28 @@ first_leads {P} {X} items sound part_order item_order leads (share ∷ shares) a
     before [] back some = absurd (omega arith)
     before (x ∷ xs) back some = refl
 
--- the items of leaves, and of nodes of leaves
+-- the items of leaves, of branches of leaves, and of nodes of branches
 abbrev pub leaf_items : {X : Type 0} → Vec X Global → List X
 leaf_items leaf = leaf.items
 
 abbrev pub IsPlain : {X : Type 0} → Vec X Global → Type 0
 IsPlain leaf = Unit {0}
 
-abbrev pub node_items : {X : Type 0} → Node (Vec X Global) → List X
-node_items node = items_in leaf_items node.parts.items
+abbrev pub branch_items : {X : Type 0} → Node (Vec X Global) → List X
+branch_items branch = items_in leaf_items branch.parts.items
 
-abbrev pub IsFilled : {X : Type 0} → Node (Vec X Global) → Type 0
-IsFilled node = AreSound leaf_items IsPlain node.parts.items
+abbrev pub IsBranch : {X : Type 0} → Node (Vec X Global) → Type 0
+IsBranch branch = AreSound leaf_items IsPlain branch.parts.items
+
+abbrev pub node_items : {X : Type 0} → Node (Node (Vec X Global)) → List X
+node_items node = items_in branch_items node.parts.items
+
+abbrev pub IsFilled : {X : Type 0} → Node (Node (Vec X Global)) → Type 0
+IsFilled node = AreSound branch_items IsBranch node.parts.items
 
 -- what is true of the nodes of a list with so many items
 pub record AreNodes {K X : Type 0} (cmp : K → K → Ordering) (key : X
-    → K) (nodes : List (Arc (Node (Vec X Global)) Global)) (len : ℕ) : Type 0 where
+    → K) (nodes : List (Arc (Node (Node (Vec X Global))) Global)) (len : ℕ) : Type 0 where
   pub sound : AreSound node_items IsFilled nodes
   pub rising : Rises cmp key (items_in node_items nodes)
   pub counted : len ≡ length (entries key (items_in node_items nodes))

@@ -21,8 +21,8 @@ use std::sync::Arc;
 /// Items in the order of their keys, each key once. A contract sees them as a list of pairs of key and item.
 #[derive(Drop)]
 pub struct SharedList<T: Keyed> {
-    // Neither a node nor a leaf within one is empty.
-    nodes: Vec<Arc<Node<Vec<T>>>>,
+    // Neither a node, nor a branch within one, nor a leaf within that is empty.
+    nodes: Vec<Arc<Node<Node<Vec<T>>>>>,
     len: usize,
 }
 

@@ -6,7 +6,9 @@ ghost use Rattle.shared_list.specs.Parts.{items_in, leaf_items, node_items};
 ghost use Rattle.shared_list.specs.Parts.{AreSound, IsFilled, IsPlain};
 
 use crate::NoMemory;
+use crate::keyed::Keyed;
 use crate::node::Node;
+use crate::part::Part;
 use crate::split::{LEAF_MOST, NODE_MOST};
 use std::alloc::Global;
 use std::sync::Arc;
@@ -44,16 +46,19 @@ fn leaves_of<T: Drop>(alloc: Global, pieces: Vec<Vec<T>>) -> Result<Vec<Arc<Vec<
     Ok(leaves)
 }
 
-/// Nodes of pieces of leaves.
-fn nodes_over<T: Drop>(
+/// Nodes of pieces of parts.
+fn nodes_over<P: Part>(
     alloc: Global,
-    pieces: Vec<Vec<Arc<Vec<T>>>>,
-) -> Result<Vec<Arc<Node<Vec<T>>>>, NoMemory>
+    pieces: Vec<Vec<Arc<P>>>,
+) -> Result<Vec<Arc<Node<P>>>, NoMemory>
     requires filled { AllByRecursion (λ piece. 0 < length piece.items) pieces.items }
-    requires sound { AreSound leaf_items IsPlain (flat_map (λ piece. piece.items) pieces.items) }
-    ensures items { IfOk result (λ nodes. items_in node_items nodes.items
-        ≡ items_in leaf_items (flat_map (λ piece. piece.items) pieces.items)) }
-    ensures sound { IfOk result (λ nodes. AreSound node_items IsFilled nodes.items) }
+    requires sound { AreSound P.items P.sound (flat_map (λ piece. piece.items) pieces.items) }
+    ensures items { IfOk result (λ nodes.
+        items_in (λ node. items_in P.items node.parts.items) nodes.items
+        ≡ items_in P.items (flat_map (λ piece. piece.items) pieces.items)) }
+    ensures sound { IfOk result (λ nodes.
+        AreSound (λ node. items_in P.items node.parts.items)
+        (λ node. AreSound P.items P.sound node.parts.items) nodes.items) }
 {
     let mut nodes = Vec::with_capacity(alloc, pieces.len())?;
     for parts in pieces {
@@ -63,13 +68,14 @@ fn nodes_over<T: Drop>(
 }
 
 /// Nodes that have just these items, as full as can be.
-pub(crate) fn nodes_of<T: Drop>(
+pub(crate) fn nodes_of<T: Keyed>(
     alloc: Global,
     items: Vec<T>,
-) -> Result<Vec<Arc<Node<Vec<T>>>>, NoMemory>
+) -> Result<Vec<Arc<Node<Node<Vec<T>>>>>, NoMemory>
     ensures items { IfOk result (λ nodes. items_in node_items nodes.items ≡ items.items) }
     ensures sound { IfOk result (λ nodes. AreSound node_items IsFilled nodes.items) }
 {
     let leaves = leaves_of(alloc, pieces_of(alloc, items, LEAF_MOST)?)?;
-    nodes_over(alloc, pieces_of(alloc, leaves, NODE_MOST)?)
+    let branches = nodes_over(alloc, pieces_of(alloc, leaves, NODE_MOST)?)?;
+    nodes_over(alloc, pieces_of(alloc, branches, NODE_MOST)?)
 }
