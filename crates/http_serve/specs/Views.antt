@@ -5,7 +5,8 @@ use Rattle.feed_defs.specs.declared.history.Entry.{Entry}
 use Rattle.sched_types.specs.Schedules.{Schedules}
 use Rattle.board_defs.specs.Fold.{FeedFold, fold_of}
 use Rattle.delta_defs.specs.Kept.{KeptView, folds_at, views_with}
-use Rattle.http_serve_defs.specs.Answers.{since_view}
+use Rattle.http_defs.specs.declared.asked.Query.{Query}
+use Rattle.http_serve_defs.specs.Answers.{feed_since, since_view}
 
 -- a view stands for the first messages of a history, as many as its number says
 pub record IsOfHistory (plans : Schedules) (history : List Entry) (view : KeptView) : Type 0 where
@@ -26,3 +27,9 @@ IsSince since kept number =
     (old : List FeedFold) × (folds_at number kept ≡ Some old)
     × ((schedule : List ℕ)
     → since_view schedule since kept ≡ Some (record { schedule = schedule; old = old }))
+
+-- the same of a query and the schedule that it names
+abbrev pub IsFeedSince : Query → List KeptView → List ℕ → ℕ → Type 0
+IsFeedSince query kept schedule number =
+    (old : List FeedFold) × (folds_at number kept ≡ Some old)
+    × (feed_since query kept ≡ Some (record { schedule = schedule; old = old }))
