@@ -94,6 +94,8 @@ fn respond(
     ensures made { IfOk result (λ start. drop start responder.new.bytes.items
         ≡ answer view.now.plans item.now thousandth moment number (folds_of view.now) kept.new) }
 {
-    kept.put(view)?;
+    let Ok(()) = kept.put(view) else {
+        return Err(NoMemory);
+    };
     responder.respond(view, kept, item, thousandth, number, moment)
 }

@@ -123,30 +123,33 @@ fn answer_query(
     ensures status { IfOk result (λ heading. is_status heading.status ≡ true) }
 {
     match feed_since(query, kept) {
-        Some(asked) => answer_since(alloc, view, kept, asked, bytes),
+        Some(Since { schedule, number }) => {
+            answer_since(alloc, view, kept, schedule, number, bytes)
+        }
         None => answer_whole(alloc, view, query, moment, bytes),
     }
 }
 
-/// Appends what changed in a feed since a view that is kept.
+/// Appends what changed in the feed of a schedule since the view of a number, which is kept.
 fn answer_since(
     alloc: Global,
     view: &HubView,
     kept: &Kept,
-    asked: Since<'_>,
+    schedule: &str,
+    number: u64,
     bytes: &mut Vec<u8>,
 ) -> Result<Heading, NoMemory>
-    requires { IsSome (folds_at asked.number kept.now) }
-    ensures answered { (old : List FeedFold) → folds_at asked.number kept.now ≡ Some old
+    requires { IsSome (folds_at number kept.now) }
+    ensures answered { (old : List FeedFold) → folds_at number kept.now ≡ Some old
         → IfOk result (λ heading. Appends heading bytes.old.items bytes.new.items
         (found kinds.Feed (changes_answer view.now.plans (folds_of view.now)
-        (record { schedule = asked.schedule.now; old = old })))) }
+        (record { schedule = schedule.now; old = old })))) }
     ensures status { IfOk result (λ heading. is_status heading.status ≡ true) }
 {
-    let Some(plan) = schedule_number(view.plans(), asked.schedule) else {
+    let Some(plan) = schedule_number(view.plans(), schedule) else {
         return refuse(404, bytes);
     };
-    let changes = since(alloc, kept, view, plan, asked.number)?;
+    let changes = since(alloc, kept, view, plan, number)?;
     bytes.extend_from_slice(changes.as_slice())?;
     Ok(Heading {
         status: 200,

@@ -1,12 +1,13 @@
 //! What a run needs before it begins.
 
-ghost use Rattle.std.specs.Prelude.{◌≡◌, map, vec_len, IfOk};
+ghost use Rattle.std.specs.Prelude.{◌≡◌, [], map, vec_len, IfOk};
 ghost use Rattle.std.specs.List.{All};
 ghost use Rattle.hub_shared.specs.Calls.{IsFresh};
 
 use crate::NoMemory;
 use crate::naming::OfHub;
 use crate::readers::{HubPass, Post};
+use delta_out::Kept;
 use http_door::{DoorEnd, DoorReport};
 use hub_shared::{PortEnd, PortReport};
 use snapshot_cell::Pass;
@@ -28,14 +29,16 @@ pub(crate) fn port_reports(alloc: Global, count: usize) -> Result<Vec<PortReport
     Ok(reports)
 }
 
-/// A post for each clock, in their order, of doors that were asked nothing.
+/// A post for each clock, in their order, of doors that were asked nothing; or want of memory.
 pub(crate) fn posts_of<C: Drop>(alloc: Global, clocks: Vec<C>) -> Result<Vec<Post<C>>, NoMemory>
-    ensures { IfOk result (λ posts. map (λ post. post.clock) posts.items ≡ clocks.items) }
+    ensures clocks { IfOk result (λ posts. map (λ post. post.clock) posts.items ≡ clocks.items) }
+    ensures kept { IfOk result (λ posts. All (λ post. post.kept ≡ []) posts.items) }
 {
     let mut posts = Vec::with_capacity(alloc, clocks.len())?;
     for clock in clocks {
         posts.push(Post {
             clock,
+            kept: Kept::new(alloc)?,
             report: DoorReport {
                 end: DoorEnd::Ended,
                 connections: 0,

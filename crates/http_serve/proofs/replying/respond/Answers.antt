@@ -3,8 +3,8 @@ use Rattle.std.proofs.Common.{inl}
 use Rattle.http_serve.proofs.OneReply.{keeps_look}
 use Rattle.http_serve.proofs.replying.respond.Goals as goal
 
-pub returns-clause-keeps : goal.returns-clause-keeps
-returns-clause-keeps c = keeps_look c.respond.result _ _ _ c.in_ok-put.ensures.with
+pub returns-in_default-clause-keeps : goal.returns-in_default-clause-keeps
+returns-in_default-clause-keeps c = inl c.in_default.ensures.kept
 
-pub returns-in_err-put-clause-keeps : goal.returns-in_err-put-clause-keeps
-returns-in_err-put-clause-keeps c = inl c.in_err-put.ensures.kept
+pub returns-clause-keeps : goal.returns-clause-keeps
+returns-clause-keeps c = keeps_look c.respond.result _ _ _ c.in-Ok.ensures.with
