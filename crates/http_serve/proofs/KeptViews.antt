@@ -13,7 +13,7 @@ use Rattle.http_serve.specs.declared.session.End.{End}
 use Rattle.http_serve.specs.declared.session.End.TheVariants.{Ended, Closed, Bad, ReadFault, WriteFault, NoMemory}
 use Rattle.http_serve.specs.Setting.{Setting, NeverFall}
 use Rattle.http_serve.specs.Views.{IsOfHistory, AreOfHistory}
-use Rattle.http_serve.specs.Replies.{Reply, items_of, numbers_of, kept_at, kept_behind, Begun, none_begun}
+use Rattle.http_serve.specs.Replies.{items_of, numbers_of, kept_at, kept_behind, Begun, none_begun}
 use Rattle.http_serve.specs.Serves.{IsBegun, Serves}
 use Rattle.http_serve.proofs.Chains.{goes_on_longer, same_front, never_fall_below}
 
