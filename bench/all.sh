@@ -127,17 +127,11 @@ def cpu(name, before=""):
     return f"{user + system:.2f} s of CPU, {peak / 1024:.0f} MiB"
 
 
-def milliseconds(word):
-    """A time of wrk, in milliseconds."""
-    value, unit = re.fullmatch(r"([\d.]+)(us|ms|s)", word).groups()
-    return f"{float(value) * {'us': 0.001, 'ms': 1, 's': 1000}[unit]:.2g}"
-
-
 def answers(pattern):
     """The rates of such lines of load.py, and the median and the 99th of the first."""
-    lines = re.findall(pattern + r"([\d,]+) \((\S+), (\S+)\)", text("load"))
+    lines = re.findall(pattern + r"([\d,]+) \((\S+) and (\S+) ms\)", text("load"))
     rates = joined([number(line[0]) for line in lines])
-    return rates, f"{milliseconds(lines[0][1])} and {milliseconds(lines[0][2])} ms" if lines else "-"
+    return rates, f"{float(lines[0][1]):.2g} and {float(lines[0][2]):.2g} ms" if lines else "-"
 
 
 def looks(threads, puts, how):
@@ -264,6 +258,8 @@ rows("`running.sh load`",
      ("answers a second, a board of five rows of a small city, of 1, 2 and 4 readers", still[0]),
      ("the same while 200 messages a second come in", moving[0]),
      ("nginx with a file of the same bytes, and as many workers", nginx[0]),
+     ("the hub's next to nginx's, the median of rounds in turns", joined(found("load", r"the hub does ([\d.]+) \S+ to \S+ of that"), ".2f")),
+     ("with messages next to without", joined(found("load", r"the hub does ([\d.]+) \S+ to \S+ of what"), ".2f")),
      ("the median and the 99th of a hundred for one reader; while messages come in; nginx", "; ".join((still[1], moving[1], nginx[1]))))
 rows("`running.sh cities`",
      ("answers a second of two readers: a board of a city of 3 trips; of five rows of one of 20,000, 3,000 of them live",

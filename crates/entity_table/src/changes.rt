@@ -108,7 +108,7 @@ impl Table {
 }
 
 /// Whether the entity says that it is deleted.
-fn is_deleted(entity: &Entity) -> bool
+pub(crate) fn is_deleted(entity: &Entity) -> bool
     ensures { result ≡ unwrap_or entity.now.is_deleted false }
 {
     entity.is_deleted.unwrap_or(false)

@@ -6,17 +6,21 @@
 //! take up together grows with the message and hardly with the table. Its steps can be taken one by one: `start` is
 //! what a message goes on from, `with` and `without` change a table at one id, and `share` keeps the table that is
 //! changed. Each change also gives what the id had before. An entity goes in as a `SharedStored`, of which another
-//! table may hold a further share.
+//! table may hold a further share. `first_table` takes the entities out of a message that goes
+//! on from nothing, and makes the table of them at once.
 //!
-//! It stands on `shared_list` for the order and the sharing, and on `feed_defs` for what a message changes.
+//! It stands on `shared_list` for the order and the sharing, on `keyed_lists` for lists that are made at once, and on
+//! `feed_defs` for what a message changes.
 #![tactic(auto)]
 
 mod changes;
+mod first;
 mod stored;
 mod table;
 
 pub use changes::{ChangedTable, apply};
 pub use feed_defs::Stored;
+pub use first::first_table;
 pub use std::alloc::AllocError as NoMemory;
 pub use stored::SharedStored;
 pub use table::{Table, TableIter};

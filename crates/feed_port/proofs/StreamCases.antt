@@ -10,7 +10,7 @@ use Rattle.feed_port.specs.Frames.{frame_at, frame_of, messages_in}
 use Rattle.feed_port.specs.Frames.Frame.{Whole as WholeFrame, Over as OverLimit, Nothing}
 use Rattle.hub_outside.specs.Count.{Rose}
 use Rattle.feed_port.specs.Ports.{Gives, IsDone, HasPortCause}
-use Rattle.feed_port.specs.Streams.{Fills, ReadsFrame, answer_of}
+use Rattle.feed_port.specs.Streams.{EndsWithin, Fills, ReadsFrame, answer_of}
 use Rattle.feed_port.specs.declared.filling.Filled.TheVariants.{Whole, Ended}
 use Rattle.feed_port.specs.declared.port.PortAnswer.TheVariants.{Message, TooLong, End, Failed}
 use Rattle.feed_port.specs.declared.stream.Stage.TheVariants.{Open, Over, Cut}
@@ -38,19 +38,30 @@ at_end (Some xs) (Some ys) faults faults' [] (few, given, over) empty counted =
     (inr (ap (λ b. answer_of (frame_at b)) (sym (given ∙ over))), refl, (ap messages_in given, nothing_left (Some ys) over), omega (arith, counted))
 at_end (Some xs) (Some ys) faults faults' (b ∷ held) (few, given, over) empty counted = absurd (omega (arith, empty))
 
+is_cut : (left : Known) (faults faults' : ℕ) → EndsWithin left
+    → IfSome left (λ bytes. Rose faults faults' ⊎ (Failed ≡ answer_of (frame_at bytes)))
+is_cut None faults faults' cut = tt
+is_cut (Some xs) faults faults' cut = inr (ap answer_of (sym cut))
+
+-- the source ended within a message
+cut_read : (left left' : Known) (faults faults' : ℕ) (held : List ℕ) → EndsWithin left → faults ≤ faults'
+    → ReadsFrame Failed Cut left left' faults faults' held
+cut_read left left' faults faults' held cut counted =
+    (is_cut left faults faults' cut, inr (refl, cut), tt, own_fault faults faults' counted)
+
 -- it ended within the length
 pub within_length : (left left' : Known) (faults faults' : ℕ) (held : List ℕ) → Fills Ended left left' held 4 → 0 < length held → faults ≤ faults'
     → ReadsFrame Failed Cut left left' faults faults' held
 within_length left left' faults faults' held (few, given, over) some counted =
-    (exact left left' given over, inr refl, tt, own_fault faults faults' counted)
+    cut_read left left' faults faults' held (cut left left' given over) counted
   where
-    exact : (left left' : Known) → Consumes left left' held → IsAtEnd left' → IfSome left (λ bytes. Rose faults faults' ⊎ (Failed ≡ answer_of (frame_at bytes)))
-    exact None left' given over = tt
-    exact (Some xs) None given over = absurd given
-    exact (Some xs) (Some ys) given over =
+    cut : (left left' : Known) → Consumes left left' held → IsAtEnd left' → EndsWithin left
+    cut None left' given over = tt
+    cut (Some xs) None given over = absurd given
+    cut (Some xs) (Some ys) given over =
         let long = ap length given ∙ length-append held ys in
         let none = ap length over in
-        inr (ap answer_of (sym (head_cut xs (omega (arith, long, none, some)) (omega (arith, long, none, few)))))
+        head_cut xs (omega (arith, long, none, some)) (omega (arith, long, none, few))
 
 -- the length is above the limit
 pub above_limit : (left left' : Known) (faults faults' size : ℕ) (head held : List ℕ) → Fills Whole left left' head 4
@@ -92,18 +103,18 @@ message_there left mid left' faults faults' size head held (four, given) is with
     gives (Some xs) (Some ms) None given rest = absurd rest
     gives (Some xs) (Some ms) (Some ys) given rest = by_front xs (WholeFrame held ys) (frame xs ms ys given rest)
 
--- the source ended within a message
+-- it ended behind the length, within the message
 pub within_message : (left mid left' : Known) (faults faults' size : ℕ) (head held : List ℕ) → Fills Whole left mid head 4
     → size ≡ from_be_bytes w32 head → size ≤ longest_message → Fills Ended mid left' held size → faults ≤ faults' → ReadsFrame Failed Cut left left' faults faults' held
 within_message left mid left' faults faults' size head held (four, given) is within (few, rest, over) counted =
-    (exact left mid left' given rest over, inr refl, tt, own_fault faults faults' counted)
+    cut_read left left' faults faults' held (cut left mid left' given rest over) counted
   where
-    exact : (left mid left' : Known) → Consumes left mid head → Consumes mid left' held → IsAtEnd left'
-        → IfSome left (λ bytes. Rose faults faults' ⊎ (Failed ≡ answer_of (frame_at bytes)))
-    exact None mid left' given rest over = tt
-    exact (Some xs) None left' given rest over = absurd given
-    exact (Some xs) (Some ms) None given rest over = absurd rest
-    exact (Some xs) (Some ms) (Some ys) given rest over =
+    cut : (left mid left' : Known) → Consumes left mid head → Consumes mid left' held → IsAtEnd left'
+        → EndsWithin left
+    cut None mid left' given rest over = tt
+    cut (Some xs) None left' given rest over = absurd given
+    cut (Some xs) (Some ms) None given rest over = absurd rest
+    cut (Some xs) (Some ms) (Some ys) given rest over =
         let long = ap length rest ∙ length-append held ys in
         let none = ap length over in
-        inr (ap answer_of (sym (head_first head ms xs four given ∙ ap (λ n. frame_of n ms) (sym is) ∙ message_cut size ms within (omega (arith, long, none, few)))))
+        head_first head ms xs four given ∙ ap (λ n. frame_of n ms) (sym is) ∙ message_cut size ms within (omega (arith, long, none, few))

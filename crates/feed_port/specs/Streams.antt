@@ -55,15 +55,20 @@ IsExact Open left faults faults' given =
 IsExact Over left faults faults' given = given ≡ answer.End
 IsExact Cut left faults faults' given = given ≡ answer.End
 
--- what becomes of the port: it is over behind a length above the limit and behind a failure, of
--- which one within a message, where the source ended, is its own
-abbrev pub NextStage : Stage → PortAnswer → Stage → Type 0
-NextStage Open answer.Message after = after ≡ Open
-NextStage Open (answer.TooLong n) after = after ≡ Over
-NextStage Open answer.End after = after ≡ Open
-NextStage Open answer.Failed after = (after ≡ Over) ⊎ (after ≡ Cut)
-NextStage Over given after = after ≡ Over
-NextStage Cut given after = after ≡ Cut
+-- the source ends within a message, where it tells its bytes
+abbrev pub EndsWithin : Option (List ℕ) → Type 0
+EndsWithin left = IfSome left (λ bytes. frame_at bytes ≡ CutFrame)
+
+-- What becomes of the port: it is over behind a length above the limit and behind a failure. That is
+-- its own where the source ended within a message, and else the source's, whose count rose.
+abbrev pub NextStage : Stage → Option (List ℕ) → ℕ → ℕ → PortAnswer → Stage → Type 0
+NextStage Open left faults faults' answer.Message after = after ≡ Open
+NextStage Open left faults faults' (answer.TooLong n) after = after ≡ Over
+NextStage Open left faults faults' answer.End after = after ≡ Open
+NextStage Open left faults faults' answer.Failed after =
+    ((after ≡ Over) × Rose faults faults') ⊎ ((after ≡ Cut) × EndsWithin left)
+NextStage Over left faults faults' given after = after ≡ Over
+NextStage Cut left faults faults' given after = after ≡ Cut
 
 -- the count of faults did not fall, and a source that failed raised it
 abbrev pub HasFillCause : Filled → ℕ → ℕ → Type 0
@@ -75,6 +80,6 @@ HasFillCause Failed before after = (before ≤ after) × Rose before after
 abbrev pub ReadsFrame : PortAnswer → Stage → Option (List ℕ) → Option (List ℕ) → ℕ → ℕ → List ℕ
     → Type 0
 ReadsFrame given stage left left' faults faults' held =
-    IsExact Open left faults faults' given × NextStage Open given stage
+    IsExact Open left faults faults' given × NextStage Open left faults faults' given stage
     × Answers given (stream_ahead Open left) (stream_ahead stage left') held
     × HasPortCause given faults (faults' + own_faults stage)

@@ -67,7 +67,9 @@ impl<S: Source + Send + Drop> FeedPort for StreamPort<S> {
             (S.faults (source_of self.new) + own_faults (stage_of self.new)) }
         ensures exact { IsExact (stage_of self.old) (S.left (source_of self.old))
             (S.faults (source_of self.old)) (S.faults (source_of self.new)) result }
-        ensures stage { NextStage (stage_of self.old) result (stage_of self.new) }
+        ensures stage { NextStage (stage_of self.old) (S.left (source_of self.old))
+            (S.faults (source_of self.old)) (S.faults (source_of self.new)) result
+            (stage_of self.new) }
     {
         into.clear();
         match self.stage {

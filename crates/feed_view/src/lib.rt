@@ -8,7 +8,7 @@
 //!
 //! Next to the table of all that the feed holds it keeps the feed's alerts, so that a reader of alerts need not go over
 //! the whole table, and the overlay of its updates, so that a board need not match and walk them all. All three go on with
-//! a message entity by entity, so that no message costs such a walk either.
+//! a differential message entity by entity, so that none costs such a walk either. A whole data set makes them anew.
 //!
 //! It stands on `entity_table`, whose table holds the entities, on `alert_select` for the alerts among them, on
 //! `run_overlay` for its updates, and on the definitions of `board_defs`.

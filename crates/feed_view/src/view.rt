@@ -1,8 +1,8 @@
 //! The view of a feed.
 
-ghost use Rattle.std.specs.Prelude.{◌≡◌, ◌+◌, ◌*◌, ◌<◌, ◌≤◌, length, IfOk, IsTrue};
+ghost use Rattle.std.specs.Prelude.{◌≡◌, ◌+◌, ◌*◌, ◌<◌, ◌≤◌, [], length, IfOk, IsTrue};
 ghost use Rattle.alert_select.specs.FeedAlerts.{alerts_of};
-ghost use Rattle.feed_defs.specs.History.{entities_after, stamp_of};
+ghost use Rattle.feed_defs.specs.History.{entities_after, is_full, stamp_of};
 ghost use Rattle.sched_types.specs.Timetable.{Timetable};
 ghost use Rattle.text_defs.specs.Moments.{last_moment, is_stamp};
 ghost use Rattle.board_defs.specs.Views.{fold_after};
@@ -11,8 +11,8 @@ ghost use Rattle.feed_view.specs.Kept.{nothing_seen, IsOver};
 use crate::NoMemory;
 use alert_select::AlertIndex;
 use delay_rule::Steps;
-use entity_table::{SharedStored, Stored, Table};
-use rt_types::{Copied, FeedMessage};
+use entity_table::{SharedStored, Stored, Table, first_table};
+use rt_types::{Copied, FeedMessage, Incrementality};
 use run_overlay::Overlay;
 use sched_types::Plan;
 use std::alloc::Global;
@@ -160,8 +160,28 @@ struct Held {
     alerts: AlertIndex,
 }
 
-/// What a feed holds after a message, whose entities are taken out of it; or out of memory.
-fn held_after(
+/// Whether a message is the whole data set of its feed (GTFS Realtime 2.0, FeedHeader, `incrementality`).
+fn is_whole(message: &FeedMessage) -> bool
+    ensures { result ≡ is_full message.now }
+{
+    match message.header.incrementality {
+        Some(Incrementality::Differential) => false,
+        Some(Incrementality::FullDataset) | None => true,
+    }
+}
+
+/// What a feed that held nothing holds after a message, whose entities are taken out of it; or out of memory.
+fn held_first(alloc: Global, message: FeedMessage) -> Result<Held, NoMemory>
+    ensures table { IfOk result (λ held. held.table ≡ entities_after message []) }
+    ensures alerts { IfOk result (λ held. held.alerts ≡ alerts_of held.table) }
+{
+    let table = first_table(alloc, message)?;
+    let alerts = AlertIndex::build(alloc, &table)?;
+    Ok(Held { table, alerts })
+}
+
+/// What a feed holds after a message that goes on from what it held, entity by entity; or out of memory.
+fn held_on(
     alloc: Global,
     before: &Table,
     alerts_before: &AlertIndex,
@@ -182,6 +202,24 @@ fn held_after(
         table = changed.table;
     }
     Ok(Held { table, alerts })
+}
+
+/// What a feed holds after a message, whose entities are taken out of it; or out of memory.
+fn held_after(
+    alloc: Global,
+    before: &Table,
+    alerts_before: &AlertIndex,
+    message: FeedMessage,
+) -> Result<Held, NoMemory>
+    requires { alerts_before.now ≡ alerts_of before.now }
+    ensures table { IfOk result (λ held. held.table ≡ entities_after message before.now) }
+    ensures alerts { IfOk result (λ held. held.alerts ≡ alerts_of held.table) }
+{
+    if is_whole(&message) {
+        held_first(alloc, message)
+    } else {
+        held_on(alloc, before, alerts_before, message)
+    }
 }
 
 /// The view after a message, by a count of walks that nobody reads.

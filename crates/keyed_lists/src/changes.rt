@@ -5,7 +5,7 @@ ghost use Rattle.keyed_lists.specs.Keyed as rule;
 ghost use Rattle.keyed_lists.specs.Keyed.{naming_keys};
 
 use crate::NoMemory;
-use crate::listed::listed;
+use crate::listed::listed_by_key;
 use shared_list::{Change, KeyFor, Keyed, SharedList};
 
 /// Whether each change puts an item in.
@@ -44,7 +44,7 @@ pub fn changed<T: Keyed, K: KeyFor<T>>(
         ≡ rule.changed T.key_cmp T.key_of list.now (naming_keys K.sought changes.items)) }
 {
     if list.len() == 0 && are_puts(changes.as_slice()) {
-        return listed(items_put(changes)?);
+        return listed_by_key(items_put(changes)?);
     }
     list.share()?.with_all(changes)
 }

@@ -8,7 +8,8 @@
 //! an order of the items is; `InOrder` that items in order, or put there by a stable sort, make their list at once;
 //! `Among` that items in order, as many as some others and each one of these, are their list; `Turned` what goes and what
 //! comes of a thing's items where those that stay at their places are left out. [`changed`] is a list after changes, where
-//! the given one stays as it is, and [`listed_by_rank`] the list of many plain items, which are sorted by numbers.
+//! the given one stays as it is, [`listed_by_key`] the list of some items, and [`listed_by_rank`] that of many plain items,
+//! which are sorted by numbers.
 //!
 //! It stands on `shared_list` and `order`. The overlay of a feed is made of such lists.
 #![tactic(auto)]
@@ -19,4 +20,5 @@ mod listed;
 
 pub use by_rank::listed_by_rank;
 pub use changes::changed;
+pub use listed::listed_by_key;
 pub use std::alloc::AllocError as NoMemory;

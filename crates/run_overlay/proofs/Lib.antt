@@ -14,3 +14,4 @@ pub mod Slots
 pub mod Read
 pub mod CityOverlay
 pub mod FirstRows
+pub mod Held

@@ -1,14 +1,17 @@
 -- Keys as they are sought, and the departures that an iterator has ahead.
-use Rattle.std.specs.Prelude.{ℕ, ◌≤◌, Bool, ◌&&◌, ◌==◌, Some, List, map, filter, ℤ, int_lt}
+use Rattle.std.specs.Prelude.{◌≡◌, ℕ, ◌≤◌, Bool, ◌&&◌, ◌==◌, Some, List, map, filter, ℤ, int_lt}
 use Rattle.std.specs.Borrow.{Bor}
 use Rattle.std.specs.List.{AllByRecursion}
+use Rattle.std.specs.FinMap.{find}
 use Rattle.shared_list.specs.Order.{Rises}
+use Rattle.feed_defs.specs.declared.history.Stored.{Stored}
+use Rattle.feed_defs.specs.History.{Change}
 use Rattle.sched_types.specs.declared.rows.Run.{Run}
 use Rattle.run_overlay.specs.declared.candidate.CandidateAt.{CandidateAt}
 use Rattle.run_overlay.specs.declared.row.LiveRow.{LiveRow}
 use Rattle.run_overlay.specs.declared.row.RowKey.{RowKey}
 use Rattle.run_overlay.specs.declared.slot.LiveSlot.{LiveSlot}
-use Rattle.run_overlay.specs.Keys.{CandidateKey, row_cmp, row_key}
+use Rattle.run_overlay.specs.Keys.{CandidateKey, id_cmp, row_cmp, row_key}
 
 abbrev pub id_at : Bor (List ℕ) → List ℕ
 id_at id = id.now
@@ -22,6 +25,16 @@ row_at row = row_key row.now
 -- a run is that one
 abbrev pub is_same_run : Run → Run → Bool
 is_same_run run other = (other.trip == run.trip) && (other.day == run.day)
+
+-- ---- entities at hand
+
+-- it is what a table has under its id
+abbrev pub IsHeld : List Change → Stored → Type 0
+IsHeld table stored = find id_cmp stored.entity.id table ≡ Some stored
+
+-- each of them is
+abbrev pub AreHeld : List Change → List (Bor Stored) → Type 0
+AreHeld table held = AllByRecursion (λ stored. IsHeld table stored.now) held
 
 -- ---- departures ahead
 

@@ -80,5 +80,5 @@ pub(crate) fn first_rows(alloc: Global, turns: &[Turn]) -> Result<SharedList<Liv
 {
     let rows = rows_now(alloc, turns)?;
     let ranks = ranks_of(alloc, rows.as_slice())?;
-    listed_by_rank(rows, ranks.as_slice())
+    listed_by_rank(rows, ranks)
 }

@@ -96,18 +96,27 @@ pub(crate) fn changes_of_ids(
     Ok(changes)
 }
 
-/// What becomes of an id that had nothing; or out of memory.
-fn change_of_stored(plan: &Plan, stored: &Stored) -> Result<IdChange, NoMemory>
+/// What becomes of an id that had nothing; or out of memory. The trip is looked for near the given one first.
+fn change_of_stored(plan: &Plan, stored: &Stored, near: Option<u32>) -> Result<IdChange, NoMemory>
     ensures { IfOk result (λ one. one ≡ id_change_new plan.now stored.now) }
 {
     Ok(IdChange {
         id: stored.entity.id.copy()?,
         before: None,
-        after: about_stored(plan, stored),
+        after: about_stored(plan, stored, near),
     })
 }
 
-/// What becomes of all ids of a table, where there was nothing before; or out of memory.
+/// The trip of the run that an update is about, or else the one that was given.
+fn trip_after(after: About, before: Option<u32>) -> Option<u32> {
+    match after {
+        About::Run(mention) => Some(mention.run.trip),
+        About::Added | About::Nothing => before,
+    }
+}
+
+/// What becomes of all ids of a table, where there was nothing before; or out of memory. Updates often come in the order of
+/// their trips: so each trip is looked for near the one before.
 pub(crate) fn changes_of_table(
     alloc: Global,
     plan: &Plan,
@@ -117,8 +126,11 @@ pub(crate) fn changes_of_table(
         ≡ map (λ change. id_change_new plan.now change.1) table.now) }
 {
     let mut ids = Vec::with_capacity(alloc, table.len())?;
+    let mut near = None;
     for stored in table.iter() {
-        ids.push(change_of_stored(plan, stored)?)?;
+        let one = change_of_stored(plan, stored, near)?;
+        near = trip_after(one.after, near);
+        ids.push(one)?;
     }
     Ok(ids)
 }

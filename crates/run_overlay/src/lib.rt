@@ -29,6 +29,7 @@ mod at_stop;
 mod candidate;
 mod first_rows;
 mod found;
+mod hints;
 mod id_changes;
 mod link;
 mod live_lists;

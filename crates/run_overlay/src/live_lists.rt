@@ -9,7 +9,7 @@ ghost use Rattle.keyed_lists.specs.Keyed as keyed;
 ghost use Rattle.keyed_lists.specs.Keyed.{naming_keys};
 ghost use Rattle.run_overlay.specs.Keys.{row_cmp, row_key};
 ghost use Rattle.run_overlay.specs.Kept.{mentions_of, nothing_live};
-ghost use Rattle.run_overlay.specs.Sought.{row_at};
+ghost use Rattle.run_overlay.specs.Sought.{AreHeld, row_at};
 ghost use Rattle.run_overlay.specs.Turning as rule;
 ghost use Rattle.run_overlay.specs.Turning.{live_after, rows_kept, same_row};
 ghost use Rattle.run_overlay.specs.Updates.{updates_of};
@@ -17,6 +17,7 @@ ghost use Rattle.run_overlay.specs.Updates.{updates_of};
 use crate::NoMemory;
 use crate::candidate::Candidate;
 use crate::first_rows::first_rows;
+use crate::hints::Hints;
 use crate::live_run::{LiveRun, rows_of};
 use crate::row::{LiveRow, is_same};
 use crate::turns::{Turn, turns_of};
@@ -55,23 +56,25 @@ impl LiveLists {
         }
     }
 
-    /// The lists where those runs are as the table says, whose candidates are given; or out of memory. A run is walked at
+    /// The lists where those runs are as the table says, whose candidates and hints are given; or out of memory. A run is walked at
     /// most once, and each list is changed once; these stay as they are.
-    pub(crate) fn after<L: Ledger>(
+    pub(crate) fn after<'a, L: Ledger>(
         &self,
         alloc: Global,
         plan: &Plan,
-        table: &Table,
+        table: &'a Table,
         candidates: &SharedList<Candidate>,
         runs: &[Run],
+        hints: &Hints<'a>,
         steps: &mut Steps<L>,
     ) -> Result<LiveLists, NoMemory>
-        requires { candidates.now ≡ (mentions_of plan.now table.now).candidates }
+        requires candidates { candidates.now ≡ (mentions_of plan.now table.now).candidates }
+        requires hints { AreHeld table.now hints.now.held.items }
         ensures lists { IfOk result (λ next. next
-            ≡ live_after plan.now (updates_of table.now) runs.now self.now) }
+            ≡ live_after plan.now (updates_of table.entry.now) runs.now self.now) }
         ensures few { steps.new ≤ steps.old + length runs.now }
     {
-        let turns = turns_of(alloc, plan, table, candidates, runs, steps)?;
+        let turns = turns_of(alloc, plan, table, candidates, runs, hints, steps)?;
         let rows = rows_after(alloc, &self.runs, &self.rows, turns.as_slice())?;
         let runs = changed(&self.runs, run_changes(alloc, turns)?)?;
         Ok(LiveLists { runs, rows })

@@ -11,7 +11,7 @@ use entity_table::{Stored, Table};
 use rt_types::TripUpdate;
 use sched_types::{Plan, Run};
 use texts::is_stamp;
-use trip_match::{Found, find};
+use trip_match::{Found, find_near};
 
 /// A run that a trip update is about, and the stamp of the update, in seconds since 1970.
 #[derive(Clone, Copy, Debug, PartialEq, Eq)]
@@ -42,25 +42,25 @@ pub fn stamp_of(message: u64, own: Option<u64>) -> u64
     }
 }
 
-/// What an update is about, of a message with that stamp.
-fn about_update(plan: &Plan, message: u64, update: &TripUpdate) -> About
+/// What an update is about, of a message with that stamp. Its trip is looked for near the given one first.
+fn about_update(plan: &Plan, message: u64, update: &TripUpdate, near: Option<u32>) -> About
     ensures { let stamp = stamp_or message update.now.timestamp in result
         ≡ rule.about_found stamp (match_of plan.now update.now.trip stamp) }
 {
     let stamp = stamp_of(message, update.timestamp);
-    match find(plan, &update.trip, stamp) {
+    match find_near(plan, &update.trip, stamp, near) {
         Found::Run(run) => About::Run(Mention { run, stamp }),
         Found::Added => About::Added,
         Found::NoMatch(_) => About::Nothing,
     }
 }
 
-/// What the trip update of an entity is about, if it has one.
-pub(crate) fn about_stored(plan: &Plan, stored: &Stored) -> About
+/// What the trip update of an entity is about, if it has one. Its trip is looked for near the given one first.
+pub(crate) fn about_stored(plan: &Plan, stored: &Stored, near: Option<u32>) -> About
     ensures { result ≡ rule.about_stored plan.now stored.now }
 {
     match &stored.entity.trip_update {
-        Some(update) => about_update(plan, stored.stamp, update.get()),
+        Some(update) => about_update(plan, stored.stamp, update.get(), near),
         None => About::Nothing,
     }
 }
@@ -70,7 +70,7 @@ pub(crate) fn about_held(plan: &Plan, table: &Table, id: &str) -> About
     ensures { result ≡ rule.about_held plan.now (find id_cmp id.now table.now) }
 {
     match table.get(id) {
-        Some(stored) => about_stored(plan, stored),
+        Some(stored) => about_stored(plan, stored, None),
         None => About::Nothing,
     }
 }

@@ -14,6 +14,7 @@ ghost use Rattle.run_overlay.specs.Updates.{updates_of};
 
 use crate::NoMemory;
 use crate::at_stop::AtStop;
+use crate::hints::Hints;
 use crate::id_changes::{IdChange, changes_of_ids, changes_of_table};
 use crate::live_lists::LiveLists;
 use crate::mention_lists::MentionLists;
@@ -149,10 +150,17 @@ impl Overlay {
     {
         let mentions = self.mentions.after(alloc, table, ids)?;
         let runs = touched_runs(alloc, ids)?;
+        let hints = Hints::of(alloc, table, ids, runs.as_slice())?;
         let candidates = mentions.candidates();
-        let live = self
-            .live
-            .after(alloc, plan, table, candidates, runs.as_slice(), steps)?;
+        let live = self.live.after(
+            alloc,
+            plan,
+            table,
+            candidates,
+            runs.as_slice(),
+            &hints,
+            steps,
+        )?;
         Ok(Overlay { mentions, live })
     }
 

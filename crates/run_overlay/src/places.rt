@@ -87,7 +87,8 @@ fn push_some(rows: &mut Vec<LiveRow>, row: Option<LiveRow>) -> Result<(), NoMemo
     Ok(())
 }
 
-/// The departures of a run; or out of memory. Nobody boards at the last place.
+/// The departures of a run; or out of memory. Nobody boards at the last place. Within a caller its loop would lack registers.
+#[inline(never)]
 fn place_rows(
     alloc: Global,
     plan: &Plan,

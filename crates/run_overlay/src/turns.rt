@@ -1,24 +1,25 @@
 //! What becomes of the runs that a message touches.
 
-ghost use Rattle.std.specs.Prelude.{◌≡◌, ◌+◌, ◌≤◌, ◌++◌, length, map, IfOk, OnOk};
+ghost use Rattle.std.specs.Prelude.{◌≡◌, ◌+◌, ◌≤◌, ◌++◌, length, map, IfOk, IfSome, OnOk};
 ghost use Rattle.std.specs.List.{list_any};
 ghost use Rattle.sched_types.specs.declared.rows.Run.{Run};
 ghost use Rattle.run_overlay.specs.Changing as changing;
 ghost use Rattle.run_overlay.specs.Kept.{live_run, mentions_of};
-ghost use Rattle.run_overlay.specs.Sought.{is_same_run};
+ghost use Rattle.run_overlay.specs.Sought.{AreHeld, IsHeld, is_same_run};
 ghost use Rattle.run_overlay.specs.Turning as rule;
 ghost use Rattle.run_overlay.specs.Updates.{updates_of};
 
 use crate::NoMemory;
 use crate::candidate::Candidate;
-use crate::found::{first_candidate, update_at};
+use crate::found::{first_candidate, update_near};
+use crate::hints::Hints;
 use crate::id_changes::IdChange;
 use crate::live_run::LiveRun;
 use crate::mention::{Mention, mention_in};
 use crate::places::rows_of_run;
 use copying::Copied;
 use delay_rule::Steps;
-use entity_table::Table;
+use entity_table::{Stored, Table};
 use rt_types::{Items, Shared};
 use sched_types::{Plan, Run};
 use shared_list::SharedList;
@@ -67,24 +68,26 @@ pub(crate) fn touched_runs(alloc: Global, ids: &[IdChange]) -> Result<Vec<Run>, 
 }
 
 /// A run with its update that counts, where one does, which is walked then; or out of memory. The candidates are those of
-/// the table.
-fn run_now<L: Ledger>(
+/// the table, and what is at hand of it may have that update.
+fn run_now<'a, L: Ledger>(
     alloc: Global,
     plan: &Plan,
-    table: &Table,
+    table: &'a Table,
     candidates: &SharedList<Candidate>,
+    near: Option<&'a Stored>,
     run: Run,
     steps: &mut Steps<L>,
 ) -> Result<Option<LiveRun>, NoMemory>
-    requires { candidates.now ≡ (mentions_of plan.now table.now).candidates }
-    ensures run { IfOk result (λ live. live ≡ live_run plan.now (updates_of table.now) run) }
+    requires candidates { candidates.now ≡ (mentions_of plan.now table.now).candidates }
+    requires near { IfSome near (λ stored. IsHeld table.now stored.now) }
+    ensures run { IfOk result (λ live. live ≡ live_run plan.now (updates_of table.entry.now) run) }
     ensures few { steps.new ≤ steps.old + 1 }
 {
     let _all = table.iter();
     let Some(candidate) = first_candidate(candidates, run) else {
         return Ok(None);
     };
-    let Some(update) = update_at(table, candidate.id.as_str()) else {
+    let Some(update) = update_near(table, near, candidate.id.as_str()) else {
         return Ok(None);
     };
     let rows = rows_of_run(alloc, plan, run, update, steps)?;
@@ -96,24 +99,28 @@ fn run_now<L: Ledger>(
     }))
 }
 
-/// What becomes of runs, each of which is walked at most once; or out of memory. The candidates are those of the table.
-pub(crate) fn turns_of<L: Ledger>(
+/// What becomes of runs, each of which is walked at most once; or out of memory. The candidates and the hints are those of
+/// the table.
+pub(crate) fn turns_of<'a, L: Ledger>(
     alloc: Global,
     plan: &Plan,
-    table: &Table,
+    table: &'a Table,
     candidates: &SharedList<Candidate>,
     runs: &[Run],
+    hints: &Hints<'a>,
     steps: &mut Steps<L>,
 ) -> Result<Vec<Turn>, NoMemory>
-    requires { candidates.now ≡ (mentions_of plan.now table.now).candidates }
+    requires candidates { candidates.now ≡ (mentions_of plan.now table.now).candidates }
+    requires hints { AreHeld table.now hints.now.held.items }
     ensures turns { IfOk result (λ turns. turns.items
-        ≡ map (rule.turn_of plan.now (updates_of table.now)) runs.now) }
+        ≡ map (rule.turn_of plan.now (updates_of table.entry.now)) runs.now) }
     ensures few { steps.new ≤ steps.old + length runs.now }
 {
     let mut turns = Vec::with_capacity(alloc, runs.len())?;
-    for run in runs {
+    for (number, run) in runs.iter().enumerate() {
         let run = *run;
-        let now = run_now(alloc, plan, table, candidates, run, steps)?;
+        let near = hints.at(number);
+        let now = run_now(alloc, plan, table, candidates, near, run, steps)?;
         turns.push(Turn { run, now })?;
     }
     Ok(turns)

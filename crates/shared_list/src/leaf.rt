@@ -15,7 +15,7 @@ ghost use Rattle.shared_list.specs.Order.{
 use crate::NoMemory;
 use crate::keyed::{KeyFor, Keyed};
 use crate::part::{Part, PutOutcome, TakeOutcome};
-use crate::split::{Arrival, split_off};
+use crate::split::{Arrival, LEAF_MOST, split_off};
 use std::alloc::Global;
 use std::cmp::Ordering;
 use std::mem;
@@ -121,7 +121,7 @@ impl<T: Keyed> Part for Vec<T> {
 
     fn put_item(&mut self, item: T) -> Result<PutOutcome<Self, T>, NoMemory> {
         let Arrival { replaced, at_end } = put_among(self, item)?;
-        let back = split_off(self, at_end)?;
+        let back = split_off(self, LEAF_MOST, at_end)?;
         Ok(PutOutcome { replaced, back })
     }
 

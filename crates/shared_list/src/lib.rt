@@ -9,7 +9,7 @@
 //! of both in turn. Items are compared where they stand, with each other and with a key in the form in
 //! which a caller has it (`KeyFor`), as a `&str` for a text; so no key is built or copied.
 //!
-//! The cost of a change hardly grows with the list: the items stand in leaves of at most 32, the leaves
+//! The cost of a change hardly grows with the list: the items stand in leaves of at most 16, the leaves
 //! in nodes of at most 32, and the nodes in one list. `share` takes one share of each node. A change
 //! copies the node in which the key stands, which is one share of each of its leaves, and the one leaf in
 //! which the key stands, and each only once for each version. A key that is put in is searched for once;

@@ -4,7 +4,7 @@ use crate::NoMemory;
 use crate::keyed::KeyFor;
 use crate::part::{Part, PutOutcome, TakeOutcome};
 use crate::shared::{item_in, put_shared, share, take_out_shared};
-use crate::split::{Arrival, split_off};
+use crate::split::{Arrival, NODE_MOST, split_off};
 use std::alloc::Global;
 use std::cmp::Ordering;
 use std::sync::Arc;
@@ -52,7 +52,7 @@ impl<P: Part> Part for Node<P> {
 
     fn put_item(&mut self, item: P::Item) -> Result<PutOutcome<Self, P::Item>, NoMemory> {
         let Arrival { replaced, at_end } = put_shared(&mut self.parts, item)?;
-        match split_off(&mut self.parts, at_end)? {
+        match split_off(&mut self.parts, NODE_MOST, at_end)? {
             Some(parts) => Ok(PutOutcome {
                 replaced,
                 back: Some(Node { parts }),

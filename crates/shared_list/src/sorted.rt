@@ -7,22 +7,23 @@ ghost use Rattle.shared_list.specs.Parts.{AreSound, IsFilled, IsPlain};
 
 use crate::NoMemory;
 use crate::node::Node;
-use crate::split::MOST;
+use crate::split::{LEAF_MOST, NODE_MOST};
 use std::alloc::Global;
 use std::sync::Arc;
 
-/// Cuts items into pieces in their order, none of them empty. All but the first are full.
-fn pieces_of<X: Drop>(alloc: Global, items: Vec<X>) -> Result<Vec<Vec<X>>, NoMemory>
+/// Cuts items into pieces of so many at most, in their order, none of them empty. All but the first are full.
+fn pieces_of<X: Drop>(alloc: Global, items: Vec<X>, most: usize) -> Result<Vec<Vec<X>>, NoMemory>
+    requires { 0 < most }
     ensures items { IfOk result (λ pieces.
         flat_map (λ piece. piece.items) pieces.items ≡ items.items) }
     ensures filled { IfOk result (λ pieces.
         AllByRecursion (λ piece. 0 < length piece.items) pieces.items) }
 {
     let mut left = items;
-    let mut pieces = Vec::with_capacity(alloc, left.len() / MOST + 1)?;
+    let mut pieces = Vec::with_capacity(alloc, left.len().div_ceil(most))?;
     // The last piece comes first, since a vector gives its end away at no cost to what is left.
     'pieces: while !left.is_empty() {
-        let at = left.len().saturating_sub(MOST);
+        let at = left.len().saturating_sub(most);
         pieces.push(left.split_off(at)?)?;
     }
     pieces.reverse();
@@ -69,6 +70,6 @@ pub(crate) fn nodes_of<T: Drop>(
     ensures items { IfOk result (λ nodes. items_in node_items nodes.items ≡ items.items) }
     ensures sound { IfOk result (λ nodes. AreSound node_items IsFilled nodes.items) }
 {
-    let leaves = leaves_of(alloc, pieces_of(alloc, items)?)?;
-    nodes_over(alloc, pieces_of(alloc, leaves)?)
+    let leaves = leaves_of(alloc, pieces_of(alloc, items, LEAF_MOST)?)?;
+    nodes_over(alloc, pieces_of(alloc, leaves, NODE_MOST)?)
 }

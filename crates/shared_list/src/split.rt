@@ -14,30 +14,37 @@ pub(crate) struct Arrival<T> {
     pub(crate) at_end: bool,
 }
 
-/// The most items of a leaf, and the most parts of a node.
-pub(crate) const MOST: usize = 32;
+/// The most items of a leaf. Changes that are spread over a long list are in leaves of their own, of which all items are
+/// copied: so a leaf has few.
+pub(crate) const LEAF_MOST: usize = 16;
 
-/// How many of them stay where there are more than that, and the newest is not the last.
-const KEPT: usize = 16;
+/// The most parts of a node. A version of a list is a share of each node, so these are more.
+pub(crate) const NODE_MOST: usize = 32;
 
-/// Takes the back of a part that has too many items off, by whether the newest is the last.
-pub(crate) fn split_off<X>(items: &mut Vec<X>, at_end: bool) -> Result<Option<Vec<X>>, NoMemory>
+/// Takes the back of a part that has more than so many items off, by whether the newest is the last.
+pub(crate) fn split_off<X>(
+    items: &mut Vec<X>,
+    most: usize,
+    at_end: bool,
+) -> Result<Option<Vec<X>>, NoMemory>
+    requires { 1 < most }
     ensures parts { IfOk result (λ rest.
         items.new.items ++ items_if_some (λ back. back.items) rest ≡ items.old.items) }
     ensures front { OnOk result (0 < length items.old.items → 0 < length items.new.items) }
     ensures back { IfOk result (λ rest. IfSome rest (λ back. 0 < length back.items)) }
 {
-    if items.len() <= MOST {
+    if items.len() <= most {
         return Ok(None);
     }
-    Ok(Some(items.split_off(kept_count(at_end))?))
+    Ok(Some(items.split_off(kept_count(most, at_end))?))
 }
 
 /// How many items stay in a part that has one too many. Where the newest is the last, all others stay, so
 /// that keys which come in rising order leave full parts; else about half of them.
-fn kept_count(at_end: bool) -> usize
+fn kept_count(most: usize, at_end: bool) -> usize
+    requires { 1 < most }
     ensures some { 0 < result }
-    ensures most { result ≤ MOST }
+    ensures within { result ≤ most }
 {
-    if at_end { MOST } else { KEPT }
+    if at_end { most } else { most / 2 }
 }

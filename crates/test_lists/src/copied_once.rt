@@ -106,7 +106,7 @@ fn copies_made(alloc: Global, count: u32, step: u32) -> Result<usize, NoMemory> 
 fn each_leaf_is_copied_once(rt: HostRuntime) -> Result<(), Fail> {
     let alloc = rt.alloc();
     assert_eq!(rt; copies_made(alloc, 20, 1)?, 32);
-    assert_eq!(rt; copies_made(alloc, 20, 32)?, 640);
+    assert_eq!(rt; copies_made(alloc, 20, 32)?, 320);
     assert_eq!(rt; copies_made(alloc, 40, 16)?, 640);
     Ok(())
 }

@@ -1,6 +1,6 @@
 //! Tables of few ids and of several hundred, with ample memory.
 
-use entity_table::{NoMemory, SharedStored, Stored, Table, apply};
+use entity_table::{NoMemory, SharedStored, Stored, Table, apply, first_table};
 use rt_types::{Bytes, Entities, Entity, FeedMessage, Header, Incrementality, Text};
 use std::alloc::Global;
 use std::test::Fail;
@@ -124,6 +124,29 @@ fn entities_come_change_and_go(rt: HostRuntime) -> Result<(), Fail> {
         )?
     );
     assert!(rt; leave(alloc, &[first, second, "+e -e"], &[])?);
+    Ok(())
+}
+
+/// Whether a table that begins with the message of these words holds just what is told.
+fn begins(alloc: Global, words: &str, told: &[(&str, u64, u8)]) -> Result<bool, NoMemory> {
+    let entities = entities_told(alloc, words)?;
+    let first = message(alloc, kind_told(words), 1, entities)?;
+    Ok(holds(&first_table(alloc, first)?, told))
+}
+
+/// Whether tables begin with messages in which ids rise, come in any order or twice, and go.
+fn begin(alloc: Global) -> Result<bool, NoMemory> {
+    Ok(
+        begins(alloc, "+a +b", &[("a", 1, b'0'), ("b", 1, b'1')])?
+            && begins(alloc, "+b +a +b", &[("a", 1, b'1'), ("b", 1, b'2')])?
+            && begins(alloc, "~ +b -b +a", &[("a", 1, b'3')])?
+            && begins(alloc, "", &[])?,
+    )
+}
+
+#[test]
+fn a_table_begins_with_a_message(rt: HostRuntime) -> Result<(), Fail> {
+    assert!(rt; begin(rt.alloc())?);
     Ok(())
 }
 

@@ -9,6 +9,7 @@ ghost use Rattle.trip_match.specs.Meaning.{IsMeant, IsStarted};
 
 use crate::descriptor::given;
 use crate::near::by_near;
+use crate::neighbours::trip_near;
 use rt_types::Text;
 use sched_types::{Plan, Run};
 use texts::read_time;
@@ -50,24 +51,26 @@ fn started(plan: &Plan, pattern: u32, time: &Option<Text>) -> Result<u32, Why>
 }
 
 /// The trip that a trip_id means: where it names a pattern, the one that starts at the start_time, and else the
-/// one with that id; or why none is meant.
-fn trip_meant(plan: &Plan, id: &str, time: &Option<Text>) -> Result<u32, Why>
+/// one with that id, which is looked for near the given trip first; or why none is meant.
+fn trip_meant(plan: &Plan, id: &str, time: &Option<Text>, near: Option<u32>) -> Result<u32, Why>
     ensures meant { IsMeant plan.now id.now (text_given time.now) result }
     ensures within { IfOk result (λ trip. trip < length plan.now.trips) }
 {
     match plan.pattern_of(id) {
         Some(pattern) => started(plan, pattern, time),
-        None => plan.trip_of(id).ok_or(Why::NoTrip),
+        None => trip_near(plan, id, near).ok_or(Why::NoTrip),
     }
 }
 
-/// The run of the trip that the id and the time mean on that date, or without a date on the nearest day.
+/// The run of the trip that the id and the time mean on that date, or without a date on the nearest day. The trip is looked
+/// for near the given one first.
 pub(crate) fn by_id(
     plan: &Plan,
     id: &str,
     time: &Option<Text>,
     date: Option<u32>,
     stamp: u64,
+    near: Option<u32>,
 ) -> Found
     ensures { (later : Found) → result
         ≡ first_rule (rule_pattern plan.now (Some id.now) (text_given time.now))
@@ -75,7 +78,7 @@ pub(crate) fn by_id(
         (first_rule (rule_5_nearest_day plan.now (pos stamp) (Some id.now) (text_given time.now))
         later)) }
 {
-    match trip_meant(plan, id, time) {
+    match trip_meant(plan, id, time, near) {
         Ok(trip) => match date {
             Some(date) => run_on(plan, trip, date),
             None => by_near(plan, trip, stamp),

@@ -55,7 +55,7 @@ fn added(trip: &TripRef) -> Found
 }
 
 /// What the descriptor of a trip of the timetable is about.
-fn scheduled(plan: &Plan, trip: &TripRef, date: Option<u32>, stamp: u64) -> Found
+fn scheduled(plan: &Plan, trip: &TripRef, date: Option<u32>, stamp: u64, near: Option<u32>) -> Found
     ensures { result
         ≡ first_rule (rule_pattern plan.now
         (text.text_given trip.now.trip_id) (text.text_given trip.now.start_time))
@@ -68,15 +68,23 @@ fn scheduled(plan: &Plan, trip: &TripRef, date: Option<u32>, stamp: u64) -> Foun
         (text.text_given trip.now.start_time)))) }
 {
     match given(&trip.trip_id) {
-        Some(id) => by_id(plan, id, &trip.start_time, date, stamp),
+        Some(id) => by_id(plan, id, &trip.start_time, date, stamp, near),
         None => by_departure(plan, trip, date),
     }
 }
 
 /// What a trip descriptor is about at an instant, in seconds since 1970: that of the update or message in which
 /// it stands (GTFS Realtime, TripDescriptor).
-#[tactic(auto, unfolding(trip_match_defs::specs::Matching::match_of))]
 pub fn find(plan: &Plan, trip: &TripRef, stamp: u64) -> Found
+    ensures { result ≡ match_of plan.now trip.now stamp }
+{
+    find_near(plan, trip, stamp, None)
+}
+
+/// What [`find`] gives. The trip that a trip_id means is looked for among the few from the given one on first, whatever
+/// number that is.
+#[tactic(auto, unfolding(trip_match_defs::specs::Matching::match_of))]
+pub fn find_near(plan: &Plan, trip: &TripRef, stamp: u64, near: Option<u32>) -> Found
     ensures { result ≡ match_of plan.now trip.now stamp }
 {
     let relation = trip.relation.unwrap_or(TripRelation::Scheduled);
@@ -88,7 +96,7 @@ pub fn find(plan: &Plan, trip: &TripRef, stamp: u64) -> Found
             if is_added(relation) {
                 added(trip)
             } else {
-                scheduled(plan, trip, date, stamp)
+                scheduled(plan, trip, date, stamp, near)
             }
         }
         Err(why) => Found::NoMatch(why),

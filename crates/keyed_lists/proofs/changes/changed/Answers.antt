@@ -17,7 +17,7 @@ returns g c =
 -- items that are put into a list of none
 pub returns-then-are_puts : goal.returns-then-are_puts
 returns-then-are_puts g c =
-    if_ok_is c.listed.result (λ list. list) _ _
+    if_ok_is c.listed_by_key.result (λ list. list) _ _
     (ap (by_key g.T.Keyed.key_cmp g.T.Keyed.key_of) c.in_ok-items_put.ensures
     ∙ puts_listed g.met.T.Keyed.total g.T.Keyed.key_of g.K.KeyFor.sought c.args.list.now c.args.changes.items (omega (arith, c.len.ensures, c.if-len-eq0.true)) (rw (c.as_slice.ensures.value) at (sym c.are_puts.ensures ∙ c.if-are_puts.true)))
-    c.listed.ensures
+    c.listed_by_key.ensures

@@ -1,5 +1,5 @@
 -- Where there was no run, departures come and none goes.
-use Rattle.std.proofs.Common.{◌∙◌, arith}
+use Rattle.std.proofs.Common.{arith}
 use Rattle.keyed_lists.proofs.Said.{if_ok_is}
 use Rattle.run_overlay.proofs.FirstRows.{rows_come}
 use Rattle.run_overlay.proofs.live_lists.rows_after.Goals as goal

@@ -5,7 +5,7 @@ use Rattle.std.specs.FinMap.{is_sorted}
 use Rattle.feed_defs.proofs.Kept.{id_cmp}
 use Rattle.entity_table.proofs.TableLemmas.{after_each}
 use Rattle.alert_select.specs.FeedAlerts.{alerts_of}
-use Rattle.feed_view.proofs.view.held_after.Given as goal
+use Rattle.feed_view.proofs.view.held_on.Given as goal
 
 abbrev pub invariant-loop-entity : goal.invariant-loop-entity
 invariant-loop-entity l = record {
