@@ -36,18 +36,27 @@ pub(crate) fn posts_of<C: Drop>(alloc: Global, clocks: Vec<C>) -> Result<Vec<Pos
 {
     let mut posts = Vec::with_capacity(alloc, clocks.len())?;
     for clock in clocks {
-        posts.push(Post {
-            clock,
-            kept: Kept::new(alloc)?,
-            report: DoorReport {
-                end: DoorEnd::Ended,
-                connections: 0,
-                responses: 0,
-                starved: 0,
-            },
-        })?;
+        let post = post_of(alloc, clock)?;
+        posts.push(post)?;
     }
     Ok(posts)
+}
+
+/// The post of a reader with that clock, which has kept no view; or want of memory.
+fn post_of<C: Drop>(alloc: Global, clock: C) -> Result<Post<C>, NoMemory>
+    ensures clock { IfOk result (λ post. post.clock ≡ clock) }
+    ensures kept { IfOk result (λ post. post.kept ≡ []) }
+{
+    Ok(Post {
+        clock,
+        kept: Kept::new(alloc)?,
+        report: DoorReport {
+            end: DoorEnd::Ended,
+            connections: 0,
+            responses: 0,
+            starved: 0,
+        },
+    })
 }
 
 /// The passes of readers at the hub.
