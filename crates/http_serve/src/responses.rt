@@ -10,7 +10,7 @@ ghost use Rattle.http_serve_defs.specs.Answers.{answer, changes_answer, found, r
 ghost use Rattle.http_serve.specs.Headings.{Appends};
 
 use crate::NoMemory;
-use crate::questions::{Since, feed_since, kind_of, question_of, refusal_code};
+use crate::questions::{feed_since, kind_of, question_of, refusal_code};
 use board_parts::HubView;
 use delta_out::{Kept, since};
 use http_defs::{BodyKind, Item, Query};
@@ -123,9 +123,7 @@ fn answer_query(
     ensures status { IfOk result (λ heading. is_status heading.status ≡ true) }
 {
     match feed_since(query, kept) {
-        Some(Since { schedule, number }) => {
-            answer_since(alloc, view, kept, schedule, number, bytes)
-        }
+        Some(asked) => answer_since(alloc, view, kept, asked.schedule, asked.number, bytes),
         None => answer_whole(alloc, view, query, moment, bytes),
     }
 }
