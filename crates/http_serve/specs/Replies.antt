@@ -40,8 +40,8 @@ kept_behind plans history kept (number ∷ numbers) =
     kept_behind plans history (kept_at plans history number kept) numbers
 
 -- The bytes of a response at a place of its connection, counted from 1: it answers of the first
--- messages of the history, as many as its number says, and of the views that are kept with its look,
--- where these were kept before.
+-- messages of the history, as many as its number says, and of the views that are kept with its
+-- look, where these were kept before.
 unfoldable pub reply_bytes : Schedules → List Entry → List KeptView → ℕ → Reply → List ℕ
 reply_bytes plans history kept place r =
     answer plans r.item (place == last_place) r.moment r.number

@@ -34,8 +34,8 @@ AreAnswered input taken items WriteFault = (rest : List ℕ) × Leads 1 input it
 AreAnswered input taken items NoMemory = (rest : List ℕ) × Leads 1 input items rest
 
 -- A response that was cut: it would have answered the item behind those that were answered, at the
--- next reading, and of the whole history, where these views were kept before; fewer of its bytes were
--- written than it has.
+-- next reading, and of the whole history, where these views were kept before; fewer of its bytes
+-- were written than it has.
 pub record WasCut
     (plans : Schedules) (history : List Entry) (kept : List KeptView) (input : List ℕ)
     (items : List Item) (begun : Begun) : Type 0 where

@@ -1,5 +1,5 @@
--- What a connection is served between: the sink, the clock, the oracle and the views that are kept, as
--- contracts see them.
+-- What a connection is served between: the sink, the clock, the oracle and the views that are kept,
+-- as contracts see them.
 use Rattle.std.specs.Prelude.{◌≡◌, ℕ, ◌≤◌, Bool, true, List, [], ◌∷◌, Option}
 use Rattle.std.specs.Option.{option_map}
 use Rattle.feed_defs.specs.declared.history.Entry.{Entry}
@@ -9,8 +9,8 @@ use Rattle.board_parts.specs.Looks.{GoesOn}
 use Rattle.delta_defs.specs.Kept.{KeptView}
 
 -- the bytes written and the faults of the sink, the readings ahead of the clock, and of the oracle
--- its timetables, its history, how often it was looked at, and whether its history stands still; and
--- the views that were kept of the last looks
+-- its timetables, its history, how often it was looked at, and whether its history stands still;
+-- and the views that were kept of the last looks
 pub record Setting : Type 0 where
   pub written : Option (List ℕ)
   pub write_faults : ℕ

@@ -17,7 +17,8 @@ abbrev pub AreOfHistory : Schedules → List Entry → List KeptView → Type 0
 AreOfHistory plans history kept = AllByRecursion (IsOfHistory plans history) kept
 
 -- a look's view is kept; where memory ran out it is or it isn't
-abbrev pub KeepsLook : {A E : Type 0} → Result A E → KeptView → List KeptView → List KeptView → Type 0
+abbrev pub KeepsLook : {A E : Type 0} → Result A E → KeptView → List KeptView → List KeptView
+    → Type 0
 KeepsLook (Ok x) view old new = new ≡ views_with view old
 KeepsLook (Err e) view old new = (new ≡ old) ⊎ (new ≡ views_with view old)
 

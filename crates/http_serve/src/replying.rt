@@ -44,9 +44,11 @@ pub(crate) fn reply<K: Sink, O: Oracle, C: Clock>(
 ) -> Result<(), Unwritten>
     ensures { Replies place
         (setting (K.written sink.old) (K.faults sink.old) (C.ahead clock.old)
-        (O.plans oracle.old) (O.history oracle.old) (O.reads oracle.old) (O.steady oracle.old) kept.old)
+        (O.plans oracle.old) (O.history oracle.old) (O.reads oracle.old)
+        (O.steady oracle.old) kept.old)
         (setting (K.written sink.new) (K.faults sink.new) (C.ahead clock.new)
-        (O.plans oracle.new) (O.history oracle.new) (O.reads oracle.new) (O.steady oracle.new) kept.new)
+        (O.plans oracle.new) (O.history oracle.new) (O.reads oracle.new)
+        (O.steady oracle.new) kept.new)
         item.now (noted_in notes.old) (noted_in notes.new) result }
 {
     let Ok(()) = notes.make_room() else {

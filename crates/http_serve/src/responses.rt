@@ -59,7 +59,8 @@ impl Responder {
         requires { moment ≤ last_moment }
         ensures begins_within { IfOk result (λ start. start ≤ length self.new.bytes.items) }
         ensures made { IfOk result (λ start. drop start self.new.bytes.items
-            ≡ answer view.now.plans item.now thousandth moment number (folds_of view.now) kept.now) }
+            ≡ answer view.now.plans item.now thousandth moment number (folds_of view.now)
+            kept.now) }
     {
         self.bytes.resize(LONGEST_HEAD, 0)?;
         let heading = answer_item(&self.routes, view, kept, item, moment, &mut self.bytes)?;

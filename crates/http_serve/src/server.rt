@@ -55,9 +55,11 @@ pub fn serve_since<S: Source, K: Sink, O: Oracle, C: Clock>(
     ensures serves { Serves (S.left source.old) (S.left source.new)
         (S.faults source.old) (S.faults source.new)
         (setting (K.written sink.old) (K.faults sink.old) (C.ahead clock.old)
-        (O.plans oracle.old) (O.history oracle.old) (O.reads oracle.old) (O.steady oracle.old) kept.old)
+        (O.plans oracle.old) (O.history oracle.old) (O.reads oracle.old)
+        (O.steady oracle.old) kept.old)
         (setting (K.written sink.new) (K.faults sink.new) (C.ahead clock.new)
-        (O.plans oracle.new) (O.history oracle.new) (O.reads oracle.new) (O.steady oracle.new) kept.new)
+        (O.plans oracle.new) (O.history oracle.new) (O.reads oracle.new)
+        (O.steady oracle.new) kept.new)
         result.end result.numbers.items result.moments.items }
     ensures kept { AreOfHistory (O.plans oracle.new) (O.history oracle.new) kept.new }
 {
@@ -102,9 +104,11 @@ impl ConnectionServer {
         ensures serves { (kept : List KeptView) × Serves (S.left source.old) (S.left source.new)
             (S.faults source.old) (S.faults source.new)
             (setting (K.written sink.old) (K.faults sink.old) (C.ahead clock.old)
-            (O.plans oracle.old) (O.history oracle.old) (O.reads oracle.old) (O.steady oracle.old) [])
+            (O.plans oracle.old) (O.history oracle.old) (O.reads oracle.old)
+            (O.steady oracle.old) [])
             (setting (K.written sink.new) (K.faults sink.new) (C.ahead clock.new)
-            (O.plans oracle.new) (O.history oracle.new) (O.reads oracle.new) (O.steady oracle.new) kept)
+            (O.plans oracle.new) (O.history oracle.new) (O.reads oracle.new)
+            (O.steady oracle.new) kept)
             result.end result.numbers.items result.moments.items }
     {
         let Ok(mut kept) = Kept::new(self.alloc) else {

@@ -55,9 +55,11 @@ impl Service {
         ensures serves { Serves (S.left source.old) (S.left source.new)
             (S.faults source.old) (S.faults source.new)
             (setting (K.written sink.old) (K.faults sink.old) (C.ahead clock.old)
-            (O.plans oracle.old) (O.history oracle.old) (O.reads oracle.old) (O.steady oracle.old) kept.old)
+            (O.plans oracle.old) (O.history oracle.old) (O.reads oracle.old)
+            (O.steady oracle.old) kept.old)
             (setting (K.written sink.new) (K.faults sink.new) (C.ahead clock.new)
-            (O.plans oracle.new) (O.history oracle.new) (O.reads oracle.new) (O.steady oracle.new) kept.new)
+            (O.plans oracle.new) (O.history oracle.new) (O.reads oracle.new)
+            (O.steady oracle.new) kept.new)
             result.end result.numbers.items result.moments.items }
     {
         self.reader.clear();
@@ -85,9 +87,11 @@ impl Service {
         ensures turns { Turns place self.old.reader self.new.reader
             (S.left source.old) (S.left source.new)
             (setting (K.written sink.old) (K.faults sink.old) (C.ahead clock.old)
-            (O.plans oracle.old) (O.history oracle.old) (O.reads oracle.old) (O.steady oracle.old) kept.old)
+            (O.plans oracle.old) (O.history oracle.old) (O.reads oracle.old)
+            (O.steady oracle.old) kept.old)
             (setting (K.written sink.new) (K.faults sink.new) (C.ahead clock.new)
-            (O.plans oracle.new) (O.history oracle.new) (O.reads oracle.new) (O.steady oracle.new) kept.new)
+            (O.plans oracle.new) (O.history oracle.new) (O.reads oracle.new)
+            (O.steady oracle.new) kept.new)
             (noted_in notes.old) (noted_in notes.new) result }
         ensures cause { HasTurnCause result (S.faults source.old) (S.faults source.new)
             (K.faults sink.old) (K.faults sink.new) }

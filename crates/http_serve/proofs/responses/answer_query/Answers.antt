@@ -1,13 +1,13 @@
 -- A feed since a view that is kept, or the whole answer.
-use Rattle.std.proofs.Common.{subst, sym, List}
-use Rattle.std.specs.Prelude.{IsSome, Option}
+use Rattle.std.proofs.Common.{List, Option, refl, sym, subst}
+use Rattle.std.specs.Option.{IsSome}
 use Rattle.board_defs.specs.Fold.{FeedFold}
 use Rattle.board_defs.specs.Views.{folds_of}
 use Rattle.http_serve.proofs.Bodies.{by_since, by_none}
 use Rattle.http_serve.proofs.responses.answer_query.Goals as goal
 
 pub answer_since-requires : goal.answer_since-requires
-answer_since-requires c = subst (λ (o : Option (List FeedFold)). IsSome o) (sym c.in-Some.ensures.1) tt
+answer_since-requires c = subst (λ (o : Option (List FeedFold)). IsSome o) (sym c.in-Some.ensures.1) refl
 
 pub returns-in-Some-clause-answered : goal.returns-in-Some-clause-answered
 returns-in-Some-clause-answered c =
