@@ -1,5 +1,5 @@
 -- A head that was put before the body of an answer makes its response.
-use Rattle.std.proofs.Common.{◌≡◌, ℕ, Bool, List, ◌++◌, length, drop, Option, None, Some, sym, ap, ◌∙◌, subst}
+use Rattle.std.proofs.Common.{◌≡◌, ℕ, Bool, List, length, drop, Option, None, Some, sym, ap, ◌∙◌, subst}
 use Rattle.std.specs.Prelude.{Result, Ok, Err, IfOk}
 use Rattle.std.specs.Option.{option_map, option_map_or}
 use Rattle.std.proofs.Transfers.{drop-appended}
@@ -59,9 +59,9 @@ pub no_schedule : {E : Type 0} (r : Result Heading E) (old new : List ℕ) (plan
 no_schedule r old new plans folds since none given =
     subst (λ (o : Option ℕ). IfOk r (λ heading. Appends heading old new (changes_of plans since.old folds o))) none given
 
-pub has_schedule : (heading : Heading) (old new bytes : List ℕ) (plans : Schedules) (folds : List FeedFold) (since : FeedSince) (plan : ℕ)
-    → Some plan ≡ schedule_number plans since.schedule → bytes ≡ changes_bytes plans plan since.old folds → new ≡ old ++ bytes
-    → heading.status ≡ 200 → heading.kind ≡ Message → Appends heading old new (found Message (changes_answer plans folds since))
-has_schedule heading old new bytes plans folds since plan at is grew status kind =
-    subst (λ (o : Option ℕ). Appends heading old new (changes_of plans since.old folds o)) at
-    (record { status = status; kind = kind; body = grew ∙ ap (λ (xs : List ℕ). old ++ xs) is })
+pub has_schedule : {E : Type 0} (r : Result Heading E) (old new : List ℕ) (plans : Schedules) (folds : List FeedFold) (since : FeedSince)
+    (plan : ℕ) → Some plan ≡ schedule_number plans since.schedule
+    → IfOk r (λ heading. Appends heading old new (found Message (Some (changes_bytes plans plan since.old folds))))
+    → IfOk r (λ heading. Appends heading old new (found Message (changes_answer plans folds since)))
+has_schedule r old new plans folds since plan at given =
+    subst (λ (o : Option ℕ). IfOk r (λ heading. Appends heading old new (changes_of plans since.old folds o))) at given

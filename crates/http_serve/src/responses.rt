@@ -1,8 +1,9 @@
 //! Makes each response whole in the buffer in which it is sent.
-ghost use Rattle.std.specs.Prelude.{◌≡◌, ◌≤◌, true, Some, List, length, drop, IfOk, IsSome};
+ghost use Rattle.std.specs.Prelude.{◌≡◌, ◌≤◌, ◌<◌, true, Some, List, length, drop, IfOk, IsSome};
 ghost use Rattle.text_defs.specs.Moments.{last_moment};
 ghost use Rattle.board_defs.specs.Fold.{FeedFold};
 ghost use Rattle.board_defs.specs.Views.{folds_of};
+ghost use Rattle.delta_defs.specs.Changes.{changes_bytes};
 ghost use Rattle.delta_defs.specs.Kept.{folds_at};
 ghost use Rattle.http_defs.specs.declared.response.BodyKind.TheVariants as kinds;
 ghost use Rattle.http_serve_defs.specs.Questions.{is_status, is_refusal, IsAskable};
@@ -145,9 +146,28 @@ fn answer_since(
         (record { schedule = schedule.now; old = old })))) }
     ensures status { IfOk result (λ heading. is_status heading.status ≡ true) }
 {
-    let Some(plan) = schedule_number(view.plans(), schedule) else {
-        return refuse(404, bytes);
-    };
+    match schedule_number(view.plans(), schedule) {
+        Some(plan) => push_changes(alloc, view, kept, plan, number, bytes),
+        None => refuse(404, bytes),
+    }
+}
+
+/// Appends the same of the schedule of that number.
+fn push_changes(
+    alloc: Global,
+    view: &HubView,
+    kept: &Kept,
+    plan: u32,
+    number: u64,
+    bytes: &mut Vec<u8>,
+) -> Result<Heading, NoMemory>
+    requires plan { plan < length view.now.plans.plans }
+    requires kept { IsSome (folds_at number kept.now) }
+    ensures answered { (old : List FeedFold) → folds_at number kept.now ≡ Some old
+        → IfOk result (λ heading. Appends heading bytes.old.items bytes.new.items
+        (found kinds.Feed (Some (changes_bytes view.now.plans plan old (folds_of view.now))))) }
+    ensures status { IfOk result (λ heading. is_status heading.status ≡ true) }
+{
     let changes = since(alloc, kept, view, plan, number)?;
     bytes.extend_from_slice(changes.as_slice())?;
     Ok(Heading {
