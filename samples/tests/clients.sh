@@ -122,6 +122,9 @@ curl -fsS --max-time 90 -o "$work/answer" "http://$hub_address/status" &
 client=$!
 sleep 65
 check "a client is not answered for more than a minute" kill -0 "$client"
+check "the cause is told at once" grep -q "^hub: can't accept a connection: too many open files" "$work/poor.err"
+check "and after a minute how often" grep -q "^hub: can't accept a connection: [0-9]* times, the last one: " "$work/poor.err"
+check "and no more" is "$(grep -c "^hub: can't accept a connection: " "$work/poor.err")" 2
 prlimit --pid "$hub_process" --nofile=1024:1024
 status=0
 wait "$client" || status=$?
