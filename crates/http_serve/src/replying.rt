@@ -1,4 +1,5 @@
 //! The response to one item.
+ghost use Rattle.std.specs.Prelude.{◌≡◌, false};
 ghost use Rattle.http_serve.specs.Setting.{setting};
 ghost use Rattle.http_serve.specs.Notes.{noted_in};
 ghost use Rattle.http_serve.specs.Turns.{Replies};
@@ -33,12 +34,13 @@ pub(crate) fn reply<K: Sink, O: Oracle, C: Clock>(
     oracle: &mut O,
     clock: &mut C,
 ) -> Result<(), Unwritten>
-    ensures { Replies place
+    ensures replies { Replies place
         (setting (K.written sink.old) (K.faults sink.old) (C.ahead clock.old)
         (O.plans oracle.old) (O.history oracle.old) (O.reads oracle.old) (O.steady oracle.old))
         (setting (K.written sink.new) (K.faults sink.new) (C.ahead clock.new)
         (O.plans oracle.new) (O.history oracle.new) (O.reads oracle.new) (O.steady oracle.new))
         item.now (noted_in notes.old) (noted_in notes.new) result }
+    ensures lets_go { O.holds oracle.old ≡ false → O.holds oracle.new ≡ false }
 {
     let Ok(()) = notes.make_room() else {
         return Err(Unwritten::Starved);

@@ -1,5 +1,5 @@
 //! Connections, one after another.
-ghost use Rattle.std.specs.Prelude.{◌≡◌, ◌≤◌, true, IfOk};
+ghost use Rattle.std.specs.Prelude.{◌≡◌, ◌≤◌, true, false, IfOk};
 ghost use Rattle.text_defs.specs.Moments.{last_moment};
 ghost use Rattle.http_serve.specs.Setting.{setting};
 ghost use Rattle.http_serve.specs.Serves.{Serves};
@@ -31,6 +31,7 @@ pub fn serve_connection<S: Source, K: Sink, O: Oracle, C: Clock>(
         (setting (K.written sink.new) (K.faults sink.new) (C.ahead clock.new)
         (O.plans oracle.new) (O.history oracle.new) (O.reads oracle.new) (O.steady oracle.new))
         result.end result.numbers.items result.moments.items }
+    ensures lets_go { O.holds oracle.old ≡ false → O.holds oracle.new ≡ false }
 {
     let mut server = ConnectionServer::new(alloc);
     server.serve(source, sink, oracle, clock)
@@ -76,6 +77,7 @@ impl ConnectionServer {
             (setting (K.written sink.new) (K.faults sink.new) (C.ahead clock.new)
             (O.plans oracle.new) (O.history oracle.new) (O.reads oracle.new) (O.steady oracle.new))
             result.end result.numbers.items result.moments.items }
+        ensures lets_go { O.holds oracle.old ≡ false → O.holds oracle.new ≡ false }
     {
         if self.service.is_none() {
             self.service = Service::new(self.alloc).ok();

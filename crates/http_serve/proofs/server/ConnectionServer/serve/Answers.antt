@@ -12,4 +12,5 @@ returns-in_default g c = record {
       (setting (g.K.Sink.written c.args.sink.now) (g.K.Sink.faults c.args.sink.now) (g.C.Clock.ahead c.args.clock.now) (g.O.Oracle.plans c.args.oracle.now) (g.O.Oracle.history c.args.oracle.now) (g.O.Oracle.reads c.args.oracle.now) (g.O.Oracle.steady c.args.oracle.now)))
       c.session.ensures.end (c.session.ensures.numbers ∙ ap (λ (n : Noted). n.numbers) c.none.ensures)
       (c.session.ensures.moments ∙ ap (λ (n : Noted). n.moments) c.none.ensures);
+  lets_go = λ none. none;
 }
