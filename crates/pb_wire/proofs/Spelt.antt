@@ -1,8 +1,42 @@
 -- A writer's loop over the groups of a number: what was appended, with the groups of what is left.
-use Rattle.std.proofs.Common.{◌≡◌, ℕ, zero, suc, ◌+◌, ◌/◌, ◌%◌, ◌^◌, ◌<◌, ◌≤◌, List, [], ◌∷◌, ◌++◌, sym, ap, ◌∙◌, append_assoc, arith}
+use Rattle.std.proofs.Common.{◌≡◌, ℕ, zero, suc, ◌+◌, ◌*◌, ◌/◌, ◌%◌, ◌^◌, ◌<◌, ◌≤◌, List, [], ◌∷◌, ◌++◌, sym, ap, ◌∙◌, append_assoc, arith}
 use Rattle.std.proofs.Math.Nat.{pow-suc}
 use Rattle.pb_wire_defs.specs.Writing.{groups, varint}
 use Rattle.pb_wire_defs.proofs.Again.{last_group, more_groups, quotient_below}
+
+-- ---- a number of five groups
+
+at_least : (n m : ℕ) → m * 128 ≤ n → m ≤ n / 128
+at_least n m le = omega arith
+
+at_most : (n m : ℕ) → n < m * 128 → n / 128 < m
+at_most n m lt = omega arith
+
+remains : (n : ℕ) → n < 128 → n % 128 ≡ n
+remains n lt = omega arith
+
+pub five : (n : ℕ) → 268435456 ≤ n → n < 34359738368
+    → (n % 128 + 128) ∷ (n / 128 % 128 + 128) ∷ (n / 128 / 128 % 128 + 128) ∷ (n / 128 / 128 / 128 % 128 + 128) ∷ (n / 128 / 128 / 128 / 128 % 128) ∷ [] ≡ varint n
+unfolding varint
+five n from below =
+    let second = n / 128 in
+    let third = second / 128 in
+    let fourth = third / 128 in
+    let last = fourth / 128 in
+    let from_2 : 2097152 ≤ second = at_least n 2097152 (omega (arith, from)) in
+    let from_3 : 16384 ≤ third = at_least second 16384 (omega (arith, from_2)) in
+    let from_4 : 128 ≤ fourth = at_least third 128 (omega (arith, from_3)) in
+    let below_2 : second < 268435456 = at_most n 268435456 (omega (arith, below)) in
+    let below_3 : third < 2097152 = at_most second 2097152 (omega (arith, below_2)) in
+    let below_4 : fourth < 16384 = at_most third 16384 (omega (arith, below_3)) in
+    let below_5 : last < 128 = at_most fourth 128 (omega (arith, below_4)) in
+    sym (more_groups 9 n (omega (arith, from))
+    ∙ ap (λ xs. (n % 128 + 128) ∷ xs) (more_groups 8 second (omega (arith, from_2))
+    ∙ ap (λ xs. (second % 128 + 128) ∷ xs) (more_groups 7 third (omega (arith, from_3))
+    ∙ ap (λ xs. (third % 128 + 128) ∷ xs) (more_groups 6 fourth from_4
+    ∙ ap (λ xs. (fourth % 128 + 128) ∷ xs) (last_group 5 last below_5 ∙ ap (λ m. m ∷ []) (sym (remains last below_5)))))))
+
+-- ---- group by group
 
 -- groups were appended to what stood before, those of the rest make them the whole varint, and there is room for these
 pub record Continues (value : ℕ) (before now : List ℕ) (len room rest : ℕ) : Type 0 where

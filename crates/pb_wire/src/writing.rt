@@ -9,6 +9,12 @@ use crate::NoMemory;
 /// The bytes of the longest varint.
 const LONGEST_VARINT: usize = 10;
 
+/// The least number whose varint has five groups. Instants of our time, in seconds since 1970, have as many.
+const LEAST_OF_FIVE: u64 = 268_435_456;
+
+/// The least number whose varint has six groups.
+const LEAST_OF_SIX: u64 = 34_359_738_368;
+
 /// Appends the shortest varint of the value (Protocol Buffers, "Encoding", "Base 128 Varints"). Want of memory
 /// leaves `out` as it was.
 ///
@@ -22,11 +28,44 @@ pub fn write_varint(value: u64, out: &mut Vec<u8>) -> Result<(), NoMemory>
         out.push(value as u8)?;
         return Ok(());
     }
-    write_groups(value, out)
+    write_long(value, out)
 }
 
-/// The same, group by group. Room for the longest varint is taken first, so that no push runs out of memory.
+/// The same of larger numbers. Most of these are instants, which are appended in one piece.
 #[inline(never)]
+fn write_long(value: u64, out: &mut Vec<u8>) -> Result<(), NoMemory>
+    ensures written { OnOk result (out.new.items ≡ out.old.items ++ varint value) }
+    ensures kept { OnErr result (out.new.items ≡ out.old.items) }
+{
+    if LEAST_OF_FIVE <= value && value < LEAST_OF_SIX {
+        out.extend_from_slice(&five_groups(value))
+    } else {
+        write_groups(value, out)
+    }
+}
+
+/// The varint of a number that has five groups.
+#[inline(always)]
+fn five_groups(value: u64) -> [u8; 5]
+    requires from { 268435456 ≤ value }
+    requires below { value < 34359738368 }
+    ensures { result ≡ varint value }
+{
+    let second = value / 128;
+    let third = second / 128;
+    let fourth = third / 128;
+    let last = fourth / 128;
+    [
+        (value % 128) as u8 + 128,
+        (second % 128) as u8 + 128,
+        (third % 128) as u8 + 128,
+        (fourth % 128) as u8 + 128,
+        (last % 128) as u8,
+    ]
+}
+
+/// Appends the shortest varint, group by group. Room for the longest varint is taken first, so that no push runs out of
+/// memory.
 fn write_groups(value: u64, out: &mut Vec<u8>) -> Result<(), NoMemory>
     ensures written { OnOk result (out.new.items ≡ out.old.items ++ varint value) }
     ensures kept { OnErr result (out.new.items ≡ out.old.items) }
