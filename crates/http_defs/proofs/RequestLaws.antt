@@ -8,7 +8,7 @@ use Rattle.http_defs.specs.declared.request.Request.{Request}
 use Rattle.http_defs.specs.declared.request.Item.{Item}
 use Rattle.http_defs.specs.declared.request.Item.TheVariants.{Asked, Malformed}
 use Rattle.http_defs.specs.Heads.{request_of}
-use Rattle.http_defs.specs.Requests.{BeginsWith, NoHead, Begins, Finish, closed, is_last, last_place, AreRequests, Leads}
+use Rattle.http_defs.specs.Requests.{BeginsWith, NoHead, Begins, Finish, closed, closes_after, is_last, last_place, AreRequests, Leads}
 
 -- ---- one head
 
@@ -115,7 +115,7 @@ apart : (place : ℕ) → (place == last_place) ≡ false → place ≢ last_pla
 apart place other = grind (arith, nat_tests)
 
 other_place : (place : ℕ) (r : Request) → is_last place r ≡ false → place ≢ last_place
-unfolding is_last
+unfolding is_last closes_after
 other_place place r e =
     apart place (or_right (r.close || not (bytes_eq r.method (codes "GET")) || r.body) (place == last_place) e)
 

@@ -35,11 +35,15 @@ pub data Finish : Type 0 where
 abbrev pub last_place : ℕ
 last_place = 1000
 
--- the connection closes after the request at this place: it asks to close, is no GET, may carry a
--- body, or stands at the last place
+-- the connection closes after a request: it asks to close, is no GET, may carry a body, or stands
+-- at the last place
+unfoldable pub closes_after : Request → Bool → Bool
+closes_after r at_the_end =
+    r.close || not (bytes_eq r.method (codes "GET")) || r.body || at_the_end
+
+-- the request at this place is the last one of its connection
 unfoldable pub is_last : ℕ → Request → Bool
-is_last place r =
-    r.close || not (bytes_eq r.method (codes "GET")) || r.body || (place == last_place)
+is_last place r = closes_after r (place == last_place)
 
 -- bytes are these items, of which the first has this place, up to the finish
 abbrev pub AreRequests : ℕ → List ℕ → List Item → Finish → Type 0

@@ -217,7 +217,7 @@ fn refuse(status: u16, bytes: &mut Vec<u8>) -> Result<Heading, NoMemory>
 }
 
 /// Whether the connection closes behind the answer to an item.
-#[tactic(auto, unfolding(http_serve_defs::specs::Answers::closes_behind))]
+#[tactic(auto, unfolding(http_defs::specs::Requests::closes_after, http_serve_defs::specs::Answers::closes_behind))]
 pub(crate) fn closes_behind(item: &Item, thousandth: bool) -> bool
     ensures { result ≡ closes_behind item.now thousandth }
 {

@@ -1,5 +1,5 @@
 -- What answers an item of a connection, of what all feeds say (RFC 9110, section 15).
-use Rattle.std.specs.Prelude.{ℕ, Bool, true, ◌||◌, not, bytes_eq, if◌then◌else◌, List, Option, Some, None, unwrap_or, codes}
+use Rattle.std.specs.Prelude.{ℕ, Bool, true, if◌then◌else◌, List, Option, Some, None, unwrap_or, codes}
 use Rattle.std.specs.Option.{option_map, option_map_or}
 use Rattle.sched_types.specs.Schedules.{Schedules}
 use Rattle.board_defs.specs.Fold.{FeedFold}
@@ -13,6 +13,7 @@ use Rattle.http_defs.specs.declared.asked.Query.{Query}
 use Rattle.http_defs.specs.declared.asked.Query.TheVariants.{Board, Alerts, Feed, Unmatched, Status, Refused}
 use Rattle.http_defs.specs.declared.response.BodyKind.{BodyKind}
 use Rattle.http_defs.specs.declared.response.BodyKind.TheVariants.{Text as Lines, Json, Feed as Message}
+use Rattle.http_defs.specs.Requests.{closes_after}
 use Rattle.http_defs.specs.Targets.{query_of}
 use Rattle.http_defs.specs.Responses.{response, refusal_text, status_of}
 use Rattle.http_serve_defs.specs.Questions.{question_of}
@@ -99,12 +100,11 @@ item_answered schedules folds kept Malformed moment = refused 400
 item_answered schedules folds kept (Asked r) moment =
     query_answered schedules folds kept (query_of r) moment
 
--- Whether the connection closes behind the answer to an item: it is no request, is no GET, may
--- carry a body or asks to close, or is the thousandth.
+-- Whether the connection closes behind the answer to an item: it is no request, or one after which
+-- it closes, as after the thousandth.
 unfoldable pub closes_behind : Item → Bool → Bool
 closes_behind Malformed thousandth = true
-closes_behind (Asked r) thousandth =
-    r.close || not (bytes_eq r.method (codes "GET")) || r.body || thousandth
+closes_behind (Asked r) thousandth = closes_after r thousandth
 
 -- the response to an item, which may be the thousandth of its connection, at a moment, of what all
 -- feeds say after so many messages and of the views that are kept then
