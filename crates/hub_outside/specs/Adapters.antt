@@ -1,5 +1,6 @@
 -- What a clause reads of an adapter: the object of std behind it, and its count of faults.
-use Rattle.std.specs.Prelude.{ℕ, Bool, is_some}
+use Rattle.std.specs.Prelude.{ℕ, Bool, Option, is_some}
+use Rattle.std.specs.declared.io.ErrorKind.{ErrorKind}
 use Rattle.hub_outside.specs.declared.adapters.source.StdSource.{StdSource}
 use Rattle.hub_outside.specs.declared.adapters.sink.StdSink.{StdSink}
 use Rattle.hub_outside.specs.declared.adapters.files.StdFiles.{StdFiles}
@@ -31,6 +32,10 @@ files_system files = files.system
 -- the faults that the files of the system met
 abbrev pub files_faults : {R : Type 0} → StdFiles R → ℕ
 files_faults files = files.faults
+
+-- why the call that failed last failed, as the files of the system tell it
+abbrev pub files_cause : {R : Type 0} → StdFiles R → Option ErrorKind
+files_cause files = files.cause
 
 -- the runtime behind the system's clock
 abbrev pub clock_system : {C : Type 0} → SystemClock C → C

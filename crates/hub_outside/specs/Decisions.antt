@@ -11,7 +11,7 @@ use Rattle.hub_outside.specs.Count.{last_count, one_more}
 use Rattle.hub_outside.specs.declared.doors.DoorAnswer.{DoorAnswer}
 use Rattle.hub_outside.specs.declared.doors.DoorAnswer.TheVariants.{Link, End as DoorEnd, Failed as DoorFailed}
 use Rattle.hub_outside.specs.declared.file_stores.FileAnswer.{FileAnswer}
-use Rattle.hub_outside.specs.declared.file_stores.FileAnswer.TheVariants.{Absent, Failed}
+use Rattle.hub_outside.specs.declared.file_stores.FileAnswer.TheVariants.{Absent}
 use Rattle.hub_outside.specs.declared.sinks.WriteAnswer.{WriteAnswer}
 use Rattle.hub_outside.specs.declared.sinks.WriteAnswer.TheVariants.{Took, Failed as WriteFailed}
 use Rattle.hub_outside.specs.declared.sources.ReadAnswer.{ReadAnswer}
@@ -37,13 +37,13 @@ abbrev pub answer_of_write : Result ℕ Error → WriteAnswer
 answer_of_write (Ok count) = if count == 0 then WriteFailed else Took count
 answer_of_write (Err e) = WriteFailed
 
--- What a file is that can't be opened. Nothing stands at its path where no file has that name, or
--- where one of the path's folders is a plain file (ENOENT and ENOTDIR of POSIX). Else it can't be
--- read.
-abbrev pub answer_unopened : ErrorKind → FileAnswer
-answer_unopened NotFound = Absent
-answer_unopened NotADirectory = Absent
-answer_unopened _ = Failed
+-- What a file is that can't be opened, or why it can't be read. Nothing stands at its path where no
+-- file has that name, or where one of the path's folders is a plain file (ENOENT and ENOTDIR of
+-- POSIX).
+abbrev pub answer_unopened : ErrorKind → Result FileAnswer ErrorKind
+answer_unopened NotFound = Ok Absent
+answer_unopened NotADirectory = Ok Absent
+answer_unopened cause = Err cause
 
 -- the moment that a clock shows: its whole seconds since 1970, up to the last moment, and 0 where
 -- it can't be read

@@ -1,9 +1,10 @@
 -- What reading one whole file answers and leaves.
-use Rattle.std.specs.Prelude.{◌≡◌, ℕ, ◌<◌, ◌≤◌, List, [], length, Option, Some, None, IfSome, IsSomeAnd}
+use Rattle.std.specs.Prelude.{◌≡◌, ℕ, ◌<◌, ◌≤◌, true, List, [], length, Option, Some, None, is_some, IfSome, IsSomeAnd}
 use Rattle.std.specs.List.{find}
 use Rattle.std.specs.Option.{option_map}
 use Rattle.std.specs.Str.{bytes_eq}
 use Rattle.std.specs.Io.KnownBytes.{Consumes, IsAtEnd}
+use Rattle.std.specs.declared.io.ErrorKind.{ErrorKind}
 use Rattle.hub_outside.specs.declared.file_stores.FileAnswer.{FileAnswer}
 use Rattle.hub_outside.specs.declared.file_stores.FileAnswer.TheVariants.{Read, Absent, TooLong, Failed, NoMemory}
 use Rattle.hub_outside.specs.Count.{Rose}
@@ -43,13 +44,21 @@ TellsPlace (TooLong n) fault path = Unit {0}
 TellsPlace Failed fault path = IfSome fault (λ place. place ≡ path)
 TellsPlace NoMemory fault path = Unit {0}
 
+-- after a file that could not be read the cause is told; any other answer leaves the cause that was
+abbrev pub TellsCause : FileAnswer → Option ErrorKind → Option ErrorKind → Type 0
+TellsCause Read before after = after ≡ before
+TellsCause Absent before after = after ≡ before
+TellsCause (TooLong n) before after = after ≡ before
+TellsCause Failed before after = is_some after ≡ true
+TellsCause NoMemory before after = after ≡ before
+
 -- a file that is longer than the limit has a number of bytes seen above it; one that was read is
 -- within it
 abbrev pub IsFetched : FileAnswer → ℕ → List ℕ → Type 0
 IsFetched Read limit left = length left ≤ limit
 IsFetched Absent limit left = Unit {0}
 IsFetched (TooLong n) limit left = limit < n
-IsFetched Failed limit left = Unit {0}
+IsFetched Failed limit left = ⊥
 IsFetched NoMemory limit left = Unit {0}
 
 -- a file that was read gave its bytes to the last, where an open file knows them

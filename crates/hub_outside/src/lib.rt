@@ -35,7 +35,7 @@ mod tests;
 mod writing;
 
 pub use adapters::clock::SystemClock;
-pub use adapters::door::TcpDoor;
+pub use adapters::door::{TcpDoor, is_passing};
 pub use adapters::files::StdFiles;
 pub use adapters::link::{TcpSink, TcpSource};
 pub use adapters::sink::StdSink;

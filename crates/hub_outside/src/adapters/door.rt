@@ -158,8 +158,9 @@ fn accept<L: OpenListener<Stream = TcpStream>, C: rt::Clock + Copy>(
     None
 }
 
-/// Whether a connection that could not be accepted tells nothing of those that come next.
-fn is_passing(kind: ErrorKind) -> bool
+/// Whether a connection that could not be accepted, for that cause, tells nothing of those that come
+/// next. Else the listener itself has failed.
+pub fn is_passing(kind: ErrorKind) -> bool
     ensures { result ≡ is_passing kind }
 {
     match kind {
