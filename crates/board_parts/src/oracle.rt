@@ -1,14 +1,14 @@
 //! Where readers get the newest view of a hub.
 
-ghost use Rattle.std.specs.Prelude.{◌≡◌, ℕ, List, Bool};
+ghost use Rattle.std.specs.Prelude.{◌≡◌, ℕ, List, Bool, false, IfErr};
 
 use crate::{HubView, NoMemory};
 
 /// Where the newest view of a hub is looked up. Its meanings, which contracts alone see, are the history that
 /// was published up to the last look, the timetables and feeds, how many looks there were, the view that is
-/// shown, and whether the history stands still.
+/// shown, whether one is held that a look found, and whether the history stands still.
 pub trait Oracle {
-    ghost use Rattle.std.specs.Prelude.{◌≡◌, ℕ, List, Bool};
+    ghost use Rattle.std.specs.Prelude.{◌≡◌, ℕ, List, Bool, false, IfErr};
     ghost use Rattle.feed_defs.specs.declared.history.Entry.{Entry};
     ghost use Rattle.sched_types.specs.Schedules.{Schedules};
     ghost use Rattle.board_defs.specs.Views.{HubKept};
@@ -22,6 +22,8 @@ pub trait Oracle {
 
     ghost shown: { Self → HubKept };
 
+    ghost holds: { Self → Bool };
+
     ghost steady: { Self → Bool };
 
     /// Looks up the newest view, and answers how many messages it stands for; or want of memory, which leaves
@@ -30,6 +32,7 @@ pub trait Oracle {
         ensures looked { Looked (history self.old) (history self.new) (shown self.old)
             (shown self.new) (reads self.old) (reads self.new) (steady self.old) result }
         ensures plans { plans self.new ≡ plans self.old }
+        ensures held { IfErr result (λ none. holds self.new ≡ holds self.old) }
         ensures steady { steady self.new ≡ steady self.old };
 
     /// The view that the last look found; where that was released, one of the same timetables and feeds.
@@ -43,5 +46,6 @@ pub trait Oracle {
         ensures history { history self.new ≡ history self.old }
         ensures plans { plans self.new ≡ plans self.old }
         ensures reads { reads self.new ≡ reads self.old }
+        ensures let_go { holds self.new ≡ false }
         ensures steady { steady self.new ≡ steady self.old };
 }

@@ -67,6 +67,8 @@ impl<H: OfHub> Oracle for HubPass<H> {
 
     ghost shown = { λ reader. reader.shown };
 
+    ghost holds = { λ reader. reader.holds };
+
     ghost steady = { λ _. false };
 
     fn look(&mut self) -> Result<u64, NoMemory> {

@@ -1,6 +1,6 @@
 //! A hub on one thread that keeps its history.
 
-ghost use Rattle.std.specs.Prelude.{◌≡◌, ◌<◌, ◌+◌, [], length, true, Ok, IfOk};
+ghost use Rattle.std.specs.Prelude.{◌≡◌, ◌<◌, ◌+◌, [], length, true, false, Ok, IfOk, IfErr};
 ghost use Rattle.std.specs.Arc.{arc_value};
 ghost use Rattle.feed_defs.specs.History.{IsLegal, WereRead};
 ghost use Rattle.sched_types.specs.Schedules.{AreSchedules};
@@ -82,7 +82,7 @@ impl ReplayHub {
 }
 
 impl Oracle for ReplayHub {
-    ghost use Rattle.std.specs.Prelude.{true};
+    ghost use Rattle.std.specs.Prelude.{true, false};
 
     ghost history = { λ hub. hub.history };
 
@@ -92,6 +92,8 @@ impl Oracle for ReplayHub {
 
     ghost shown = { λ hub. hub.shown };
 
+    ghost holds = { λ _. false };
+
     ghost steady = { λ _. true };
 
     /// It always answers, and takes no memory.
@@ -99,6 +101,7 @@ impl Oracle for ReplayHub {
         ensures looked { Looked self.old.history self.new.history self.old.shown self.new.shown
             self.old.reads self.new.reads true result }
         ensures plans { self.new.shown.plans ≡ self.old.shown.plans }
+        ensures held { IfErr result (λ none. false ≡ false) }
         ensures steady { true ≡ true }
         ensures answers { result ≡ Ok (length self.old.history) }
         ensures same { self.new ≡ record self.old { reads = self.old.reads + 1 } }

@@ -1,5 +1,5 @@
 -- Passes, receipts, publishers and endings as their callers see them.
-use Rattle.std.specs.Prelude.{◌≡◌, ℕ, ◌+◌, ◌<◌, ◌≤◌, true, false, length, Option, Some, None}
+use Rattle.std.specs.Prelude.{◌≡◌, ℕ, ◌+◌, ◌<◌, ◌≤◌, Bool, true, false, length, Option, Some, None}
 use mathlib.Core.List.{IsPrefix}
 use Rattle.std.specs.Arc.{arc_value}
 use Rattle.sched_types.specs.Schedules.{Schedules}
@@ -11,15 +11,17 @@ use Rattle.snapshot_cell.specs.declared.shown.View.{View}
 use Rattle.snapshot_cell.specs.declared.glance.Glance.{Glance}
 use Rattle.snapshot_cell.specs.declared.glance.Glance.TheVariants.{Found, Behind, NoMemory}
 
--- a pass: what it knows of the history, how often it looked, and the view that it shows
+-- a pass: what it knows of the history, how often it looked, the view that it shows, and whether that
+-- is one that a look found
 pub record PassSeen : Type 0 where
   pub line : Told
   pub reads : ℕ
   pub shown : HubKept
+  pub holds : Bool
 
 -- a pass that knows no more than the line, and made no look
 abbrev pub fresh_pass : Told → HubKept → PassSeen
-fresh_pass line shown = record { line = line; reads = 0; shown = shown }
+fresh_pass line shown = record { line = line; reads = 0; shown = shown; holds = false }
 
 -- a publisher: what it published, and the timetables and feeds of its views
 pub record Publishing : Type 0 where

@@ -1,6 +1,6 @@
 //! Passes.
 
-ghost use Rattle.std.specs.Prelude.{◌≡◌, ◌⊎◌, false};
+ghost use Rattle.std.specs.Prelude.{◌≡◌, ◌⊎◌, false, IfErr};
 ghost use mathlib.Core.List.{IsPrefix};
 ghost use Rattle.board_parts.specs.Looks.{Looked};
 ghost use Rattle.hub_history.specs.Told.{history_of, AreOne};
@@ -16,19 +16,20 @@ use std::alloc::Global;
 use std::marker::Model;
 use std::sync::Arc;
 
-/// A reader's pass. A contract sees what it knows of the history, how often it looked, and the view
-/// that it shows.
+/// A reader's pass. A contract sees what it knows of the history, how often it looked, the view that
+/// it shows, and whether that is one that a look found.
 #[derive(Drop)]
 pub struct Pass {
     pub(crate) reader: Option<SnapReader>,
     pub(crate) line: Line,
-    pub(crate) view: Arc<HubView, Global>,
+    // What the last look found, until it is let go of.
+    pub(crate) found: Option<Arc<HubView, Global>>,
     // That of the hub before its first message, which holds no entity.
     pub(crate) first: Arc<HubView, Global>,
 }
 
 impl Model for Pass {
-    ghost use Rattle.std.specs.Prelude.{◌≡◌};
+    ghost use Rattle.std.specs.Prelude.{◌≡◌, is_some, unwrap_or, IfSome};
     ghost use Rattle.std.specs.Arc.{arc_value};
     ghost use Rattle.left_right.specs.Sides as sides;
     ghost use Rattle.snapshot_cell.specs.Seen.{PassSeen, Knows, at_some, AtSome};
@@ -38,12 +39,13 @@ impl Model for Pass {
     ghost view = { λ pass. record {
       line = pass.line;
       reads = at_some pass.reader (λ reader. (sides.view reader.place).reads) 0;
-      shown = arc_value pass.view;
+      shown = arc_value (unwrap_or pass.found pass.first);
+      holds = is_some pass.found;
     } };
 
     ghost invariant = { λ pass. AtSome pass.reader
-        (λ reader. Knows (sides.view reader.place) (arc_value pass.view) pass.line)
-        × ((arc_value pass.first).plans ≡ (arc_value pass.view).plans) };
+        (λ reader. Knows (sides.view reader.place) (arc_value pass.first) pass.line)
+        × IfSome pass.found (λ view. (arc_value view).plans ≡ (arc_value pass.first).plans) };
 }
 
 impl Pass {
@@ -55,6 +57,7 @@ impl Pass {
         ensures receipt_begins { IsPrefix receipt.now.log self.new.line.log }
         ensures reads { self.new.reads ≡ self.old.reads }
         ensures shown { self.new.shown ≡ self.old.shown }
+        ensures held { self.new.holds ≡ self.old.holds }
     {
         self.line.learn(&receipt.line);
     }
@@ -67,6 +70,7 @@ impl Pass {
         ensures begins { IsPrefix self.old.line.log ending.now.log }
         ensures reads { self.new.reads ≡ self.old.reads }
         ensures shown { self.new.shown ≡ self.old.shown }
+        ensures held { self.new.holds ≡ self.old.holds }
     {
         self.line.finish(&ending.line);
     }
@@ -77,6 +81,7 @@ impl Pass {
             self.old.shown self.new.shown self.old.reads self.new.reads false result }
         ensures hub { AreOne self.new.line self.old.line }
         ensures plans { self.new.shown.plans ≡ self.old.shown.plans }
+        ensures held { IfErr result (λ none. self.new.holds ≡ self.old.holds) }
     {
         let Some(reader) = self.reader.take() else {
             unreachable!()
@@ -87,7 +92,7 @@ impl Pass {
             Glance::Found(line, view) => {
                 let number = line.number();
                 self.line = line;
-                self.view = view;
+                self.found = Some(view);
                 Ok(number)
             }
             Glance::Behind => Err(NoMemory),
@@ -108,6 +113,8 @@ impl Oracle for Pass {
 
     ghost shown = { λ pass. pass.shown };
 
+    ghost holds = { λ pass. pass.holds };
+
     ghost steady = { λ _. false };
 
     /// A look stays at the pass's own hub.
@@ -115,6 +122,7 @@ impl Oracle for Pass {
         ensures looked { Looked (history_of self.old.line) (history_of self.new.line)
             self.old.shown self.new.shown self.old.reads self.new.reads false result }
         ensures plans { self.new.shown.plans ≡ self.old.shown.plans }
+        ensures held { IfErr result (λ none. self.new.holds ≡ self.old.holds) }
         ensures steady { false ≡ false }
         ensures hub { AreOne self.new.line self.old.line }
     {
@@ -122,7 +130,10 @@ impl Oracle for Pass {
     }
 
     fn view(&self) -> &HubView {
-        &self.view
+        match &self.found {
+            Some(view) => view,
+            None => &self.first,
+        }
     }
 
     /// From now on the view is that of the hub before its first message.
@@ -130,11 +141,10 @@ impl Oracle for Pass {
         ensures history { history_of self.new.line ≡ history_of self.old.line }
         ensures plans { self.new.shown.plans ≡ self.old.shown.plans }
         ensures reads { self.new.reads ≡ self.old.reads }
+        ensures let_go { self.new.holds ≡ false }
         ensures steady { false ≡ false }
         ensures line { self.new.line ≡ self.old.line }
     {
-        if let Ok(first) = Arc::try_clone(&self.first) {
-            self.view = first;
-        }
+        self.found = None;
     }
 }

@@ -98,6 +98,7 @@ impl Publisher {
         ensures begins { IsPrefix pass.old.line.log self.old.line.log }
         ensures reads { pass.new.reads ≡ pass.old.reads }
         ensures shown { pass.new.shown ≡ pass.old.shown }
+        ensures held { pass.new.holds ≡ pass.old.holds }
         ensures same { self.new ≡ self.old }
     {
         self.author.shows(&pass.line);

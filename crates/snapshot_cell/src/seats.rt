@@ -143,14 +143,13 @@ fn pass_at(
     ensures pass { IfOk result (λ pass. pass ≡ fresh_pass line.now (arc_value view.now)) }
 {
     let first = Arc::try_clone(view)?;
-    let view = Arc::try_clone(view)?;
     let mut reader = writer.factory().reader()?;
     let note = writer.tell::<Tells>();
     reader.learn::<Tells>(note);
     Ok(Pass {
         reader: Some(reader),
         line: line.again(),
-        view,
+        found: None,
         first,
     })
 }

@@ -60,9 +60,7 @@ fn serve<R: Wait>(rt: &R, alloc: Global, door: &mut MemoryDoor) -> Result<(DoorR
         points: Cell::new(0),
     };
     let mut kept = Kept::new(alloc)?;
-    let report = serve_door(
-        rt, alloc, door, &mut hub, &mut clock, &log, 3, &mut kept,
-    );
+    let report = serve_door(rt, alloc, door, &mut hub, &mut clock, &log, 3, &mut kept);
     Ok((report, log.points.get()))
 }
 

@@ -1,5 +1,5 @@
 //! A connection keeps no view while its response is written.
-ghost use Rattle.std.specs.Prelude.{Some, true};
+ghost use Rattle.std.specs.Prelude.{Some, true, false};
 ghost use Rattle.hub_outside.specs.Memory.{bytes_written, sink_faults};
 
 use crate::given::hub;
@@ -25,6 +25,8 @@ impl<'a> Oracle for Tallied<'a> {
     ghost reads = { λ o. o.hub.reads };
 
     ghost shown = { λ o. o.hub.shown };
+
+    ghost holds = { λ _. false };
 
     ghost steady = { λ _. true };
 
