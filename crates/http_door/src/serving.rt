@@ -1,4 +1,5 @@
 //! The links of a door, one after another.
+ghost use Rattle.std.specs.Prelude.{◌≡◌, false};
 ghost use Rattle.http_serve.specs.Serves.{Serves};
 ghost use Rattle.http_serve.specs.Setting.{setting};
 ghost use Rattle.http_serve.specs.Views.{AreOfHistory};
@@ -35,6 +36,7 @@ pub fn serve_door<D: Door, O: Oracle, C: Clock, G: Gate, R: Wait>(
         (hub (C.ahead clock.new) (O.plans oracle.new) (O.history oracle.new) (O.reads oracle.new)
         (O.steady oracle.new) kept.new) result }
     ensures kept { AreOfHistory (O.plans oracle.new) (O.history oracle.new) kept.new }
+    ensures lets_go { O.holds oracle.old ≡ false → O.holds oracle.new ≡ false }
 {
     let mut report = DoorReport::none();
     let mut server = ConnectionServer::new(alloc);

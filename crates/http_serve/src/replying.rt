@@ -1,5 +1,5 @@
 //! The response to one item.
-ghost use Rattle.std.specs.Prelude.{◌≡◌, ◌≤◌, length, drop, IfOk};
+ghost use Rattle.std.specs.Prelude.{◌≡◌, ◌≤◌, false, length, drop, IfOk};
 ghost use Rattle.text_defs.specs.Moments.{last_moment};
 ghost use Rattle.board_defs.specs.Views.{folds_of};
 ghost use Rattle.delta_defs.specs.Kept.{view_of};
@@ -42,7 +42,7 @@ pub(crate) fn reply<K: Sink, O: Oracle, C: Clock>(
     oracle: &mut O,
     clock: &mut C,
 ) -> Result<(), Unwritten>
-    ensures { Replies place
+    ensures replies { Replies place
         (setting (K.written sink.old) (K.faults sink.old) (C.ahead clock.old)
         (O.plans oracle.old) (O.history oracle.old) (O.reads oracle.old)
         (O.steady oracle.old) kept.old)
@@ -50,6 +50,7 @@ pub(crate) fn reply<K: Sink, O: Oracle, C: Clock>(
         (O.plans oracle.new) (O.history oracle.new) (O.reads oracle.new)
         (O.steady oracle.new) kept.new)
         item.now (noted_in notes.old) (noted_in notes.new) result }
+    ensures lets_go { O.holds oracle.old ≡ false → O.holds oracle.new ≡ false }
 {
     let Ok(()) = notes.make_room() else {
         return Err(Unwritten::Starved);

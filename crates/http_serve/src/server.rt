@@ -1,5 +1,5 @@
 //! Connections, one after another.
-ghost use Rattle.std.specs.Prelude.{◌≡◌, ◌≤◌, true, List, [], IfOk};
+ghost use Rattle.std.specs.Prelude.{◌≡◌, ◌≤◌, true, false, List, [], IfOk};
 ghost use Rattle.text_defs.specs.Moments.{last_moment};
 ghost use Rattle.delta_defs.specs.Kept.{KeptView};
 ghost use Rattle.http_serve.specs.Setting.{setting};
@@ -20,7 +20,8 @@ use std::marker::Model;
 /// Serves a connection, from the first byte that its source has left to its end, with up to a
 /// thousand responses. Each has the number and the timetables of a look at the oracle, and a moment
 /// of the clock that was read behind that look. A response is written whole before more is read. The
-/// views of its last 64 looks are kept while it goes on, so a client may ask what changed since them.
+/// views of its last 64 looks are kept while it goes on, so a client may ask what changed since them. The
+/// oracle holds no view at its end, where it held none before.
 pub fn serve_connection<S: Source, K: Sink, O: Oracle, C: Clock>(
     alloc: Global,
     source: &mut S,
@@ -35,6 +36,7 @@ pub fn serve_connection<S: Source, K: Sink, O: Oracle, C: Clock>(
         (setting (K.written sink.new) (K.faults sink.new) (C.ahead clock.new)
         (O.plans oracle.new) (O.history oracle.new) (O.reads oracle.new) (O.steady oracle.new) kept)
         result.end result.numbers.items result.moments.items }
+    ensures lets_go { O.holds oracle.old ≡ false → O.holds oracle.new ≡ false }
 {
     let mut server = ConnectionServer::new(alloc);
     server.serve(source, sink, oracle, clock)
@@ -62,6 +64,7 @@ pub fn serve_since<S: Source, K: Sink, O: Oracle, C: Clock>(
         (O.steady oracle.new) kept.new)
         result.end result.numbers.items result.moments.items }
     ensures kept { AreOfHistory (O.plans oracle.new) (O.history oracle.new) kept.new }
+    ensures lets_go { O.holds oracle.old ≡ false → O.holds oracle.new ≡ false }
 {
     let mut server = ConnectionServer::new(alloc);
     server.serve_since(source, sink, oracle, clock, kept)
@@ -110,6 +113,7 @@ impl ConnectionServer {
             (O.plans oracle.new) (O.history oracle.new) (O.reads oracle.new)
             (O.steady oracle.new) kept)
             result.end result.numbers.items result.moments.items }
+        ensures lets_go { O.holds oracle.old ≡ false → O.holds oracle.new ≡ false }
     {
         let Ok(mut kept) = Kept::new(self.alloc) else {
             return Notes::none(self.alloc).session(End::NoMemory);
@@ -138,6 +142,7 @@ impl ConnectionServer {
             kept.new)
             result.end result.numbers.items result.moments.items }
         ensures kept { AreOfHistory (O.plans oracle.new) (O.history oracle.new) kept.new }
+        ensures lets_go { O.holds oracle.old ≡ false → O.holds oracle.new ≡ false }
     {
         if self.service.is_none() {
             self.service = Service::new(self.alloc).ok();

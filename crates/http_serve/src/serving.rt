@@ -1,5 +1,5 @@
 //! The requests of a connection, one after another.
-ghost use Rattle.std.specs.Prelude.{◌≡◌};
+ghost use Rattle.std.specs.Prelude.{◌≡◌, false};
 ghost use Rattle.http_serve.specs.Setting.{setting};
 ghost use Rattle.http_serve.specs.Notes.{noted_in};
 ghost use Rattle.http_serve.specs.Serves.{Serves};
@@ -61,6 +61,7 @@ impl Service {
             (O.plans oracle.new) (O.history oracle.new) (O.reads oracle.new)
             (O.steady oracle.new) kept.new)
             result.end result.numbers.items result.moments.items }
+        ensures lets_go { O.holds oracle.old ≡ false → O.holds oracle.new ≡ false }
     {
         self.reader.clear();
         let mut notes = Notes::none(self.alloc);
@@ -95,6 +96,7 @@ impl Service {
             (noted_in notes.old) (noted_in notes.new) result }
         ensures cause { HasTurnCause result (S.faults source.old) (S.faults source.new)
             (K.faults sink.old) (K.faults sink.new) }
+        ensures lets_go { O.holds oracle.old ≡ false → O.holds oracle.new ≡ false }
     {
         let item = match take_item(self.alloc, &mut self.reader, source) {
             Ok(item) => item,

@@ -4,7 +4,7 @@ use Rattle.std.specs.Fmt.{decimal}
 use Rattle.std.specs.Io.KnownBytes.{Appends}
 use Rattle.std.specs.Net.Text.{socket_text}
 use Rattle.std.specs.declared.io.ErrorKind.{ErrorKind}
-use Rattle.std.specs.declared.io.ErrorKind.TheVariants.{AddrInUse, AddrNotAvailable, ConnectionAborted, ConnectionRefused, ConnectionReset, HostUnreachable, InvalidInput, NetworkDown, NetworkUnreachable, NotFound, OutOfMemory, PermissionDenied, TimedOut, Uncategorized}
+use Rattle.std.specs.declared.io.ErrorKind.TheVariants.{AddrInUse, AddrNotAvailable, ConnectionAborted, ConnectionRefused, ConnectionReset, HostUnreachable, InvalidInput, IsADirectory, NetworkDown, NetworkUnreachable, NotFound, OutOfMemory, PermissionDenied, TimedOut, Uncategorized}
 use Rattle.std.specs.declared.net.SocketAddr.{SocketAddr}
 use Rattle.text_defs.specs.Cleaned.{cleaned_text}
 use Rattle.poll_port.specs.declared.faults.PollFault.{PollFault}
@@ -52,7 +52,8 @@ fault_line front address words =
 
 -- `hub: can't listen on <address>: <cause>`
 abbrev pub no_listener_line : List ℕ → ErrorKind → List ℕ
-no_listener_line address cause = fault_line (codes "hub: can't listen on ") address (cause_text cause)
+no_listener_line address cause =
+    fault_line (codes "hub: can't listen on ") address (cause_text cause)
 
 abbrev pub connecting_text : List ℕ → List ℕ
 connecting_text feed = codes "hub: feed " ++ feed ++ codes " can't connect to "
@@ -77,6 +78,19 @@ accept_line words = codes "hub: can't accept a connection: " ++ words ++ codes "
 -- `hub: can't accept a connection: <count> times, the last one: <cause>`
 abbrev pub no_accept_line : ℕ → ErrorKind → List ℕ
 no_accept_line count cause = accept_line (counted count (accept_text cause))
+
+-- why a file can't be read, in a few words: an input that is invalid is its path (EINVAL of POSIX)
+abbrev pub file_text : ErrorKind → List ℕ
+file_text IsADirectory = codes "it is a folder"
+file_text InvalidInput = codes "not a path"
+file_text kind = cause_text kind
+
+abbrev pub reading_text : List ℕ → List ℕ
+reading_text feed = codes "hub: feed " ++ feed ++ codes " can't read "
+
+-- `hub: feed <feed> can't read <path>: <cause>`
+abbrev pub unread_line : List ℕ → List ℕ → ErrorKind → List ℕ
+unread_line feed path cause = fault_line (reading_text feed) path (file_text cause)
 
 -- what is wrong with a reply, in a few words
 abbrev pub reply_text : ReplyFault → List ℕ

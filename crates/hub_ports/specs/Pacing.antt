@@ -4,8 +4,10 @@ use Rattle.std.specs.Prelude.{ℕ, ◌-◌, ◌/◌, Bool, true, false, ◌&&◌
 use Rattle.std.specs.Duration.{as_nanos}
 use Rattle.std.specs.Option.{option_map}
 use Rattle.std.specs.declared.io.Error.{Error}
+use Rattle.std.specs.declared.io.ErrorKind.{ErrorKind}
 use Rattle.std.specs.declared.time.Duration.{Duration}
 use Rattle.hub_outside.specs.Count.{one_more}
+use Rattle.hub_outside.specs.Decisions.{is_passing}
 use Rattle.hub_core.specs.declared.refusal.Refusal.{Refusal}
 use Rattle.hub_core.specs.declared.refusal.Refusal.TheVariants.{TooLong, Malformed, Version, BadStamp, Stale, NoMemory}
 use Rattle.hub_ports.specs.declared.pacing.Pace.{Pace}
@@ -33,6 +35,19 @@ abbrev pub pace_after : Pace → ℕ → Pace
 pace_after pace now =
     if is_due pace.told now then record { told = Some now; untold = 0 }
     else record { told = pace.told; untold = one_more pace.untold }
+
+-- once it has happened and was told at that moment, whatever was told before
+abbrev pub told_at : ℕ → Pace
+told_at now = record { told = Some now; untold = 0 }
+
+-- how often a connection could not be accepted since that was told last, where it is told at that
+-- moment: a cause that tells of the listener itself is told at once, since it ends a door
+abbrev pub accepts_told : Pace → ℕ → ErrorKind → Option ℕ
+accepts_told pace now cause =
+    if is_passing cause then due_at pace now else Some (one_more pace.untold)
+
+abbrev pub accepts_after : Pace → ℕ → ErrorKind → Pace
+accepts_after pace now cause = if is_passing cause then pace_after pace now else told_at now
 
 -- the line that tells it at that moment, where it is told then, made of how often it has happened
 abbrev pub line_at : Pace → ℕ → (ℕ → List ℕ) → Option (List ℕ)

@@ -11,6 +11,7 @@ use Rattle.poll_port.specs.Ports.{door_of, polling_of, poll_ahead, poll_faults}
 use Rattle.hub_ports.specs.Dials.{dial_faults}
 use Rattle.hub_ports.specs.News.{port_in}
 use Rattle.hub_ports.specs.Opened.{IsPortOf}
+use Rattle.hub_ports.specs.Reading.{files_in}
 use Rattle.hub_ports.specs.declared.opening.SystemPort.{SystemPort}
 use Rattle.hub_ports.specs.declared.opening.SystemPort.TheVariants.{Nothing, Spool, Stream, Poll}
 use Rattle.hub_ports.specs.declared.told.ToldPort.{ToldPort}
@@ -31,13 +32,15 @@ system_ahead (Poll port) =
 -- how many of its asks failed
 abbrev pub system_faults : {R E : Type 0} → SystemPort R E → ℕ
 system_faults (Nothing port) = message_faults port
-system_faults (Spool port) = files_faults (spool_files port)
+system_faults (Spool port) = files_faults (files_in (spool_files port))
 system_faults (Stream port) = reader_faults (source_of port) + own_faults (stage_of port)
 system_faults (Poll port) = poll_faults
-    (port_state {I = Unit {0}} {O = Unit {0}} None (dial_faults (door_of port)) (polling_of port) None)
+    (port_state {I = Unit {0}} {O = Unit {0}} None (dial_faults (door_of port)) (polling_of port)
+    None)
 
 -- each port is that of the feed at its place
-abbrev pub ArePortsOf : {R E : Type 0} → List FeedConf → List (ToldPort R (SystemPort R E) E) → Type 0
+abbrev pub ArePortsOf : {R E : Type 0} → List FeedConf → List (ToldPort R (SystemPort R E) E)
+    → Type 0
 ArePortsOf [] [] = ⊤
 ArePortsOf (feed ∷ feeds) (port ∷ ports) = IsPortOf feed (port_in port) × ArePortsOf feeds ports
 ArePortsOf _ _ = ⊥

@@ -10,8 +10,9 @@
 //!
 //! What becomes of a feed while a server runs, its port tells there by a [`ToldPort`] around it: that it has ended, that
 //! it has failed, that it has sent a message that is too long, each once; and that messages are refused. Why polls fail
-//! tell the [`TcpDial`] and a [`PollTeller`], and why connections can't be accepted the listener ([`ToldListener`]).
-//! What happens again and again is told once a minute at most ([`Refusals`], each by a [`Pace`]).
+//! tell the [`TcpDial`] and a [`PollTeller`], why a file of a spool can't be read its files ([`ToldFiles`]), and why
+//! connections can't be accepted the listener ([`ToldListener`]). What happens again and again is told once a minute at
+//! most ([`Refusals`], each by a [`Pace`]); that the listener itself has failed is told each time, since it ends a door.
 //!
 //! What the contracts say: the port of each feed is of its kind and at its place (`specs/Opened`), and there are as many
 //! doors and clocks as are asked for. What the system itself does, no contract knows.
@@ -29,6 +30,7 @@ mod listening;
 mod opening;
 mod pacing;
 mod poll_teller;
+mod reading;
 mod refused;
 mod standard;
 mod telling;
@@ -43,6 +45,7 @@ pub use listening::{clocks_of, doors_of, listen};
 pub use opening::{SystemPort, open_port, open_ports};
 pub use pacing::Pace;
 pub use poll_teller::PollTeller;
+pub use reading::ToldFiles;
 pub use refused::Refusals;
 pub use standard::HeldNumbers;
 pub use std::alloc::AllocError as NoMemory;

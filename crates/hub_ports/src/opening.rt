@@ -11,11 +11,12 @@ use crate::NoMemory;
 use crate::connection::Connection;
 use crate::dialing::TcpDial;
 use crate::poll_teller::PollTeller;
+use crate::reading::ToldFiles;
 use crate::told::ToldPort;
 use copying::Copied;
 use feed_port::{FeedPort, MemoryPort, PortAnswer, SpoolPort, StreamPort};
 use hub_config_defs::{FeedConf, PortKind};
-use hub_outside::{Buf, StdFiles, StdSource};
+use hub_outside::{Buf, StdSource};
 use poll_port::PollPort;
 use std::alloc::Global;
 use std::io::Write;
@@ -23,13 +24,13 @@ use std::net::{Net, TcpListener, TcpStream};
 use std::{rt, str};
 
 /// The port of a feed, by the kind that the configuration gives it. It tells on `E` that a connection
-/// can't be made, and why polls fail.
+/// can't be made, why polls fail, and why a file can't be read.
 #[derive(Drop)]
 pub enum SystemPort<R, E> {
     /// No message comes.
     Nothing(MemoryPort),
     /// Messages come as files of a folder.
-    Spool(SpoolPort<StdFiles<R>>),
+    Spool(SpoolPort<ToldFiles<R, E>>),
     /// Messages come over a TCP connection.
     Stream(StreamPort<StdSource<Connection<R, E>>>),
     /// Messages come as replies to polls.
@@ -104,7 +105,8 @@ where
             Ok(SystemPort::Nothing(port))
         }
         PortKind::Spool => {
-            let port = SpoolPort::new(alloc, StdFiles::new(*rt), feed.place.copy()?)?;
+            let files = ToldFiles::new(*rt, alloc, feed.name.as_str(), errors)?;
+            let port = SpoolPort::new(alloc, files, feed.place.copy()?)?;
             Ok(SystemPort::Spool(port))
         }
         PortKind::Stream => {

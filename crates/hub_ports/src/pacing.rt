@@ -1,7 +1,8 @@
 //! How often something is told.
 
 ghost use Rattle.std.specs.Prelude.{◌≡◌};
-ghost use Rattle.hub_ports.specs.Pacing.{new_pace, is_due, due_at, pace_after, rest_of, pace_at_rest, seconds_of};
+ghost use Rattle.hub_outside.specs.Count.{one_more};
+ghost use Rattle.hub_ports.specs.Pacing.{new_pace, is_due, due_at, pace_after, told_at, rest_of, pace_at_rest, seconds_of};
 
 use std::io;
 use std::time::Duration;
@@ -43,6 +44,18 @@ impl Pace {
             self.untold = count;
             None
         }
+    }
+
+    /// It happens once more, and is told at that moment, whatever was told before: how often it has
+    /// happened since it was told last.
+    pub fn count_at_once(&mut self, now: u64) -> u64
+        ensures count { result ≡ one_more self.old.untold }
+        ensures after { self.new ≡ told_at now }
+    {
+        let count = self.untold.saturating_add(1);
+        self.told = Some(now);
+        self.untold = 0;
+        count
     }
 
     /// How often it has happened since it was told last, where it has. From here on that is told.

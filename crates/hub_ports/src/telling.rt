@@ -85,6 +85,25 @@ fn accept_line(alloc: Global, words: &str) -> Result<String, NoMemory>
     format!(in alloc; "hub: can't accept a connection: {words}\n")
 }
 
+/// `hub: feed <feed> can't read <path>: <cause>`, with an LF.
+pub(crate) fn unread_line(
+    alloc: Global,
+    feed: &str,
+    path: &str,
+    cause: ErrorKind,
+) -> Result<Vec<u8>, NoMemory>
+    ensures { IfOk result (λ line. line.items ≡ lines.unread_line feed.now path.now cause) }
+{
+    let front = reading_text(alloc, feed)?;
+    fault_line(alloc, front.as_str(), path, file_text(cause))
+}
+
+fn reading_text(alloc: Global, feed: &str) -> Result<String, NoMemory>
+    ensures { IfOk result (λ text. string_bytes text ≡ lines.reading_text feed.now) }
+{
+    format!(in alloc; "hub: feed {feed} can't read ")
+}
+
 /// `hub: feed <feed> got no good reply: <fault>`, with the count before the fault of the last where they are several,
 /// and with an LF.
 pub(crate) fn bad_reply_line(
@@ -225,6 +244,17 @@ fn accept_text(cause: ErrorKind) -> &'static str
     match cause {
         ErrorKind::InvalidInput => "the listener has failed",
         ErrorKind::Uncategorized => "too many open files, or another fault of the system",
+        _ => cause_text(cause),
+    }
+}
+
+/// Why a file can't be read, in a few words. An input that is invalid is its path.
+fn file_text(cause: ErrorKind) -> &'static str
+    ensures { result.now ≡ lines.file_text cause }
+{
+    match cause {
+        ErrorKind::IsADirectory => "it is a folder",
+        ErrorKind::InvalidInput => "not a path",
         _ => cause_text(cause),
     }
 }

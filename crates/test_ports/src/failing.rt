@@ -21,7 +21,8 @@ fn bytes_of(line: &Option<Vec<u8>>) -> &[u8] {
     }
 }
 
-/// The first is told at once, and those of a minute by one line, with the cause of the last.
+/// The first is told at once, and those of a minute by one line, with the cause of the last; that the
+/// listener itself has failed is told whatever was told before.
 #[test]
 fn connections_that_are_not_accepted_are_told(rt: HostRuntime) -> Result<(), Fail> {
     let alloc = rt.alloc();
@@ -49,6 +50,17 @@ fn connections_that_are_not_accepted_are_told(rt: HostRuntime) -> Result<(), Fai
             260,
             ErrorKind::ConnectionReset,
             "hub: can't accept a connection: reset\n",
+        ),
+        (261, ErrorKind::TimedOut, ""),
+        (
+            262,
+            ErrorKind::InvalidInput,
+            "hub: can't accept a connection: 2 times, the last one: the listener has failed\n",
+        ),
+        (
+            262,
+            ErrorKind::InvalidInput,
+            "hub: can't accept a connection: the listener has failed\n",
         ),
     ] {
         let told = accept_news(alloc, &mut pace, now, cause)?;

@@ -12,7 +12,7 @@ use std::alloc::Global;
 use std::io::{ErrorKind, Read, Write};
 use std::net::{Net, OpenListener, TcpListener, TcpStream};
 use std::test::Fail;
-use std::{io, thread};
+use std::{fs, io, thread};
 
 /// A feed `b` of that kind, with messages from that place.
 fn feed(alloc: Global, kind: PortKind, place: &str) -> Result<FeedConf, NoMemory>
@@ -125,6 +125,18 @@ fn a_connection_that_cannot_be_made_is_told(rt: HostRuntime) -> Result<(), Fail>
     let (asked, told) = told_of(&rt, PortKind::Stream, place.as_str())?;
     assert_eq!(rt; asked, (PortAnswer::Failed, PortAnswer::End));
     assert_eq!(rt; told, line);
+    Ok(())
+}
+
+#[test]
+fn a_file_that_cannot_be_read_is_told(rt: HostRuntime) -> Result<(), Fail> {
+    let alloc = rt.alloc();
+    let folder = "/tmp/test_ports.spool";
+    fs::create_dir_all(&rt, "/tmp/test_ports.spool/000001.pb")?;
+    let (asked, told) = told_of(&rt, PortKind::Spool, folder)?;
+    assert_eq!(rt; asked, (PortAnswer::Failed, PortAnswer::Failed));
+    let line = "hub: feed b can't read /tmp/test_ports.spool/000001.pb: it is a folder\n";
+    assert_eq!(rt; told, format!(in alloc; "{line}{line}")?);
     Ok(())
 }
 

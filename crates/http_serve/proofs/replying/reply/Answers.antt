@@ -9,11 +9,11 @@ use Rattle.http_serve.proofs.Ends.{starved_at_rest}
 use Rattle.http_serve.proofs.OneReply.{looks_and_reads, kept_is, kept_or_not, view_answers, released, look_starved, response_starved, response_cut, response_whole}
 use Rattle.http_serve.proofs.replying.reply.Goals as goal
 
-pub returns-in_default : goal.returns-in_default
-returns-in_default g c = (none_begun, starved_at_rest (g.O.Oracle.history c.args.oracle.now), answers_none c.args.place _, c.make_room.ensures.same)
+pub returns-in_default-clause-replies : goal.returns-in_default-clause-replies
+returns-in_default-clause-replies g c = (none_begun, starved_at_rest (g.O.Oracle.history c.args.oracle.now), answers_none c.args.place _, c.make_room.ensures.same)
 
-pub returns-in_default-look : goal.returns-in_default-look
-returns-in_default-look g c =
+pub returns-in_default-look-clause-replies : goal.returns-in_default-look-clause-replies
+returns-in_default-look-clause-replies g c =
     let starved = look_starved c.args.place (g.K.Sink.written c.args.sink.now) (g.K.Sink.faults c.args.sink.now) (g.C.Clock.ahead c.args.clock.now)
     (g.O.Oracle.plans c.args.oracle.now) (g.O.Oracle.plans c.look.new.self) (g.O.Oracle.history c.args.oracle.now) (g.O.Oracle.history c.look.new.self)
     (g.O.Oracle.shown c.args.oracle.now) (g.O.Oracle.shown c.look.new.self) (g.O.Oracle.reads c.args.oracle.now) (g.O.Oracle.reads c.look.new.self)
@@ -22,8 +22,8 @@ returns-in_default-look g c =
     in
     (starved.0, starved.1, starved.2, c.make_room.ensures.same)
 
-pub returns-in_default-made : goal.returns-in_default-made
-returns-in_default-made g c =
+pub returns-in_default-made-clause-replies : goal.returns-in_default-made-clause-replies
+returns-in_default-made-clause-replies g c =
     let starved = response_starved c.args.place (setting (g.K.Sink.written c.args.sink.now) (g.K.Sink.faults c.args.sink.now) (g.C.Clock.ahead c.args.clock.now) (g.O.Oracle.plans c.args.oracle.now) (g.O.Oracle.history c.args.oracle.now) (g.O.Oracle.reads c.args.oracle.now) (g.O.Oracle.steady c.args.oracle.now) c.args.kept.now)
     (setting (g.K.Sink.written c.args.sink.now) (g.K.Sink.faults c.args.sink.now) (g.C.Clock.ahead c.now-moment.new.self) (g.O.Oracle.plans c.look.new.self) (g.O.Oracle.history c.look.new.self) (g.O.Oracle.reads c.look.new.self) (g.O.Oracle.steady c.look.new.self) c.respond-made.new.kept) c.in-Ok-look.number c.now-moment.result
     (looks_and_reads (g.K.Sink.written c.args.sink.now) (g.K.Sink.written c.args.sink.now) (g.K.Sink.faults c.args.sink.now) (g.K.Sink.faults c.args.sink.now)
@@ -42,8 +42,8 @@ returns-in_default-made g c =
     c.release.ensures.plans c.release.ensures.history c.release.ensures.reads c.release.ensures.steady
     (starved.0, starved.1, starved.2, c.make_room.ensures.same)
 
-pub returns-in_default-write_all : goal.returns-in_default-write_all
-returns-in_default-write_all g c =
+pub returns-in_default-write_all-clause-replies : goal.returns-in_default-write_all-clause-replies
+returns-in_default-write_all-clause-replies g c =
     let cut = response_cut c.args.place (setting (g.K.Sink.written c.args.sink.now) (g.K.Sink.faults c.args.sink.now) (g.C.Clock.ahead c.args.clock.now) (g.O.Oracle.plans c.args.oracle.now) (g.O.Oracle.history c.args.oracle.now) (g.O.Oracle.reads c.args.oracle.now) (g.O.Oracle.steady c.args.oracle.now) c.args.kept.now)
     (setting (g.K.Sink.written c.write_all.new.out) (g.K.Sink.faults c.write_all.new.out) (g.C.Clock.ahead c.now-moment.new.self) (g.O.Oracle.plans c.look.new.self) (g.O.Oracle.history c.look.new.self) (g.O.Oracle.reads c.look.new.self) (g.O.Oracle.steady c.look.new.self) c.respond-made.new.kept) c.in-Ok-look.number c.now-moment.result c.args.item.now c.bytes_from.result.now
     (looks_and_reads (g.K.Sink.written c.args.sink.now) (g.K.Sink.written c.write_all.new.out) (g.K.Sink.faults c.args.sink.now) (g.K.Sink.faults c.write_all.new.out)
@@ -66,8 +66,8 @@ returns-in_default-write_all g c =
     c.release.ensures.plans c.release.ensures.history c.release.ensures.reads c.release.ensures.steady
     (cut.0, cut.1, cut.2, c.make_room.ensures.same)
 
-pub returns : goal.returns
-returns g c =
+pub returns-clause-replies : goal.returns-clause-replies
+returns-clause-replies g c =
     released c.args.place (setting (g.K.Sink.written c.args.sink.now) (g.K.Sink.faults c.args.sink.now) (g.C.Clock.ahead c.args.clock.now) (g.O.Oracle.plans c.args.oracle.now) (g.O.Oracle.history c.args.oracle.now) (g.O.Oracle.reads c.args.oracle.now) (g.O.Oracle.steady c.args.oracle.now) c.args.kept.now)
     (g.K.Sink.written c.write_all.new.out) (g.K.Sink.faults c.write_all.new.out) (g.C.Clock.ahead c.now-moment.new.self) (g.O.Oracle.plans c.look.new.self) (g.O.Oracle.plans c.release.new.self)
     (g.O.Oracle.history c.look.new.self) (g.O.Oracle.history c.release.new.self) (g.O.Oracle.reads c.look.new.self) (g.O.Oracle.reads c.release.new.self)

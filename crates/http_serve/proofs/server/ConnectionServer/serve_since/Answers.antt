@@ -9,6 +9,7 @@ use Rattle.http_serve.proofs.server.ConnectionServer.serve_since.Goals as goal
 pub returns-in_default : goal.returns-in_default
 returns-in_default g c = record {
   kept = c.requires;
+  lets_go = λ none. none;
   serves = serves_as _ _ _ _ _ _ NoMemory c.session.result.end [] c.session.result.numbers.items [] c.session.result.moments.items
       (unserved (g.S.Source.left c.args.source.now) (g.S.Source.faults c.args.source.now)
       (setting (g.K.Sink.written c.args.sink.now) (g.K.Sink.faults c.args.sink.now) (g.C.Clock.ahead c.args.clock.now) (g.O.Oracle.plans c.args.oracle.now) (g.O.Oracle.history c.args.oracle.now) (g.O.Oracle.reads c.args.oracle.now) (g.O.Oracle.steady c.args.oracle.now) c.args.kept.now))

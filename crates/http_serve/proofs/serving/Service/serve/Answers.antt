@@ -12,6 +12,7 @@ requests-init g c = record {
       (noted_in c.none-notes.result) c.clear.ensures.nothing_is_held c.none-notes.ensures;
   reads_later = omega arith;
   writes_later = omega arith;
+  lets_go = λ none. none;
 }
 
 pub requests-preserved : goal.requests-preserved
@@ -24,6 +25,7 @@ requests-preserved g c = record {
       (noted_in c.requests.notes) (noted_in c.serve_next.new.notes) c.requests.invariant.way c.in-GoesOn.ensures.turns;
   reads_later = omega (arith, c.in-GoesOn.ensures.cause);
   writes_later = omega (arith, c.in-GoesOn.ensures.cause);
+  lets_go = λ none. c.in-GoesOn.ensures.lets_go (c.requests.invariant.lets_go none);
 }
 
 pub returns-in-Ends : goal.returns-in-Ends
@@ -40,6 +42,7 @@ returns-in-Ends g c =
     record {
       serves = serves_as _ _ _ _ _ _ c.in-Ends.end c.session.result.end _ c.session.result.numbers.items _ c.session.result.moments.items
           served c.session.ensures.end c.session.ensures.numbers c.session.ensures.moments;
+      lets_go = λ none. c.in-Ends.ensures.lets_go (c.requests.invariant.lets_go none);
     }
 
 pub unreachable-requires : goal.unreachable-requires

@@ -1,4 +1,4 @@
-use Rattle.std.proofs.Common.{◌≤◌}
+use Rattle.std.proofs.Common.{◌≡◌, ◌≤◌, false}
 use Rattle.http_serve.specs.Setting.{setting}
 use Rattle.http_serve.specs.Notes.{noted_in}
 use Rattle.http_serve.proofs.OnWay.{OnWay}
@@ -14,4 +14,5 @@ invariant-requests g l = record {
       (noted_in l.notes);
   reads_later : g.S.Source.faults l.fn.source ≤ g.S.Source.faults l.source;
   writes_later : g.K.Sink.faults l.fn.sink ≤ g.K.Sink.faults l.sink;
+  lets_go : g.O.Oracle.holds l.fn.oracle ≡ false → g.O.Oracle.holds l.oracle ≡ false;
 }
