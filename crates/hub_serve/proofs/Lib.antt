@@ -3,3 +3,4 @@ pub mod Finishing
 pub mod Lines
 pub mod Placed
 pub mod Ran
+pub mod HistoryRead

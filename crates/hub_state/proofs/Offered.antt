@@ -52,7 +52,7 @@ newer_same : (last : ℕ) (x m : FeedMessage) (b : Bool) → (let r : Result Fee
 newer_same last x m true e = cc
 newer_same last x m false e = cc
 
-judged_read : (last : ℕ) (bytes : List ℕ) (m : FeedMessage) → judgement_of last bytes ≡ Ok m → read bytes ≡ Ok m
+pub judged_read : (last : ℕ) (bytes : List ℕ) (m : FeedMessage) → judgement_of last bytes ≡ Ok m → read bytes ≡ Ok m
 judged_read last bytes m e =
     let formed = bind_ok (well_formed bytes) (newer last) m e in
     well_formed_read bytes m (formed.1 ∙ ap Ok (newer_same last formed.0 m (nat_lt last (stamp_of formed.0)) formed.2))
