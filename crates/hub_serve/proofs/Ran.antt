@@ -16,6 +16,7 @@ use Rattle.place_jobs.specs.Places.{PlacesChanged}
 use Rattle.hub_shared.specs.Seats.{Ties, SeatSeen, fresh_seat, fresh_seats}
 use Rattle.hub_shared.specs.Calls.{Ends, IsFresh}
 use Rattle.hub_shared.specs.declared.report.PortReport.{PortReport}
+use Rattle.hub_serve.proofs.HistoryRead.{history_read}
 use Rattle.hub_serve.proofs.Placed.{by_places}
 use Rattle.hub_serve.specs.declared.readers.Post.{Post}
 use Rattle.hub_serve.specs.Words.{PortWords, DoorWords}
@@ -113,31 +114,34 @@ under (Some e) P xs h = recursion_from_All (λ y. P y e) xs h
 module _ {P D I O C : Type 0} (ports : PortWords P) (doors : DoorWords D I O) (seen : LinkEnds I O) (ahead : C → Option (List ℕ)) (ties : Ties) (schedules : Schedules) (plans : ties.plans ≡ schedules) where
   -- a hub that was opened, and went through all steps of a run
   pub ran : (ps ps' : List P) (ss ss' : List SeatSeen) (rs rs' : List PortReport) (ds ds' : List D) (passes passes' : List PassSeen) (posts posts' : List (Post C))
-      → ss ≡ fresh_seats ties → All (IsFresh ties) passes → All (λ (post : Post C). post.kept ≡ []) posts
+      → length ps ≡ length schedules.feeds → ss ≡ fresh_seats ties → All (IsFresh ties) passes → All (λ (post : Post C). post.kept ≡ []) posts
       → PlacesChanged (ingests_at ports) 0 ps ss rs ps' ss' rs'
       → PlacesChanged (serves_at doors seen ahead) 0 ds passes posts ds' passes' posts'
       → (written written' : Option (List ℕ)) (faults faults' status : ℕ)
       → EndsRun ties schedules.feeds ss' rs' passes' (map (λ (post : Post C). post.report) posts') written written' faults faults' status
       → Ran ports doors seen schedules ps ps' ds ds' (map (λ (post : Post C). ahead post.clock) posts) written written' faults faults' status
-  ran ps ps' ss ss' rs rs' ds ds' passes passes' posts posts' fresh known none fed served written written' faults faults' status ends = record {
-    hub = ties;
-    plans = plans;
-    ending = ends.closes.ending;
-    of = ends.closes.of;
-    legal = ends.closes.legal;
-    reports = rs';
-    lasts = lasts_of ss';
-    feeds_ran = feeds_ran ports ties ends.closes.ending 0 ps ss rs ps' ss' rs' fed (fresh_are ties ss fresh) (under ends.closes.ending (λ (seat : SeatSeen) (ended : Told). Ends seat ended) ss' ends.closes.ends);
-    door_reports = map (λ (post : Post C). post.report) posts';
-    doors_ran = subst (λ (s : Schedules). DoorsRan doors seen s ends.closes.ending ds ds' (map (λ (post : Post C). ahead post.clock) posts) (map (λ (post : Post C). post.report) posts')) plans
-        (doors_ran doors seen ahead ties ends.closes.ending 0 ds passes posts ds' passes' posts' served (recursion_from_All (IsFresh ties) passes known)
-        (recursion_from_All (λ (post : Post C). post.kept ≡ []) posts none)
-        (under ends.closes.ending (λ (pass : PassSeen) (ended : Told). IsPrefix pass.line.log ended.log) passes' ends.closes.begins));
-    writing = ends.writing;
-    wrote = ends.wrote;
-    cause = ends.cause;
-    status_is = ends.status_is ∙ ap (λ (b : Bool). code_of (status_by ends.writing b rs' (map (λ (post : Post C). post.report) posts'))) (sym ends.closes.there);
-  }
+  ran ps ps' ss ss' rs rs' ds ds' passes passes' posts posts' count fresh known none fed served written written' faults faults' status ends =
+      let fed_by = feeds_ran ports ties ends.closes.ending 0 ps ss rs ps' ss' rs' fed (fresh_are ties ss fresh) (under ends.closes.ending (λ (seat : SeatSeen) (ended : Told). Ends seat ended) ss' ends.closes.ends) in
+      record {
+        hub = ties;
+        plans = plans;
+        ending = ends.closes.ending;
+        of = ends.closes.of;
+        legal = ends.closes.legal;
+        read = history_read ports ties ends.closes.ending ps ps' rs' (lasts_of ss') (count ∙ sym (ap (λ (s : Schedules). length s.feeds) plans)) ends.closes.of ends.closes.legal fed_by;
+        reports = rs';
+        lasts = lasts_of ss';
+        feeds_ran = fed_by;
+        door_reports = map (λ (post : Post C). post.report) posts';
+        doors_ran = subst (λ (s : Schedules). DoorsRan doors seen s ends.closes.ending ds ds' (map (λ (post : Post C). ahead post.clock) posts) (map (λ (post : Post C). post.report) posts')) plans
+            (doors_ran doors seen ahead ties ends.closes.ending 0 ds passes posts ds' passes' posts' served (recursion_from_All (IsFresh ties) passes known)
+            (recursion_from_All (λ (post : Post C). post.kept ≡ []) posts none)
+            (under ends.closes.ending (λ (pass : PassSeen) (ended : Told). IsPrefix pass.line.log ended.log) passes' ends.closes.begins));
+        writing = ends.writing;
+        wrote = ends.wrote;
+        cause = ends.cause;
+        status_is = ends.status_is ∙ ap (λ (b : Bool). code_of (status_by ends.writing b rs' (map (λ (post : Post C). post.report) posts'))) (sym ends.closes.there);
+      }
 
 -- what is read of the clocks of posts
 pub ahead_of : {C : Type 0} (ahead : C → Option (List ℕ)) (posts : List (Post C)) (clocks : List C) → map (λ (post : Post C). post.clock) posts ≡ clocks → map (λ (post : Post C). ahead post.clock) posts ≡ map ahead clocks

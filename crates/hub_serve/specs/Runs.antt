@@ -5,7 +5,7 @@ use Rattle.std.specs.Option.{is_some}
 use Rattle.exit_status.specs.Codes.{code_of}
 use Rattle.exit_status.specs.declared.status.ExitStatus.{ExitStatus}
 use Rattle.exit_status.specs.declared.status.ExitStatus.TheVariants as exit
-use Rattle.feed_defs.specs.History.{IsLegal}
+use Rattle.feed_defs.specs.History.{IsLegal, WereRead}
 use Rattle.hub_history.specs.Told.{Told, history_of}
 use Rattle.sched_types.specs.declared.plans.NamedFeed.{NamedFeed}
 use Rattle.sched_types.specs.Schedules.{Schedules}
@@ -91,7 +91,8 @@ status_by Whole closed reports doors =
 -- ---- the run
 
 -- A hub ran with these ports and doors to their ends. All feeds' messages stand in one legal history,
--- which is that of the ending, where one was had; each reader's history begins it.
+-- which is that of the ending, where one was had, and each was read from bytes; each reader's history
+-- begins it.
 pub record Ran {P D I O : Type 0}
     (ports : PortWords P) (doors : DoorWords D I O) (seen : Ends I O) (schedules : Schedules)
     (ps ps' : List P) (ds ds' : List D) (aheads : List (Option (List ℕ)))
@@ -101,6 +102,7 @@ pub record Ran {P D I O : Type 0}
   pub ending : Option Told
   pub of : IfSome ending (λ ended. IsOf ended hub)
   pub legal : IfSome ending (λ ended. IsLegal ended.feeds (history_of ended))
+  pub read : IfSome ending (λ ended. WereRead (history_of ended))
   pub reports : List PortReport
   pub lasts : List ℕ
   pub feeds_ran : FeedsRan ports hub ending 0 ps ps' reports lasts

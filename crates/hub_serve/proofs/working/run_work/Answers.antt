@@ -38,5 +38,5 @@ pub returns : goal.returns
 returns g c =
     ran (port_words g.P.FeedPort.ahead g.P.FeedPort.faults) (door_words g.D.Door.links g.D.Door.faults) (ends g.D.In.Source.left g.D.In.Source.faults g.D.Out.Sink.written g.D.Out.Sink.faults) g.C.Clock.ahead c.args.hub c.args.plans.now c.requires.plans
     c.args.ports.now c.work_all.new.ports c.args.seats.now c.work_all.new.seats c.args.reports.now c.work_all.new.reports c.args.doors.now c.work_all.new.doors c.args.passes.now c.work_all.new.passes c.args.posts.now c.work_all.new.posts
-    c.requires.seats c.requires.passes c.requires.kept c.work_all.ensures.ports c.work_all.ensures.doors
+    c.requires.ports c.requires.seats c.requires.passes c.requires.kept c.work_all.ensures.ports c.work_all.ensures.doors
     (g.K.Sink.written c.args.out.now) (g.K.Sink.written c.end.new.out) (g.K.Sink.faults c.args.out.now) (g.K.Sink.faults c.end.new.out) c.end.result c.end.ensures
