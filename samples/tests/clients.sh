@@ -1,8 +1,8 @@
 #!/usr/bin/env bash
 # Tries clients that a hub meets in the open: as many silent connections as it has readers, clients that send a byte now
 # and then, clients that go away in the midst of their answers, clients that send more than is read, clients that speak
-# TLS; senders that don't answer, and such that send what is no message; a hub that has no descriptors for longer than a
-# minute; one whose standard error is closed, is full, or has no reader; and how a hub ends by itself, with its lines. Ends
+# TLS; senders that don't answer, and such that send what is no message; a spool with a file that can't be read; a hub that
+# has no descriptors for longer than a minute; one whose standard error is closed, is full, or has no reader; and how a hub ends by itself, with its lines. Ends
 # by itself, with status 0 exactly where all was as it should be. HUB names the program, where it is not ./hub. Needs curl,
 # prlimit and python3.
 set -euo pipefail
@@ -109,6 +109,14 @@ check "the first at once" grep -q '^hub: feed trams: 1 refused, the last one: a 
 check "the others when it ends" grep -qx 'hub: feed trams: 4 refused' "$work/told.err"
 check "and no more" is "$(grep -c '^hub: feed trams: ' "$work/told.err")" 2
 check "while the hub goes on" curl -fsS --max-time 5 -o "$work/answer" "http://$hub_address/status"
+stop_process "$hub_process"
+
+echo "== a spool with a file that can't be read"
+mkdir -p "$work/barred/000001.pb"
+start_hub barred "$(notices_from "$work/barred")" "$no_trams"
+check "is told with its cause" \
+  wait_for grep -qx "hub: feed notices can't read $work/barred/000001.pb: it is a folder" "$work/barred.err"
+check "and ends with a fault" wait_for grep -qx 'hub: feed notices has failed' "$work/barred.err"
 stop_process "$hub_process"
 
 echo "== a hub without descriptors"
