@@ -1,10 +1,10 @@
 #!/usr/bin/env bash
 # Tries clients that a hub meets in the open: as many silent connections as it has readers, clients that send a byte now
 # and then, clients that go away in the midst of their answers, clients that send more than is read, clients that speak
-# TLS; senders that don't answer, and such that send what is no message; a spool with a file that can't be read; a hub that
-# has no descriptors for longer than a minute; one whose standard error is closed, is full, or has no reader; and how a hub ends by itself, with its lines. Ends
-# by itself, with status 0 exactly where all was as it should be. HUB names the program, where it is not ./hub. Needs curl,
-# prlimit and python3.
+# TLS; senders that don't answer, and such that send what is no message; a spool with a file that can't be read; a hub
+# that has no descriptors for longer than a minute; one whose standard error is closed, is full, or has no reader; and
+# how a hub ends by itself, with its lines. Ends by itself, with status 0 exactly where all was as it should be. HUB
+# names the program, where it is not ./hub. Needs curl, prlimit and python3.
 set -euo pipefail
 top=$(cd "$(dirname "$0")/../.." && pwd)
 . "$top/samples/serve/functions.sh"
