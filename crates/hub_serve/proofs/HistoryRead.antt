@@ -24,7 +24,7 @@ use Rattle.hub_serve.specs.Words.{PortWords}
 -- ---- of one feed
 
 -- bytes that are no more than a message may have
-MayBeRead : List ℕ → Type 0
+abbrev MayBeRead : List ℕ → Type 0
 MayBeRead bytes = nat_lt longest_message (length bytes) ≡ false → AreBytes bytes
 
 judged_within : (last : ℕ) (bytes : List ℕ) (m : FeedMessage) → judgement_of last bytes ≡ Ok m → nat_lt longest_message (length bytes) ≡ false
@@ -36,10 +36,11 @@ judged_within last bytes m = by_length (nat_lt longest_message (length bytes)) w
 
 judged_may : (given : List Given) → AllByRecursion IsOfBytes given → AllByRecursion MayBeRead (judged_of given)
 judged_may [] all = tt
-judged_may (one ∷ rest) all = by_test (not one.starved) where
-  by_test : (b : Bool) → AllByRecursion MayBeRead (bytes_of (cond b (one ∷ filter (λ x. not x.starved) rest) (filter (λ x. not x.starved) rest)))
-  by_test true = (all.0, judged_may rest all.1)
-  by_test false = judged_may rest all.1
+judged_may (one ∷ rest) all = by_test (not one.starved) (judged_may rest all.1) where
+  by_test : (b : Bool) → AllByRecursion MayBeRead (judged_of rest)
+      → AllByRecursion MayBeRead (bytes_of (cond b (one ∷ filter (λ x. not x.starved) rest) (filter (λ x. not x.starved) rest)))
+  by_test true others = (all.0, others)
+  by_test false others = others
 
 newer_read : (last : ℕ) (xs : List (List ℕ)) → AllByRecursion MayBeRead xs → AllByRecursion IsRead (newer_of last xs)
 unfolding newer_of
@@ -73,15 +74,17 @@ module _ (hub : Ties) (ended : Told) where
   feeds_read words first (p ∷ ps) [] reports lasts ran feed low high = absurd ran
   feeds_read words first (p ∷ ps) (p' ∷ ps') [] lasts ran feed low high = absurd ran
   feeds_read words first (p ∷ ps) (p' ∷ ps') (report ∷ reports) [] ran feed low high = absurd ran
-  feeds_read words first (p ∷ ps) (p' ∷ ps') (report ∷ reports) (last ∷ lasts) ran feed low high = by_feed (nat_eq first feed) refl where
-    by_feed : (b : Bool) → nat_eq first feed ≡ b → AllByRecursion IsRead (messages_of feed (history_of ended))
-    by_feed true same =
+  feeds_read words first (p ∷ ps) (p' ∷ ps') (report ∷ reports) (last ∷ lasts) ran feed low high =
+      by_feed (nat_eq first feed) refl (λ next. feeds_read words (first + 1) ps ps' reports lasts ran.1 feed next (omega (arith, high))) where
+    by_feed : (b : Bool) → nat_eq first feed ≡ b → (first + 1 ≤ feed → AllByRecursion IsRead (messages_of feed (history_of ended)))
+        → AllByRecursion IsRead (messages_of feed (history_of ended))
+    by_feed true same others =
         let is : first ≡ feed = grind (arith, nat_tests) in
         subst (λ (f : ℕ). AllByRecursion IsRead (messages_of f (history_of ended))) is
         (feed_read first (words.ahead p) (words.ahead p') (words.faults p) (words.faults p') report last ran.0)
-    by_feed false other =
+    by_feed false other others =
         let next : first + 1 ≤ feed = grind (arith, nat_tests, low) in
-        feeds_read words (first + 1) ps ps' reports lasts ran.1 feed next (omega (arith, high))
+        others next
 
 -- ---- of all feeds
 
