@@ -1,7 +1,7 @@
 -- Each message of a run's history was read from bytes that a port handed in.
-use Rattle.std.proofs.Common.{◌≡◌, ℕ, ◌+◌, ◌<◌, ◌≤◌, not, Bool, true, false, cond, List, [], ◌∷◌, ◌++◌, length, map, filter, Option, Some, None, Result, Ok, Err, refl, sym, ap, ◌∙◌, subst, arith}
-use Rattle.std.specs.Prelude.{nat_lt, nat_eq, ◌&&◌, if◌then◌else◌, IfSome}
-use Rattle.std.specs.List.{All, AllByRecursion, filter_map, cons_option, list_all}
+use Rattle.std.proofs.Common.{◌≡◌, ℕ, ◌+◌, ◌<◌, ◌≤◌, not, Bool, true, false, cond, List, [], ◌∷◌, length, filter, Option, Some, None, Result, Ok, Err, refl, sym, ◌∙◌, subst, arith}
+use Rattle.std.specs.Prelude.{nat_lt, nat_eq, if◌then◌else◌, IfSome}
+use Rattle.std.specs.List.{AllByRecursion, cons_option, list_all}
 use Rattle.std.proofs.lemmas.Bool.{and_parts}
 use Rattle.std.proofs.lemmas.Bool.Decides.{nat_tests}
 use Rattle.std.proofs.lemmas.List.Elements.{recursion_from_All}
@@ -9,15 +9,14 @@ use Rattle.answer_defs.specs.Steps.{◌>>=◌}
 use Rattle.pb_wire_defs.specs.Spelling.{AreBytes}
 use Rattle.rt_types.specs.declared.message.FeedMessage.{FeedMessage}
 use Rattle.feed_defs.specs.declared.history.Entry.{Entry}
-use Rattle.feed_defs.specs.History.{Refusal, IsLegal, IsRead, WereRead, if_read, is_legal_entry, is_sound, judgement_of, longest_message, message_of, messages_of, newer, stamp_of, well_formed}
+use Rattle.feed_defs.specs.History.{Refusal, IsLegal, IsRead, WereRead, if_read, is_legal_entry, is_sound, judgement_of, longest_message, messages_of, newer, stamp_of, well_formed}
 use Rattle.feed_defs.specs.History.Refusal.{TooLong}
 use Rattle.feed_defs.specs.Table.{read}
 use Rattle.hub_history.specs.Told.{Told, history_of}
 use Rattle.hub_state.proofs.Offered.{judged_read}
 use Rattle.hub_shared.specs.declared.report.PortReport.{PortReport}
-use Rattle.hub_shared.specs.Calls.{Ends}
 use Rattle.hub_shared.specs.Feeding.{Given, IsOfBytes, bytes_of, judged_of, newer_by, newer_of}
-use Rattle.hub_shared.specs.Seats.{IsOf, SeatSeen, Ties, history_at}
+use Rattle.hub_shared.specs.Seats.{IsOf, Ties, history_at}
 use Rattle.hub_serve.specs.Feeds.{FeedRan, FeedsRan}
 use Rattle.hub_serve.specs.Words.{PortWords}
 
