@@ -37,7 +37,7 @@ mod serving;
 mod session;
 mod transcript;
 
-pub use server::{ConnectionServer, serve_connection};
+pub use server::{ConnectionServer, serve_connection, serve_since};
 pub use session::{End, Session};
 pub use std::alloc::AllocError as NoMemory;
 pub use transcript::{Finish, Transcript, serve_bytes};

@@ -1,6 +1,6 @@
 //! The run.
 
-ghost use Rattle.std.specs.Prelude.{◌≡◌, ◌≤◌, ◌⊎◌, length, vec_len, map, IfOk};
+ghost use Rattle.std.specs.Prelude.{◌≡◌, ◌≤◌, ◌⊎◌, [], length, vec_len, map, IfOk};
 ghost use Rattle.std.specs.Arc.{arc_value};
 ghost use Rattle.std.specs.List.{All};
 ghost use Rattle.hub_shared.specs.Calls.{IsFresh};
@@ -159,6 +159,7 @@ fn begin<H: OfHub, C: Drop>(
     ensures reports { IfOk result (λ work. vec_len work.reports ≡ ports) }
     ensures passes { IfOk result (λ work. work.passes.items ≡ passes.items) }
     ensures posts { IfOk result (λ work. map (λ post. post.clock) work.posts.items ≡ clocks.items) }
+    ensures kept { IfOk result (λ work. All (λ post. post.kept ≡ []) work.posts.items) }
 {
     Ok(Work {
         seats,

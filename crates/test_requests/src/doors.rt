@@ -1,6 +1,7 @@
 //! Doors over a hub of one schedule without stops and of one feed, which sent nothing, at the second
 //! 7.
 use crate::given::{NOT_FOUND, hub};
+use delta_out::Kept;
 use http_door::{DoorEnd, DoorReport, serve_door};
 use hub_outside::{
     FixedClock, Gate, GatePoint, MemoryDoor, MemoryLink, MemorySink, MemorySource, NoMemory,
@@ -58,7 +59,8 @@ fn serve<R: Wait>(rt: &R, alloc: Global, door: &mut MemoryDoor) -> Result<(DoorR
     let log = Log {
         points: Cell::new(0),
     };
-    let report = serve_door(rt, alloc, door, &mut hub, &mut clock, &log, 3);
+    let mut kept = Kept::new(alloc)?;
+    let report = serve_door(rt, alloc, door, &mut hub, &mut clock, &log, 3, &mut kept);
     Ok((report, log.points.get()))
 }
 

@@ -11,7 +11,7 @@ ghost use Rattle.board_text_defs.specs.Asked.{asked_seen};
 ghost use Rattle.view_answers.specs.Questions.{question_seen, schedule_of};
 ghost use Rattle.view_answers.specs.Replies.{Replies, Answers, answer_in, board_in, alerts_in, status_in};
 
-use crate::lookup::{name_of, number_of};
+use crate::lookup::{name_of, schedule_number};
 use crate::question::{is_status, schedule_of};
 use crate::{NoMemory, Question};
 use alert_defs::AlertRow;
@@ -42,7 +42,7 @@ pub fn answer(
     if is_status(question) {
         return push_status(view, out);
     }
-    match number_of(view.plans(), schedule_of(question)) {
+    match schedule_number(view.plans(), schedule_of(question)) {
         Some(plan) => answer_of(alloc, view, plan, question, out),
         None => Ok(false),
     }

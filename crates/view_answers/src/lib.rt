@@ -15,5 +15,6 @@ mod question;
 
 pub use answering::answer;
 pub use board_text_defs::BoardAsked;
+pub use lookup::schedule_number;
 pub use question::Question;
 pub use std::alloc::AllocError as NoMemory;

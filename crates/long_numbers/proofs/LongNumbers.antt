@@ -6,7 +6,7 @@ use Rattle.std.specs.Prelude.{IfSome}
 use Rattle.std.specs.Char.{is_ascii_digit}
 use Rattle.std.specs.Option.{option_and_then, option_map}
 use Rattle.text_defs.specs.Numbers.{digits_after, number, within}
-use Rattle.hub_main_defs.specs.Words.{last_seed}
+use Rattle.long_numbers.specs.Width.{last_number}
 
 -- fewer than 20 digits are at most 19
 pub few_digits : (low high : ℕ) (bytes : List ℕ) → length bytes < 20 → number 19 low high bytes ≡ number 20 low high bytes
@@ -80,17 +80,11 @@ too_large low high least byte bytes below other long =
     counted true = large (is_ascii_digit byte) refl
     counted false = tt
 
-pub no_zero_in_front : (low high : ℕ) (bytes : List ℕ) → high < 10_000_000_000_000_000_000 → 20 ≤ length bytes → ((rest : List ℕ) → bytes ≢ 48 ∷ rest) → number 20 low high bytes ≡ None
-no_zero_in_front low high [] below long other = absurd (omega arith)
-no_zero_in_front low high (b ∷ bytes) below long other =
-    let no_zero : b ≢ 48 = λ e. other bytes (ap (λ x. x ∷ bytes) e) in
-    too_large low high 1 b bytes (omega (arith, below)) (λ e. grind (arith, nat_tests)) (omega arith)
-
 -- ---- numbers of 64 bits
 
 -- 19 digits behind one that is neither 0 nor 1 write no such number
-pub past_one : (byte : ℕ) (bytes : List ℕ) → byte ≢ 48 → byte ≢ 49 → 19 ≤ length bytes → number 20 0 last_seed (byte ∷ bytes) ≡ None
-past_one byte bytes no_zero no_one long = too_large 0 last_seed 2 byte bytes (omega arith) (λ e. grind (arith, nat_tests)) long
+pub past_one : (byte : ℕ) (bytes : List ℕ) → byte ≢ 48 → byte ≢ 49 → 19 ≤ length bytes → number 20 0 last_number (byte ∷ bytes) ≡ None
+past_one byte bytes no_zero no_one long = too_large 0 last_number 2 byte bytes (omega arith) (λ e. grind (arith, nat_tests)) long
 
 -- what is in front of digits counts by their number
 shifted : (value more : ℕ) (bytes : List ℕ) → digits_after (value + more) bytes ≡ option_map (λ n. value * 10 ^ length bytes + n) (digits_after more bytes)
@@ -114,31 +108,53 @@ shifted value more (b ∷ bytes) = go (is_ascii_digit b) (whole (shifted (value 
 abbrev pub behind_one : ℕ → ℕ
 behind_one n = 10_000_000_000_000_000_000 + n
 
-fits_behind : (n : ℕ) → within 0 last_seed (behind_one n) ≡ option_map behind_one (within 0 (last_seed - 10_000_000_000_000_000_000) n)
+fits_behind : (n : ℕ) → within 0 last_number (behind_one n) ≡ option_map behind_one (within 0 (last_number - 10_000_000_000_000_000_000) n)
 fits_behind n =
-    let same : (nat_le 0 (behind_one n) && nat_le (behind_one n) last_seed) ≡ (nat_le 0 n && nat_le n (last_seed - 10_000_000_000_000_000_000)) = grind (arith, nat_tests) in
-    ap (λ b. cond b (Some (behind_one n)) None) same ∙ go (nat_le 0 n && nat_le n (last_seed - 10_000_000_000_000_000_000))
+    let same : (nat_le 0 (behind_one n) && nat_le (behind_one n) last_number) ≡ (nat_le 0 n && nat_le n (last_number - 10_000_000_000_000_000_000)) = grind (arith, nat_tests) in
+    ap (λ b. cond b (Some (behind_one n)) None) same ∙ go (nat_le 0 n && nat_le n (last_number - 10_000_000_000_000_000_000))
   where
     go : (b : Bool) → cond b (Some (behind_one n)) None ≡ option_map behind_one (cond b (Some n) None)
     go true = refl
     go false = refl
 
-each_behind : (found : Option ℕ) → option_map behind_one (option_and_then (within 0 (last_seed - 10_000_000_000_000_000_000)) found) ≡ option_and_then (within 0 last_seed) (option_map behind_one found)
+each_behind : (found : Option ℕ) → option_map behind_one (option_and_then (within 0 (last_number - 10_000_000_000_000_000_000)) found) ≡ option_and_then (within 0 last_number) (option_map behind_one found)
 each_behind None = refl
 each_behind (Some n) = sym (fits_behind n)
 
 -- the number of 64 bits that 19 digits write behind the digit 1
 pub one_in_front : (bytes : List ℕ) → 19 ≤ length bytes
-    → option_map behind_one (number 19 0 (last_seed - 10_000_000_000_000_000_000) bytes) ≡ number 20 0 last_seed (49 ∷ bytes)
+    → option_map behind_one (number 19 0 (last_number - 10_000_000_000_000_000_000) bytes) ≡ number 20 0 last_number (49 ∷ bytes)
 unfolding number
 one_in_front bytes long =
     let same : (nat_le 1 (length bytes) && nat_le (length bytes) 19) ≡ (nat_le 1 (length (49 ∷ bytes)) && nat_le (length (49 ∷ bytes)) 20) = grind (arith, nat_tests) in
-    go (nat_le 1 (length bytes) && nat_le (length bytes) 19) refl ∙ ap (λ b. option_and_then (within 0 last_seed) (cond b (digits_after 1 bytes) None)) same
+    go (nat_le 1 (length bytes) && nat_le (length bytes) 19) refl ∙ ap (λ b. option_and_then (within 0 last_number) (cond b (digits_after 1 bytes) None)) same
   where
     go : (b : Bool) → (nat_le 1 (length bytes) && nat_le (length bytes) 19) ≡ b
-        → option_map behind_one (option_and_then (within 0 (last_seed - 10_000_000_000_000_000_000)) (cond b (digits_after 0 bytes) None)) ≡ option_and_then (within 0 last_seed) (cond b (digits_after 1 bytes) None)
+        → option_map behind_one (option_and_then (within 0 (last_number - 10_000_000_000_000_000_000)) (cond b (digits_after 0 bytes) None)) ≡ option_and_then (within 0 last_number) (cond b (digits_after 1 bytes) None)
     go false e = refl
     go true e =
         let count : length bytes ≡ 19 = grind (arith, nat_tests) in
         let moved : digits_after 1 bytes ≡ option_map behind_one (digits_after 0 bytes) = shifted 1 0 bytes ∙ ap (λ k. option_map (λ n. 1 * 10 ^ k + n) (digits_after 0 bytes)) count in
-        each_behind (digits_after 0 bytes) ∙ ap (option_and_then (within 0 last_seed)) (sym moved)
+        each_behind (digits_after 0 bytes) ∙ ap (option_and_then (within 0 last_number)) (sym moved)
+
+-- ---- narrower ranges
+
+within_all : (low high n : ℕ) → high ≤ last_number → option_and_then (within low high) (within 0 last_number n) ≡ within low high n
+within_all low high n fits = by (nat_le 0 n && nat_le n last_number) refl
+  where
+    by : (t : Bool) → (nat_le 0 n && nat_le n last_number) ≡ t → option_and_then (within low high) (cond t (Some n) None) ≡ within low high n
+    by true e = refl
+    by false e = sym (ap (λ b. cond b (Some n) None) above)
+      where
+        above : (nat_le low n && nat_le n high) ≡ false
+        above = grind (arith, nat_tests)
+
+each_within : (low high : ℕ) (found : Option ℕ) → high ≤ last_number
+    → option_and_then (within low high) (option_and_then (within 0 last_number) found) ≡ option_and_then (within low high) found
+each_within low high None fits = refl
+each_within low high (Some n) fits = within_all low high n fits
+
+-- a number of a range is one of 64 bits that is in it
+pub in_range : (low high : ℕ) (bytes : List ℕ) → high ≤ last_number → option_and_then (within low high) (number 20 0 last_number bytes) ≡ number 20 low high bytes
+unfolding number
+in_range low high bytes fits = each_within low high _ fits
