@@ -18,12 +18,22 @@ use crate::stored::SharedStored;
 use crate::table::Table;
 use feed_defs::Stored;
 use rt_types::{Copied, Entity, FeedMessage, Incrementality};
-use shared_list::Changed;
+use shared_list::{Changed, Place};
 use std::alloc::Global;
 
-/// The table after the message (GTFS Realtime 2.0, FeedHeader, `incrementality`). A whole data set starts from
-/// nothing, a differential message from the given table. Then, entity by entity, one that says that it is
-/// deleted takes its id away, and any other takes the place of what its id had, whole, with the message's stamp.
+/// Whether a message is the whole data set of its feed (GTFS Realtime 2.0, FeedHeader, `incrementality`).
+pub fn is_whole(message: &FeedMessage) -> bool
+    ensures { result ≡ is_full message.now }
+{
+    match message.header.incrementality {
+        Some(Incrementality::Differential) => false,
+        Some(Incrementality::FullDataset) | None => true,
+    }
+}
+
+/// The table after the message. A whole data set starts from nothing, a differential message from the given table.
+/// Then, entity by entity, one that says that it is deleted takes its id away, and any other takes the place of what
+/// its id had, whole, with the message's stamp.
 pub fn apply(alloc: Global, table: &Table, message: &FeedMessage) -> Result<Table, NoMemory>
     ensures applied { IfOk result (λ next. next ≡ entities_after message.now table.now) }
     ensures stands { (ms : List FeedMessage) → table.now
@@ -48,6 +58,8 @@ pub struct ChangedTable {
     pub table: Table,
     /// What the id had before, if it had anything.
     pub before: Option<SharedStored>,
+    /// Where the entity stands that was put in, if one was.
+    pub at: Place,
 }
 
 impl Table {
@@ -56,9 +68,10 @@ impl Table {
     pub fn start(&self, alloc: Global, message: &FeedMessage) -> Result<Table, NoMemory>
         ensures { IfOk result (λ start. start ≡ (if is_full message.now then [] else self.now)) }
     {
-        match message.header.incrementality {
-            Some(Incrementality::Differential) => self.share(),
-            Some(Incrementality::FullDataset) | None => Ok(Table::empty(alloc)),
+        if is_whole(message) {
+            Ok(Table::empty(alloc))
+        } else {
+            self.share()
         }
     }
 
@@ -86,10 +99,11 @@ impl Table {
         ensures before { IfOk result (λ changed. changed.before
             ≡ find (slice_cmp nat_cmp) stored.entity.id self) }
     {
-        let Changed { list, before } = self.list.with(stored)?;
+        let Changed { list, before, at } = self.list.with(stored)?;
         Ok(ChangedTable {
             table: Table { list },
             before,
+            at,
         })
     }
 
@@ -99,10 +113,11 @@ impl Table {
         ensures before { IfOk result (λ changed. changed.before
             ≡ find (slice_cmp nat_cmp) id.now self) }
     {
-        let Changed { list, before } = self.list.without(id)?;
+        let Changed { list, before, at } = self.list.without(id)?;
         Ok(ChangedTable {
             table: Table { list },
             before,
+            at,
         })
     }
 }

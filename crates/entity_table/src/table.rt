@@ -12,7 +12,7 @@ ghost use Rattle.feed_defs.specs.History.{entities_of, entity_at};
 use crate::NoMemory;
 use crate::stored::SharedStored;
 use feed_defs::Stored;
-use shared_list::{Iter, SharedList};
+use shared_list::{Iter, Place, SharedList};
 use std::alloc::Global;
 use std::marker::Model;
 
@@ -60,6 +60,17 @@ impl Table {
         stored_in(&self.list, id)
     }
 
+    /// The same, by the place at which the entity may stand, where one is known: if it stands there, nothing is
+    /// searched.
+    pub fn get_near(&self, id: &str, near: Option<Place>) -> Option<&Stored>
+        ensures { option_copied result ≡ find (slice_cmp nat_cmp) id.now self.entry.now }
+    {
+        match near {
+            Some(near) => stored_near(&self.list, id, near),
+            None => stored_in(&self.list, id),
+        }
+    }
+
     /// All that the feed holds, one entity for each id, in byte order of the ids, which strictly rise.
     pub fn iter(&self) -> TableIter<'_>
         ensures items { result ≡ map (λ change. change.1) self.entry.now }
@@ -93,6 +104,13 @@ fn stored_in<'a>(list: &'a SharedList<SharedStored>, id: &str) -> Option<&'a Sto
     ensures { option_copied result ≡ find (slice_cmp nat_cmp) id.now list.entry.now }
 {
     list.get(id).map(|shared| shared.get())
+}
+
+/// The same, by the place at which it may stand.
+fn stored_near<'a>(list: &'a SharedList<SharedStored>, id: &str, near: Place) -> Option<&'a Stored>
+    ensures { option_copied result ≡ find (slice_cmp nat_cmp) id.now list.entry.now }
+{
+    list.get_near(id, near).map(|shared| shared.get())
 }
 
 /// What a table holds, in byte order of the ids. A contract sees the list of what is left.

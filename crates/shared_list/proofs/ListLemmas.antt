@@ -1,4 +1,4 @@
--- What a list's nodes make of its count, its items and its order.
+-- What a list's tops make of its count, its items and its order.
 use Rattle.std.proofs.Common.{◌≡◌, ℕ, ◌+◌, ◌-◌, List, [], ◌∷◌, Bool, true, false, cond, not, Option, Some, None, length, refl, sym, ap, ◌∙◌, subst, arith}
 use Rattle.std.specs.Prelude.{T, is_some, if◌then◌else◌, Vec}
 use Rattle.std.specs.Cmp.{IsTotalOrder}
@@ -12,29 +12,29 @@ use Rattle.std.specs.declared.alloc.Global.{Global}
 use Rattle.shared_list.specs.declared.node.Node.{Node}
 use Rattle.shared_list.specs.Order.{entries, item_with, without, Rises}
 use denote.Ref.{Bor}
-use Rattle.shared_list.specs.Parts.{items_in, node_items, IsFilled, AreSound, AreNodes}
+use Rattle.shared_list.specs.Parts.{items_in, top_items, IsTop, AreSound, AreTops}
 
 one_less : (was_there : Bool) (before left all len : ℕ) → len ≡ (if was_there then before - 1 else before) → before ≡ all → cond was_there 1 0 + left ≡ all → len ≡ left
 one_less true before left all len count own taken = omega arith
 one_less false before left all len count own taken = omega arith
 
 module _ {K X : Type 0} {cmp : K → K → Ordering} (o : IsTotalOrder cmp) (key : X → K) where
-  pub AreNodes-put : (old new : List (Arc (Node (Vec X Global)) Global)) (k : K) (v : X) (replaced : Option X) (before len : ℕ) → AreNodes cmp key old before → replaced ≡ item_with cmp key k (items_in node_items old) → len ≡ (if is_some replaced then before else before + 1) → entries key (items_in node_items new) ≡ put cmp k v (entries key (items_in node_items old)) → AreSound node_items IsFilled new → AreNodes cmp key new len
-  AreNodes-put old new k v replaced before len are told count is sound =
-      let es = entries key (items_in node_items old) in
+  pub AreTops-put : (old new : List (Arc (Node (Node (Vec X Global))) Global)) (k : K) (v : X) (replaced : Option X) (before len : ℕ) → AreTops cmp key old before → replaced ≡ item_with cmp key k (items_in top_items old) → len ≡ (if is_some replaced then before else before + 1) → entries key (items_in top_items new) ≡ put cmp k v (entries key (items_in top_items old)) → AreSound top_items IsTop new → AreTops cmp key new len
+  AreTops-put old new k v replaced before len are told count is sound =
+      let es = entries key (items_in top_items old) in
       record {
         sound = sound;
         rising = record { sorted = subst (λ xs. T (is_sorted cmp xs)) (sym is) (is_sorted-put cmp o k v es are.rising.sorted) };
         counted =
             count
             ∙ ap (λ (held : Option X). if is_some held then before else before + 1) told
-            ∙ ap (λ n. if is_some (item_with cmp key k (items_in node_items old)) then n else n + 1) are.counted
+            ∙ ap (λ n. if is_some (item_with cmp key k (items_in top_items old)) then n else n + 1) are.counted
             ∙ sym (ap length is ∙ length-put cmp o k v es are.rising.sorted);
       }
 
-  pub AreNodes-without : (old new : List (Arc (Node (Vec X Global)) Global)) (k : K) (taken : Option X) (before len : ℕ) → AreNodes cmp key old before → taken ≡ item_with cmp key k (items_in node_items old) → len ≡ (if is_some taken then before - 1 else before) → entries key (items_in node_items new) ≡ without cmp k (entries key (items_in node_items old)) → AreSound node_items IsFilled new → AreNodes cmp key new len
-  AreNodes-without old new k taken before len are told count is sound =
-      let es = entries key (items_in node_items old) in
+  pub AreTops-without : (old new : List (Arc (Node (Node (Vec X Global))) Global)) (k : K) (taken : Option X) (before len : ℕ) → AreTops cmp key old before → taken ≡ item_with cmp key k (items_in top_items old) → len ≡ (if is_some taken then before - 1 else before) → entries key (items_in top_items new) ≡ without cmp k (entries key (items_in top_items old)) → AreSound top_items IsTop new → AreTops cmp key new len
+  AreTops-without old new k taken before len are told count is sound =
+      let es = entries key (items_in top_items old) in
       record {
         sound = sound;
         rising = record { sorted = subst (λ xs. T (is_sorted cmp xs)) (sym is) (is_sorted-where_key cmp (λ x. not (eq_by_cmp cmp k x)) es are.rising.sorted) };
@@ -44,9 +44,9 @@ module _ {K X : Type 0} {cmp : K → K → Ordering} (o : IsTotalOrder cmp) (key
             ∙ sym (ap length is);
       }
 
-  -- shares of the same nodes are the same list
-  pub AreNodes-same : (old new : List (Arc (Node (Vec X Global)) Global)) (len : ℕ) → items_in node_items new ≡ items_in node_items old → AreSound node_items IsFilled new → AreNodes cmp key old len → AreNodes cmp key new len
-  AreNodes-same old new len same sound are = record {
+  -- shares of the same tops are the same list
+  pub AreTops-same : (old new : List (Arc (Node (Node (Vec X Global))) Global)) (len : ℕ) → items_in top_items new ≡ items_in top_items old → AreSound top_items IsTop new → AreTops cmp key old len → AreTops cmp key new len
+  AreTops-same old new len same sound are = record {
     sound = sound;
     rising = subst (λ xs. Rises cmp key xs) (sym same) are.rising;
     counted = subst (λ xs. len ≡ length (entries key xs)) (sym same) are.counted;

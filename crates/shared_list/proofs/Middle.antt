@@ -145,10 +145,6 @@ module _ {K : Type 0} {cmp : K → K → Ordering} (o : IsTotalOrder cmp) where
     pub sorted_behind : (x : K × X) (xs : List (K × X)) → T (is_sorted cmp (x ∷ xs)) → AllAbove cmp x.0 xs
     sorted_behind x xs h = below_all_is x.0 xs (first_so _ _ h)
 
-    pub below_back : (k : K) (xs ys : List (K × X)) → T (below_all cmp k (xs ++ ys)) → T (below_all cmp k ys)
-    below_back k [] ys h = h
-    below_back k (x ∷ xs) ys h = below_back k xs ys (second_so _ _ h)
-
     below_part : (k : K) (xs ys : List (K × X)) → T (below_all cmp k (xs ++ ys)) → T (below_all cmp k xs)
     below_part k [] ys h = tt
     below_part k (x ∷ xs) ys h = both_so _ _ (first_so _ _ h) (below_part k xs ys (second_so _ _ h))

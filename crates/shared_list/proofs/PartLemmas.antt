@@ -1,22 +1,22 @@
 -- The laws of parts at parts that are shared.
-use Rattle.std.proofs.Common.{◌≡◌, ℕ, zero, suc, ◌+◌, ◌-◌, ◌<◌, ◌≤◌, List, [], ◌∷◌, ◌++◌, Ok, Err, length, map, take, drop, get_or, set, Option, refl, sym, ap, ◌∙◌, subst, arith, append-nil, Bool, false, nat_eq, Less, Equal, Greater}
+use Rattle.std.proofs.Common.{◌≡◌, ℕ, zero, suc, ◌+◌, ◌-◌, ◌<◌, ◌≤◌, List, [], ◌∷◌, ◌++◌, length, map, take, drop, get_or, set, Option, refl, sym, ap, ◌∙◌, subst, arith, append-nil, Bool, true, false, nat_eq}
 use Rattle.std.specs.Prelude.{T, insert, remove}
 use Rattle.std.specs.Cmp.{IsTotalOrder}
 use Rattle.std.specs.FinMap.{find, put, is_sorted}
-use Rattle.std.specs.List.{flat_map, HoldsAt, AllByRecursion}
-use Rattle.std.specs.List.Sorted.{IsNonDecreasingBy, IsPartitionPoint}
-use Rattle.std.specs.Ordering.{ordering_index}
+use Rattle.std.specs.List.{flat_map, AllByRecursion}
+use Rattle.std.specs.Ordering.{is_gt}
 use Rattle.std.specs.declared.cmp.Ordering.{Ordering}
 use Rattle.std.specs.declared.sync.Arc.{Arc}
 use Rattle.std.specs.declared.alloc.Global.{Global}
 use Rattle.std.proofs.Math.Dec.{eqb-suc-zero}
 use Rattle.std.proofs.lemmas.Grind.{flat_map-append}
 use Rattle.std.proofs.lemmas.List.{length-map, map-append, map-set}
-use Rattle.shared_list.specs.Order.{entries, all_entries, item_with, items_from, entries_from, without, at_first, AllBelow, AllAbove, IsGap, IsHome, Rises, AreParts}
+use Rattle.shared_list.specs.Order.{entries, all_entries, item_with, items_from, entries_from, without, at_first, IsHome, Rises, AreParts}
 use Rattle.shared_list.specs.Parts.{parts_of, items_in, AreSound, TellsLeft}
-use Rattle.shared_list.proofs.Places.{searched, search_same, items_entries, IsAt-map, IsGap-map, Rises-map}
+use Rattle.shared_list.proofs.Places.{items_entries}
 use Rattle.shared_list.proofs.Each.{each_front, each_back, each_at, each_set, each_insert, each_before, each_behind, remove_set}
-use Rattle.shared_list.proofs.Homes.{lead, Rises-leads, Rises-part, home_at, home_before, home_first, put_home, put_home_split, without_home, without_home_all, find_home, from_home}
+use Rattle.shared_list.proofs.Halves.{IsWithin, within_all, within_back, within_front}
+use Rattle.shared_list.proofs.Homes.{Rises-part, put_home, put_home_split, without_home, without_home_all, find_home, from_home}
 
 abbrev Share : Type 0 → Type 0
 Share P = Arc P Global
@@ -81,60 +81,33 @@ module _ {K P X : Type 0} {cmp : K → K → Ordering} (o : IsTotalOrder cmp) (k
     filled = filled_parts shares are;
   }
 
-  -- parts that are not empty have a key
-  a_key : (shares : List (Share P)) → AreSound items sound shares → 0 < length shares → K
-  a_key [] are some = absurd (omega arith)
-  a_key (share ∷ shares) are some = first (items share.value) are.0.1
-    where
-      first : (xs : List X) → 0 < length xs → K
-      first [] h = absurd (omega arith)
-      first (x ∷ xs) h = key x
-
   module _ (lead_cmp : P → K → Ordering) (leads : (k : K) (part : P) → sound part → lead_cmp part k ≡ at_first (λ x. cmp (key x) k) (items part)) (k : K) (shares : List (Share P)) (are : AreSound items sound shares) (up : Rises cmp key (items_in items shares)) where
-    module _ (any : K) where
-      parts : AreParts cmp key (parts_of items shares)
-      parts = AreParts-shares shares are up
+    many : length (parts_of items shares) ≡ length shares
+    many = length-map shares (λ share. items share.value)
 
-      leads_up : Rises cmp (λ share. lead key any (items share.value)) shares
-      leads_up = Rises-map cmp (lead key any) (λ share. items share.value) shares (Rises-leads o key any (parts_of items shares) parts)
+    -- how the first key of a part stands to the key
+    first_at : (i : ℕ) (share : Share P) → i < length shares → share ≡ get_or shares i share → at_first (λ x. cmp (key x) k) (get_or (parts_of items shares) i []) ≡ lead_cmp share.value k
+    first_at i share h seen =
+        let good : Share P → Type 0 = λ s. (sound s.value) × (0 < length (items s.value)) in
+        let own : good share = subst good (sym seen) (each_at good i shares share h are) in
+        let within : i < length (parts_of items shares) = omega (arith, h, many) in
+        ap (at_first (λ x. cmp (key x) k)) (sym (part_at items shares i share within seen)) ∙ sym (leads k share.value own.0)
 
-      -- a part stands to the key as its first key does
-      by_leads : (ss : List (Share P)) → AreSound items sound ss → AllByRecursion (λ share. lead_cmp share.value k ≡ cmp (lead key any (items share.value)) k) ss
-      by_leads [] are = tt
-      by_leads (s ∷ ss) are = (leads k s.value are.0.0 ∙ first (items s.value) are.0.1, by_leads ss are.1)
-        where
-          first : (xs : List X) → 0 < length xs → at_first (λ x. cmp (key x) k) xs ≡ cmp (lead key any xs) k
-          first [] h = absurd (omega arith)
-          first (x ∷ xs) h = refl
+    pub home_begins : (n : ℕ) → n ≡ length shares → 0 < length shares → IsWithin cmp key k (parts_of items shares) 0 n
+    home_begins n is some = within_all o key k (parts_of items shares) n (omega (arith, is, many)) (omega (arith, some, many))
 
-      found_by : (i : ℕ) → i < length shares → HoldsAt (λ share. lead_cmp share.value k ≡ Equal) shares i → IsHome cmp key k (parts_of items shares) i
-      found_by i h found =
-          home_at o key any k (parts_of items shares) i parts
-          (IsAt-map cmp (lead key any) (λ share. items share.value) k shares i
-          (searched o (λ share. lead key any (items share.value)) shares leads_up k (Ok i) h
-          (search_same (λ share. lead_cmp share.value k) (λ share. cmp (lead key any (items share.value)) k) shares (by_leads shares are) (Ok i) h found)))
+    -- one half of the parts, by how the first key of the later half stands
+    pub home_in_front : (at count half m : ℕ) (share : Share P) (part : P) → IsWithin cmp key k (parts_of items shares) at count → m ≡ at + half → 0 < half → half < count → m < length shares → share ≡ get_or shares m share → part ≡ share.value
+        → is_gt (lead_cmp part k) ≡ true → IsWithin cmp key k (parts_of items shares) at half
+    home_in_front at count half m share part within is some less h seen same above =
+        within_front o key k (parts_of items shares) at count half m (AreParts-shares shares are up) within is some less
+        (ap is_gt (first_at m share h seen ∙ ap (λ p. lead_cmp p k) (sym same)) ∙ above)
 
-      missed_by : (i at : ℕ) → at ≡ i - 1 → 0 < length shares → i ≤ length shares → (IsNonDecreasingBy (λ share. ordering_index (lead_cmp share.value k)) shares → IsPartitionPoint (λ share. lead_cmp share.value k ≡ Less) (λ share. lead_cmp share.value k ≡ Greater) shares i) → IsHome cmp key k (parts_of items shares) at
-      missed_by i at is some h split =
-          by_place i is
-          (IsGap-map cmp (lead key any) (λ share. items share.value) k shares i
-          (searched o (λ share. lead key any (items share.value)) shares leads_up k (Err i) h
-          (search_same (λ share. lead_cmp share.value k) (λ share. cmp (lead key any (items share.value)) k) shares (by_leads shares are) (Err i) h split)))
-        where
-          long : length (parts_of items shares) ≡ length shares
-          long = length-map shares (λ share. items share.value)
-
-          by_place : (n : ℕ) → at ≡ n - 1 → IsGap cmp (lead key any) k (parts_of items shares) n → IsHome cmp key k (parts_of items shares) at
-          by_place zero e gap = let first : at ≡ 0 = omega arith in let l = long in subst (λ m. IsHome cmp key k (parts_of items shares) m) (sym first) (home_first o key any k (parts_of items shares) parts (omega arith) gap)
-          by_place (suc n) e gap = let before : at ≡ n = omega arith in subst (λ m. IsHome cmp key k (parts_of items shares) m) (sym before) (home_before o key any k (parts_of items shares) n parts gap.within gap)
-
-    -- the part whose first key is the key
-    pub home_found : (i : ℕ) → i < length shares → HoldsAt (λ share. lead_cmp share.value k ≡ Equal) shares i → IsHome cmp key k (parts_of items shares) i
-    home_found i h found = found_by (a_key shares are (omega arith)) i h found
-
-    -- else the one before the first whose first key is above it
-    pub home_missed : (i at : ℕ) → at ≡ i - 1 → 0 < length shares → i ≤ length shares → (IsNonDecreasingBy (λ share. ordering_index (lead_cmp share.value k)) shares → IsPartitionPoint (λ share. lead_cmp share.value k ≡ Less) (λ share. lead_cmp share.value k ≡ Greater) shares i) → IsHome cmp key k (parts_of items shares) at
-    home_missed i at is some h split = missed_by (a_key shares are some) i at is some h split
+    pub home_in_back : (at count half m left : ℕ) (share : Share P) (part : P) → IsWithin cmp key k (parts_of items shares) at count → m ≡ at + half → half < count → left ≡ count - half → m < length shares → share ≡ get_or shares m share → part ≡ share.value
+        → is_gt (lead_cmp part k) ≡ false → IsWithin cmp key k (parts_of items shares) m left
+    home_in_back at count half m left share part within is less rest h seen same above =
+        within_back o key k (parts_of items shares) at count half m left (AreParts-shares shares are up) within is less rest
+        (ap is_gt (first_at m share h seen ∙ ap (λ p. lead_cmp p k) (sym same)) ∙ above)
 
   -- ---- the part at its home, and what a change of it makes of all
 

@@ -6,7 +6,7 @@ use Rattle.std.specs.declared.sync.Arc.{Arc}
 use Rattle.std.specs.declared.alloc.Global.{Global}
 use Rattle.std.proofs.lemmas.List.{length-drop, reverse-append, take-append-drop}
 use Rattle.shared_list.specs.declared.node.Node.{Node}
-use Rattle.shared_list.specs.Parts.{items_in, leaf_items, node_items, AreSound, IsFilled, IsPlain}
+use Rattle.shared_list.specs.Parts.{items_in, items_over, leaf_items, AreSound, IsPlain, IsSoundOver}
 use Rattle.shared_list.proofs.PartLemmas.{join_parts, sound_front, sound_back, some_items}
 
 -- what pieces have, one after another
@@ -68,27 +68,27 @@ module _ {X : Type 0} where
 
 -- ---- nodes
 
-module _ {X : Type 0} where
-  pub nodes_items : (nodes : List (Arc (Node (Vec X Global)) Global)) (pieces : List (Vec (Arc (Vec X Global) Global) Global)) → map (λ node. node.value.parts) nodes ≡ pieces → items_in node_items nodes ≡ items_in leaf_items (pieces_items pieces)
-  nodes_items nodes pieces are = by_values nodes ∙ ap (λ ps. items_in leaf_items (pieces_items ps)) are
+module _ {P X : Type 0} (items : P → List X) (sound : P → Type 0) where
+  pub nodes_items : (nodes : List (Arc (Node P) Global)) (pieces : List (Vec (Arc P Global) Global)) → map (λ node. node.value.parts) nodes ≡ pieces → items_in (items_over items) nodes ≡ items_in items (pieces_items pieces)
+  nodes_items nodes pieces are = by_values nodes ∙ ap (λ ps. items_in items (pieces_items ps)) are
     where
-      by_values : (ns : List (Arc (Node (Vec X Global)) Global)) → items_in node_items ns ≡ items_in leaf_items (pieces_items (map (λ node. node.value.parts) ns))
+      by_values : (ns : List (Arc (Node P) Global)) → items_in (items_over items) ns ≡ items_in items (pieces_items (map (λ node. node.value.parts) ns))
       by_values [] = refl
       by_values (n ∷ ns) =
-          ap (λ xs. items_in leaf_items n.value.parts.items ++ xs) (by_values ns)
-          ∙ join_parts leaf_items n.value.parts.items (pieces_items (map (λ node. node.value.parts) ns)) _ refl
+          ap (λ xs. items_in items n.value.parts.items ++ xs) (by_values ns)
+          ∙ join_parts items n.value.parts.items (pieces_items (map (λ node. node.value.parts) ns)) _ refl
 
-  pub nodes_sound : (nodes : List (Arc (Node (Vec X Global)) Global)) (pieces : List (Vec (Arc (Vec X Global) Global) Global)) → map (λ node. node.value.parts) nodes ≡ pieces → AreFilled pieces → AreSound leaf_items IsPlain (pieces_items pieces) → AreSound node_items IsFilled nodes
-  nodes_sound nodes pieces are filled sound =
-      each nodes (subst (λ ps. AreFilled ps) (sym are) filled) (subst (λ ps. AreSound leaf_items IsPlain (pieces_items ps)) (sym are) sound)
+  pub nodes_sound : (nodes : List (Arc (Node P) Global)) (pieces : List (Vec (Arc P Global) Global)) → map (λ node. node.value.parts) nodes ≡ pieces → AreFilled pieces → AreSound items sound (pieces_items pieces) → AreSound (items_over items) (IsSoundOver items sound) nodes
+  nodes_sound nodes pieces are filled good =
+      each nodes (subst (λ ps. AreFilled ps) (sym are) filled) (subst (λ ps. AreSound items sound (pieces_items ps)) (sym are) good)
     where
-      each : (ns : List (Arc (Node (Vec X Global)) Global)) → AreFilled (map (λ node. node.value.parts) ns) → AreSound leaf_items IsPlain (pieces_items (map (λ node. node.value.parts) ns)) → AreSound node_items IsFilled ns
-      each [] h good = tt
-      each (n ∷ ns) h good =
-          let leaves = n.value.parts.items in
+      each : (ns : List (Arc (Node P) Global)) → AreFilled (map (λ node. node.value.parts) ns) → AreSound items sound (pieces_items (map (λ node. node.value.parts) ns)) → AreSound (items_over items) (IsSoundOver items sound) ns
+      each [] h all = tt
+      each (n ∷ ns) h all =
+          let parts = n.value.parts.items in
           let later = pieces_items (map (λ node. node.value.parts) ns) in
-          let own = sound_front leaf_items IsPlain leaves later (leaves ++ later) refl good in
-          ((own, some_items leaf_items IsPlain leaves own h.0), each ns h.1 (sound_back leaf_items IsPlain leaves later (leaves ++ later) refl good))
+          let own = sound_front items sound parts later (parts ++ later) refl all in
+          ((own, some_items items sound parts own h.0), each ns h.1 (sound_back items sound parts later (parts ++ later) refl all))
 
 -- what was made of the pieces that are gone over, when none is left
 pub all_made : {A B : Type 0} (f : A → B) (made : List A) (left all : List B) → left ≡ [] → map f made ++ left ≡ all → map f made ≡ all

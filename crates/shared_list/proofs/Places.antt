@@ -7,13 +7,11 @@ use Rattle.std.specs.List.Sorted.{IsNonDecreasingBy, IsPartitionPoint, IsSearchI
 use Rattle.std.specs.Ordering.{is_lt, is_eq, ordering_index, ordering_reverse}
 use Rattle.std.specs.declared.cmp.Ordering.{Ordering}
 use Rattle.std.specs.FinMap.{find, put, is_sorted, IsAntisymmetric}
-use Rattle.std.specs.FinMap.Entries.{below_all}
 use Rattle.std.proofs.lemmas.Cmp.{alike_right}
-use Rattle.std.proofs.lemmas.List.{map-append, take-append-drop, set_split, length-map}
+use Rattle.std.proofs.lemmas.List.{map-append, take-append-drop, set_split}
 use Rattle.std.proofs.lemmas.List.Sorted.{searchable_from_sorted}
 use Rattle.shared_list.specs.Order.{entries, entries_from, items_from, without, AllBelow, AllAbove, IsGap, IsAt, Rises}
-use Rattle.shared_list.proofs.Each.{each_at}
-use Rattle.shared_list.proofs.Middle.{put_middle, without_middle, find_middle, from_front, from_all, sorted_behind, first_so, second_so, both_so}
+use Rattle.shared_list.proofs.Middle.{put_middle, without_middle, find_middle, from_front, from_all, sorted_behind, second_so}
 
 -- two parts that were cut at a place are the whole
 pub both_parts : {X : Type 0} (front back xs : List X) (n : ℕ) → front ≡ take n xs → back ≡ drop n xs → front ++ back ≡ xs
@@ -23,17 +21,6 @@ pub split_here : {X : Type 0} (xs : List X) (i : ℕ) (d : X) → i < length xs 
 split_here [] i d h = absurd (omega arith)
 split_here (x ∷ xs) zero d h = refl
 split_here (x ∷ xs) (suc i) d h = split_here xs i d (omega arith)
-
--- a search finds the same by an order that answers alike
-pub search_same : {Y : Type 0} (f g : Y → Ordering) (ys : List Y) → AllByRecursion (λ y. f y ≡ g y) ys → (r : Result ℕ ℕ) → IsSearchInRange r (length ys) → IsBinarySearchResult f ys r → IsBinarySearchResult g ys r
-search_same f g ys same (Ok i) h found = λ d. sym (each_at (λ y. f y ≡ g y) i ys d h same) ∙ found d
-search_same {Y} f g ys same (Err i) h split = λ rises.
-    let fits : i ≤ length ys = h in
-    let parts = split (λ j k d le lt. both (get_or ys j d) (get_or ys k d) (each_at (λ y. f y ≡ g y) j ys d (omega arith) same) (each_at (λ y. f y ≡ g y) k ys d lt same) (rises j k d le lt)) in
-    (λ j d le lt. sym (each_at (λ y. f y ≡ g y) j ys d (omega arith) same) ∙ parts.0 j d le lt, λ j d le lt. sym (each_at (λ y. f y ≡ g y) j ys d lt same) ∙ parts.1 j d le lt)
-  where
-    both : (x y : Y) → f x ≡ g x → f y ≡ g y → ordering_index (g x) ≤ ordering_index (g y) → ordering_index (f x) ≤ ordering_index (f y)
-    both x y a b h = subst (λ r. ordering_index r ≤ ordering_index (f y)) (sym a) (subst (λ r. ordering_index (g x) ≤ ordering_index r) (sym b) h)
 
 module _ {K X : Type 0} (key : X → K) where
   -- what holds at each place holds of each entry
@@ -193,51 +180,3 @@ module _ {K : Type 0} {cmp : K → K → Ordering} (o : IsTotalOrder cmp) where
             ∙ sym (ap (λ (es : List (K × X)). map (λ e. e.1) (entries_from cmp k es)) (with_here key xs i d at.within)
             ∙ ap (map (λ (e : K × X). e.1)) (from_front o k (entries key (take i xs)) ((key old, old) ∷ rest) at.before ∙ kept)
             ∙ ap (λ zs. old ∷ zs) (items_entries key (drop (suc i) xs)))
-
--- ---- items that are seen through a function
-
-module _ {K X Y : Type 0} (cmp : K → K → Ordering) (key : Y → K) (f : X → Y) where
-  all_seen : (P : K → Type 0) (xs : List X) → AllByRecursion (λ e. P e.0) (entries (λ x. key (f x)) xs) → AllByRecursion (λ e. P e.0) (entries key (map f xs))
-  all_seen P [] all = tt
-  all_seen P (x ∷ xs) all = (all.0, all_seen P xs all.1)
-
-  take_seen : (n : ℕ) (xs : List X) → map f (take n xs) ≡ take n (map f xs)
-  take_seen zero xs = refl
-  take_seen (suc n) [] = refl
-  take_seen (suc n) (x ∷ xs) = ap (λ ys. f x ∷ ys) (take_seen n xs)
-
-  drop_seen : (n : ℕ) (xs : List X) → map f (drop n xs) ≡ drop n (map f xs)
-  drop_seen zero xs = refl
-  drop_seen (suc n) [] = refl
-  drop_seen (suc n) (x ∷ xs) = drop_seen n xs
-
-  pub IsAt-map : (k : K) (xs : List X) (i : ℕ) → IsAt cmp (λ x. key (f x)) k xs i → IsAt cmp key k (map f xs) i
-  IsAt-map k xs i at = record {
-    within = let same : length (map f xs) ≡ length xs = length-map xs f in let h = at.within in omega arith;
-    before = subst (λ ys. AllBelow cmp k (entries key ys)) (take_seen i xs) (all_seen (λ y. cmp y k ≡ Less) (take i xs) at.before);
-    here = λ d. here_seen xs i d at.within at.here;
-    behind = subst (λ ys. AllAbove cmp k (entries key ys)) (drop_seen (suc i) xs) (all_seen (λ y. cmp k y ≡ Less) (drop (suc i) xs) at.behind);
-  }
-    where
-      here_seen : (ys : List X) (n : ℕ) (d : Y) → n < length ys → ((c : X) → cmp k (key (f (get_or ys n c))) ≡ Equal) → cmp k (key (get_or (map f ys) n d)) ≡ Equal
-      here_seen [] n d h is = absurd (omega arith)
-      here_seen (y ∷ ys) zero d h is = is y
-      here_seen (y ∷ ys) (suc n) d h is = here_seen ys n d (omega arith) is
-
-  pub IsGap-map : (k : K) (xs : List X) (i : ℕ) → IsGap cmp (λ x. key (f x)) k xs i → IsGap cmp key k (map f xs) i
-  IsGap-map k xs i gap = record {
-    within = let same : length (map f xs) ≡ length xs = length-map xs f in let h = gap.within in omega arith;
-    before = subst (λ ys. AllBelow cmp k (entries key ys)) (take_seen i xs) (all_seen (λ y. cmp y k ≡ Less) (take i xs) gap.before);
-    behind = subst (λ ys. AllAbove cmp k (entries key ys)) (drop_seen i xs) (all_seen (λ y. cmp k y ≡ Less) (drop i xs) gap.behind);
-  }
-
-  below_seen : (k : K) (xs : List X) → T (below_all cmp k (entries key (map f xs))) → T (below_all cmp k (entries (λ x. key (f x)) xs))
-  below_seen k [] h = tt
-  below_seen k (x ∷ xs) h = both_so _ _ (first_so _ _ h) (below_seen k xs (second_so _ _ h))
-
-  sorted_seen : (xs : List X) → T (is_sorted cmp (entries key (map f xs))) → T (is_sorted cmp (entries (λ x. key (f x)) xs))
-  sorted_seen [] h = tt
-  sorted_seen (x ∷ xs) h = both_so _ _ (below_seen (key (f x)) xs (first_so _ _ h)) (sorted_seen xs (second_so _ _ h))
-
-  pub Rises-map : (xs : List X) → Rises cmp key (map f xs) → Rises cmp (λ x. key (f x)) xs
-  Rises-map xs up = record { sorted = sorted_seen xs up.sorted }

@@ -1,5 +1,5 @@
 -- Lists in the order of their keys, and where a key stands in them.
-use Rattle.std.specs.Prelude.{◌≡◌, ℕ, suc, ◌<◌, ◌≤◌, Option, not, T, List, [], ◌∷◌, length, map, take, drop, slice_index_or}
+use Rattle.std.specs.Prelude.{◌≡◌, ◌⊎◌, ℕ, suc, ◌<◌, ◌≤◌, Option, not, T, List, [], ◌∷◌, length, map, take, drop, slice_index_or}
 use Rattle.std.specs.List.{flat_map, AllByRecursion}
 use Rattle.std.specs.Ordering.{is_lt, eq_by_cmp}
 use Rattle.std.specs.declared.cmp.Ordering.{Ordering}
@@ -69,6 +69,11 @@ pub record AreParts {K X : Type 0} (cmp : K → K → Ordering) (key : X
     → K) (parts : List (List X)) : Type 0 where
   pub sorted : T (is_sorted cmp (all_entries key parts))
   pub filled : AllByRecursion (λ part. 0 < length part) parts
+
+-- an item is one of others
+abbrev pub IsAmong : {X : Type 0} → List X → X → Type 0
+IsAmong [] x = ⊥
+IsAmong (y ∷ ys) x = (y ≡ x) ⊎ IsAmong ys x
 
 -- how the first stands to something; where there is none, below it
 abbrev pub at_first : {X : Type 0} → (X → Ordering) → List X → Ordering

@@ -46,6 +46,13 @@ first_leads {P} {X} items sound part_order item_order leads (share ∷ shares) a
     before [] back some = absurd (omega arith)
     before (x ∷ xs) back some = refl
 
+-- the items of a node over any kind of parts, and what holds of it
+abbrev pub items_over : {P X : Type 0} → (P → List X) → Node P → List X
+items_over items node = items_in items node.parts.items
+
+abbrev pub IsSoundOver : {P X : Type 0} → (P → List X) → (P → Type 0) → Node P → Type 0
+IsSoundOver items sound node = AreSound items sound node.parts.items
+
 -- the items of leaves, and of nodes of leaves
 abbrev pub leaf_items : {X : Type 0} → Vec X Global → List X
 leaf_items leaf = leaf.items
@@ -59,9 +66,16 @@ node_items node = items_in leaf_items node.parts.items
 abbrev pub IsFilled : {X : Type 0} → Node (Vec X Global) → Type 0
 IsFilled node = AreSound leaf_items IsPlain node.parts.items
 
--- what is true of the nodes of a list with so many items
-pub record AreNodes {K X : Type 0} (cmp : K → K → Ordering) (key : X
-    → K) (nodes : List (Arc (Node (Vec X Global)) Global)) (len : ℕ) : Type 0 where
-  pub sound : AreSound node_items IsFilled nodes
-  pub rising : Rises cmp key (items_in node_items nodes)
-  pub counted : len ≡ length (entries key (items_in node_items nodes))
+-- the items of nodes of nodes
+abbrev pub top_items : {X : Type 0} → Node (Node (Vec X Global)) → List X
+top_items node = items_in node_items node.parts.items
+
+abbrev pub IsTop : {X : Type 0} → Node (Node (Vec X Global)) → Type 0
+IsTop node = AreSound node_items IsFilled node.parts.items
+
+-- what is true of the tops of a list with so many items
+pub record AreTops {K X : Type 0} (cmp : K → K → Ordering) (key : X
+    → K) (tops : List (Arc (Node (Node (Vec X Global))) Global)) (len : ℕ) : Type 0 where
+  pub sound : AreSound top_items IsTop tops
+  pub rising : Rises cmp key (items_in top_items tops)
+  pub counted : len ≡ length (entries key (items_in top_items tops))

@@ -57,6 +57,7 @@ fn put_among<T: Keyed>(items: &mut Vec<T>, item: T) -> Result<Arrival<T>, NoMemo
             Ok(Arrival {
                 replaced: Some(old),
                 at_end: false,
+                at,
             })
         }
         Err(at) => {
@@ -65,6 +66,7 @@ fn put_among<T: Keyed>(items: &mut Vec<T>, item: T) -> Result<Arrival<T>, NoMemo
             Ok(Arrival {
                 replaced: None,
                 at_end,
+                at,
             })
         }
     }
@@ -115,14 +117,26 @@ impl<T: Keyed> Part for Vec<T> {
         }
     }
 
+    fn item_at(&self, place: usize) -> Option<&T> {
+        if place < self.len() {
+            Some(&self[place])
+        } else {
+            None
+        }
+    }
+
     fn copied(&self, more: usize) -> Result<Self, NoMemory> {
         T::copies(self, more)
     }
 
     fn put_item(&mut self, item: T) -> Result<PutOutcome<Self, T>, NoMemory> {
-        let Arrival { replaced, at_end } = put_among(self, item)?;
+        let Arrival {
+            replaced,
+            at_end,
+            at,
+        } = put_among(self, item)?;
         let back = split_off(self, LEAF_MOST, at_end)?;
-        Ok(PutOutcome { replaced, back })
+        Ok(PutOutcome { replaced, back, at })
     }
 
     fn take_out<K: KeyFor<T>>(&mut self, key: K) -> Result<TakeOutcome<T>, NoMemory> {

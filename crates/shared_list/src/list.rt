@@ -11,8 +11,8 @@ use crate::change::Change;
 use crate::iter::Iter;
 use crate::keyed::{KeyFor, Keyed};
 use crate::node::Node;
-use crate::shared::{item_in, put_shared, share, take_out_shared};
-use crate::sorted::nodes_of;
+use crate::shared::{item_at_place, item_in, put_shared, share, take_out_shared};
+use crate::sorted::tops_of;
 use crate::split::Arrival;
 use std::alloc::Global;
 use std::marker::Model;
@@ -21,8 +21,8 @@ use std::sync::Arc;
 /// Items in the order of their keys, each key once. A contract sees them as a list of pairs of key and item.
 #[derive(Drop)]
 pub struct SharedList<T: Keyed> {
-    // Neither a node nor a leaf within one is empty.
-    nodes: Vec<Arc<Node<Vec<T>>>>,
+    // No top is empty, nor a node within one, nor a leaf within that.
+    tops: Vec<Arc<Node<Node<Vec<T>>>>>,
     len: usize,
 }
 
@@ -32,11 +32,11 @@ impl<T: Keyed> Model for SharedList<T> {
     ghost Value = { List (T.Key × T) };
 
     ghost use Rattle.shared_list.specs.Order.{entries};
-    ghost use Rattle.shared_list.specs.Parts.{items_in, node_items, AreNodes};
+    ghost use Rattle.shared_list.specs.Parts.{items_in, top_items, AreTops};
 
-    ghost view = { λ list. entries T.key_of (items_in node_items list.nodes.items) };
+    ghost view = { λ list. entries T.key_of (items_in top_items list.tops.items) };
 
-    ghost invariant = { λ list. AreNodes T.key_cmp T.key_of list.nodes.items list.len };
+    ghost invariant = { λ list. AreTops T.key_cmp T.key_of list.tops.items list.len };
 }
 
 /// A list after a change at one key.
@@ -46,6 +46,14 @@ pub struct Changed<T: Keyed> {
     pub list: SharedList<T>,
     /// The item that had the key before, if there was one.
     pub before: Option<T>,
+    /// Where the item stands that was put in, if one was.
+    pub at: Place,
+}
+
+/// Where an item stands in a list. It is a guess in any other version of the list.
+#[derive(Clone, Copy, Debug)]
+pub struct Place {
+    number: usize,
 }
 
 impl<T: Keyed> SharedList<T> {
@@ -54,7 +62,7 @@ impl<T: Keyed> SharedList<T> {
         ensures { result ≡ [] }
     {
         SharedList {
-            nodes: Vec::new(alloc),
+            tops: Vec::new(alloc),
             len: 0,
         }
     }
@@ -66,16 +74,16 @@ impl<T: Keyed> SharedList<T> {
         ensures { IfOk result (λ list. list ≡ entries T.key_of items.items) }
     {
         let len = items.len();
-        let nodes = nodes_of(alloc, items)?;
-        Ok(SharedList { nodes, len })
+        let tops = tops_of(alloc, items)?;
+        Ok(SharedList { tops, len })
     }
 
-    /// The same list, with all its nodes shared, or want of memory.
+    /// The same list, with all its tops shared, or want of memory.
     pub fn share(&self) -> Result<Self, NoMemory>
         ensures { IfOk result (λ same. same ≡ self.now) }
     {
         Ok(SharedList {
-            nodes: share(&self.nodes, 0)?,
+            tops: share(&self.tops, 0)?,
             len: self.len,
         })
     }
@@ -88,38 +96,48 @@ impl<T: Keyed> SharedList<T> {
         ensures before { IfOk result (λ changed. changed.before
             ≡ find T.key_cmp (T.key_of item) self) }
     {
-        let SharedList { mut nodes, len } = self;
+        let SharedList { mut tops, len } = self;
         let Arrival {
             replaced,
             at_end: _,
-        } = put_shared(&mut nodes, item)?;
+            at,
+        } = put_shared(&mut tops, item)?;
         let len = len_with(len, replaced.is_some())?;
         Ok(Changed {
-            list: SharedList { nodes, len },
+            list: SharedList { tops, len },
             before: replaced,
+            at: Place { number: at },
         })
     }
 
-    /// The list without the item of that key, or out of memory.
+    /// The list without the item of that key, or out of memory. Where there is none, it shares with others what it did.
     pub fn without<K: KeyFor<T>>(self, key: K) -> Result<Changed<T>, NoMemory>
         ensures list { IfOk result (λ changed. changed.list
             ≡ without T.key_cmp (K.sought key) self) }
         ensures before { IfOk result (λ changed. changed.before
             ≡ find T.key_cmp (K.sought key) self) }
     {
-        let SharedList { mut nodes, len } = self;
-        let taken = take_out_shared(&mut nodes, key)?;
+        if self.get(key).is_none() {
+            return Ok(Changed {
+                list: self,
+                before: None,
+                at: Place { number: 0 },
+            });
+        }
+        let SharedList { mut tops, len } = self;
+        let taken = take_out_shared(&mut tops, key)?;
         let len = len_without(len, taken.is_some());
         Ok(Changed {
-            list: SharedList { nodes, len },
+            list: SharedList { tops, len },
             before: taken,
+            at: Place { number: 0 },
         })
     }
 
     /// The list after the changes, one after another; or out of memory.
     ///
-    /// A node or a leaf that other versions share is copied by the first change that touches it, and is this
-    /// version's own for those after it. So k changes copy at most k nodes of 32 shares and k leaves of 16
+    /// A top, a node or a leaf that other versions share is copied by the first change that touches it, and is this
+    /// version's own for those after it. So k changes copy at most k tops and k nodes of 16 shares and k leaves of 16
     /// items, however many items the list has, and each change takes one search. Where they come in the order
     /// of keys, those that touch one leaf find it in the cache.
     pub fn with_all<K: KeyFor<T>>(self, changes: Vec<Change<T, K>>) -> Result<Self, NoMemory>
@@ -148,7 +166,18 @@ impl<T: Keyed> SharedList<T> {
     pub fn get<K: KeyFor<T>>(&self, key: K) -> Option<&T>
         ensures { option_copied result ≡ find T.key_cmp (K.sought key) self.entry.now }
     {
-        item_in(self.nodes.as_slice(), key)
+        item_in(self.tops.as_slice(), key)
+    }
+
+    /// The same. Where the item stands at that place, as it mostly does where it stood there before changes at other
+    /// keys, nothing is searched.
+    pub fn get_near<K: KeyFor<T>>(&self, key: K, near: Place) -> Option<&T>
+        ensures { option_copied result ≡ find T.key_cmp (K.sought key) self.entry.now }
+    {
+        match item_at_place(self.tops.as_slice(), near.number) {
+            Some(item) if key.order_of(item).is_eq() => Some(item),
+            _ => self.get(key),
+        }
     }
 
     /// The items in the order of their keys, which strictly rise; each is under its own key.
@@ -157,7 +186,7 @@ impl<T: Keyed> SharedList<T> {
         ensures rising { IsSo (is_sorted T.key_cmp self.entry.now) }
         ensures keyed { entries T.key_of (map (λ entry. entry.1) self.entry.now) ≡ self.entry.now }
     {
-        Iter::over(self.nodes.as_slice())
+        Iter::over(self.tops.as_slice())
     }
 
     /// The items from a key on, as `iter` gives them: those whose keys are not below it. The first is searched
@@ -168,7 +197,7 @@ impl<T: Keyed> SharedList<T> {
         ensures rising { IsSo (is_sorted T.key_cmp self.entry.now) }
         ensures keyed { entries T.key_of (map (λ entry. entry.1) self.entry.now) ≡ self.entry.now }
     {
-        Iter::starting(self.nodes.as_slice(), key)
+        Iter::starting(self.tops.as_slice(), key)
     }
 
     /// How many items there are.

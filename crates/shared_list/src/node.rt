@@ -3,7 +3,7 @@
 use crate::NoMemory;
 use crate::keyed::KeyFor;
 use crate::part::{Part, PutOutcome, TakeOutcome};
-use crate::shared::{item_in, put_shared, share, take_out_shared};
+use crate::shared::{item_at_place, item_in, put_shared, share, take_out_shared};
 use crate::split::{Arrival, NODE_MOST, split_off};
 use std::alloc::Global;
 use std::cmp::Ordering;
@@ -44,6 +44,10 @@ impl<P: Part> Part for Node<P> {
         item_in(self.parts.as_slice(), key)
     }
 
+    fn item_at(&self, place: usize) -> Option<&P::Item> {
+        item_at_place(self.parts.as_slice(), place)
+    }
+
     fn copied(&self, more: usize) -> Result<Self, NoMemory> {
         Ok(Node {
             parts: share(&self.parts, more)?,
@@ -51,15 +55,21 @@ impl<P: Part> Part for Node<P> {
     }
 
     fn put_item(&mut self, item: P::Item) -> Result<PutOutcome<Self, P::Item>, NoMemory> {
-        let Arrival { replaced, at_end } = put_shared(&mut self.parts, item)?;
+        let Arrival {
+            replaced,
+            at_end,
+            at,
+        } = put_shared(&mut self.parts, item)?;
         match split_off(&mut self.parts, NODE_MOST, at_end)? {
             Some(parts) => Ok(PutOutcome {
                 replaced,
                 back: Some(Node { parts }),
+                at,
             }),
             None => Ok(PutOutcome {
                 replaced,
                 back: None,
+                at,
             }),
         }
     }

@@ -4,7 +4,7 @@ ghost use Rattle.std.specs.Prelude.{◌≡◌, ℕ, ◌<◌, ◌++◌, List, [],
 ghost use Rattle.std.specs.FinMap.{put};
 ghost use Rattle.std.specs.Option.{option_copied};
 ghost use Rattle.std.specs.declared.cmp.Ordering.{Ordering};
-ghost use Rattle.shared_list.specs.Order.{at_first, entries, item_with, without, Rises};
+ghost use Rattle.shared_list.specs.Order.{at_first, entries, item_with, without, IsAmong, Rises};
 ghost use Rattle.shared_list.specs.Parts.{items_if_some, TellsLeft};
 
 use crate::NoMemory;
@@ -19,6 +19,8 @@ pub(crate) struct PutOutcome<P, T> {
     pub(crate) replaced: Option<T>,
     /// The back of the part, which was taken off where the part had become too long.
     pub(crate) back: Option<P>,
+    /// The number of the place at which the item came to stand before that.
+    pub(crate) at: usize,
 }
 
 /// What a part says of a key whose item was to be taken out.
@@ -59,6 +61,10 @@ pub(crate) trait Part: Drop {
         requires rising { Rises Self.Item.key_cmp Self.Item.key_of (items self.now) }
         ensures { option_copied result
             ≡ item_with Self.Item.key_cmp Self.Item.key_of (K.sought key) (items self.entry.now) };
+
+    /// The item at the place of that number, if there is one.
+    fn item_at(&self, place: usize) -> Option<&Self::Item>
+        ensures { IfSome result (λ item. IsAmong (items self.entry.now) item.now) };
 
     /// A part with the same items and room for so many more, which shares with this one what it can.
     fn copied(&self, more: usize) -> Result<Self, NoMemory>

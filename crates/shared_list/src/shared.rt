@@ -8,6 +8,7 @@ ghost use Rattle.shared_list.specs.Order.{
   item_with,
   items_from,
   without,
+  IsAmong,
   IsHome,
   Rises,
 };
@@ -20,7 +21,28 @@ use crate::split::Arrival;
 use std::alloc::Global;
 use std::sync::Arc;
 
-/// The number of the part in which the key stands, if it stands anywhere.
+/// How many places the number of a place tells apart in one part. No part has as many.
+const PLACES: usize = 65536;
+
+/// The number of a place: that of the place within a part, and the number of the part.
+fn place_within(place: usize, part: usize) -> usize {
+    place.wrapping_mul(PLACES).wrapping_add(part)
+}
+
+/// The item at the place of that number, if there is one.
+pub(crate) fn item_at_place<'a, P: Part>(parts: &'a [Arc<P>], place: usize) -> Option<&'a P::Item>
+    ensures { IfSome result (λ item. IsAmong (items_in P.items parts.entry.now) item.now) }
+{
+    let at = place % PLACES;
+    if at < parts.len() {
+        parts[at].item_at(place / PLACES)
+    } else {
+        None
+    }
+}
+
+/// The number of the part in which the key stands, if it stands anywhere: the last whose first key isn't above it, or
+/// the first. That no other key is compared with it then is one comparison less than a search for the key takes.
 fn home<P: Part, K: KeyFor<P::Item>>(parts: &[Arc<P>], key: K) -> usize
     requires some { 0 < length parts.now }
     requires sound { AreSound P.items P.sound parts.now }
@@ -28,10 +50,18 @@ fn home<P: Part, K: KeyFor<P::Item>>(parts: &[Arc<P>], key: K) -> usize
     ensures { IsHome P.Item.key_cmp P.Item.key_of (K.sought key) (parts_of P.items parts.now)
         result }
 {
-    match parts.binary_search_by(|part| part.lead_order(key)) {
-        Ok(at) => at,
-        Err(at) => at.saturating_sub(1),
+    let mut at = 0;
+    let mut count = parts.len();
+    'halves: while count > 1 {
+        let half = count / 2;
+        if parts[at + half].lead_order(key).is_gt() {
+            count = half;
+        } else {
+            at += half;
+            count -= half;
+        }
     }
+    at
 }
 
 /// The item with that key.
@@ -102,13 +132,12 @@ fn put_in<P: Part>(
     Ok(outcome)
 }
 
-/// Takes the item with that key out of the part, if there is one. A part that has none stays shared.
+/// Takes the item with that key out of the part, if there is one.
 fn take_from<P: Part, K: KeyFor<P::Item>>(
     alloc: Global,
     part: &mut Arc<P>,
     key: K,
 ) -> Result<TakeOutcome<P::Item>, NoMemory>
-    requires some { 0 < length (P.items part.old.value) }
     requires sound { P.sound part.old.value }
     requires rising { Rises P.Item.key_cmp P.Item.key_of (P.items part.old.value) }
     ensures without { OnOk result (entries P.Item.key_of (P.items part.new.value)
@@ -120,12 +149,6 @@ fn take_from<P: Part, K: KeyFor<P::Item>>(
 {
     if let Some(own) = Arc::get_mut(part) {
         return own.take_out(key);
-    }
-    if part.item_of(key).is_none() {
-        return Ok(TakeOutcome {
-            taken: None,
-            none_left: false,
-        });
     }
     let mut own = part.copied(0)?;
     let outcome = own.take_out(key)?;
@@ -155,19 +178,26 @@ pub(crate) fn put_shared<P: Part>(
         return Ok(Arrival {
             replaced: None,
             at_end: true,
+            at: 0,
         });
     }
-    let at = home(parts.as_slice(), &item);
-    let PutOutcome { replaced, back } = put_in(alloc, &mut parts[at], item)?;
+    let part = home(parts.as_slice(), &item);
+    let PutOutcome { replaced, back, at } = put_in(alloc, &mut parts[part], item)?;
+    let at = place_within(at, part);
     match back {
         Some(back) => {
-            let at_end = at + 1 == parts.len();
-            parts.insert(at + 1, Arc::new(alloc, back)?)?;
-            Ok(Arrival { replaced, at_end })
+            let at_end = part + 1 == parts.len();
+            parts.insert(part + 1, Arc::new(alloc, back)?)?;
+            Ok(Arrival {
+                replaced,
+                at_end,
+                at,
+            })
         }
         None => Ok(Arrival {
             replaced,
             at_end: false,
+            at,
         }),
     }
 }

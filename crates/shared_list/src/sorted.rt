@@ -2,11 +2,13 @@
 
 ghost use Rattle.std.specs.Prelude.{◌≡◌, ◌<◌, length, IfOk};
 ghost use Rattle.std.specs.List.{AllByRecursion, flat_map};
-ghost use Rattle.shared_list.specs.Parts.{items_in, leaf_items, node_items};
-ghost use Rattle.shared_list.specs.Parts.{AreSound, IsFilled, IsPlain};
+ghost use Rattle.shared_list.specs.Parts.{items_in, items_over, leaf_items, top_items};
+ghost use Rattle.shared_list.specs.Parts.{AreSound, IsPlain, IsSoundOver, IsTop};
 
 use crate::NoMemory;
+use crate::keyed::Keyed;
 use crate::node::Node;
+use crate::part::Part;
 use crate::split::{LEAF_MOST, NODE_MOST};
 use std::alloc::Global;
 use std::sync::Arc;
@@ -44,16 +46,14 @@ fn leaves_of<T: Drop>(alloc: Global, pieces: Vec<Vec<T>>) -> Result<Vec<Arc<Vec<
     Ok(leaves)
 }
 
-/// Nodes of pieces of leaves.
-fn nodes_over<T: Drop>(
-    alloc: Global,
-    pieces: Vec<Vec<Arc<Vec<T>>>>,
-) -> Result<Vec<Arc<Node<Vec<T>>>>, NoMemory>
+/// Nodes of pieces of parts.
+fn nodes_of<P: Part>(alloc: Global, pieces: Vec<Vec<Arc<P>>>) -> Result<Vec<Arc<Node<P>>>, NoMemory>
     requires filled { AllByRecursion (λ piece. 0 < length piece.items) pieces.items }
-    requires sound { AreSound leaf_items IsPlain (flat_map (λ piece. piece.items) pieces.items) }
-    ensures items { IfOk result (λ nodes. items_in node_items nodes.items
-        ≡ items_in leaf_items (flat_map (λ piece. piece.items) pieces.items)) }
-    ensures sound { IfOk result (λ nodes. AreSound node_items IsFilled nodes.items) }
+    requires sound { AreSound P.items P.sound (flat_map (λ piece. piece.items) pieces.items) }
+    ensures items { IfOk result (λ nodes. items_in (items_over P.items) nodes.items
+        ≡ items_in P.items (flat_map (λ piece. piece.items) pieces.items)) }
+    ensures sound { IfOk result (λ nodes.
+        AreSound (items_over P.items) (IsSoundOver P.items P.sound) nodes.items) }
 {
     let mut nodes = Vec::with_capacity(alloc, pieces.len())?;
     for parts in pieces {
@@ -62,14 +62,26 @@ fn nodes_over<T: Drop>(
     Ok(nodes)
 }
 
-/// Nodes that have just these items, as full as can be.
-pub(crate) fn nodes_of<T: Drop>(
+/// Nodes over these parts, as full as can be.
+fn nodes_over<P: Part>(alloc: Global, parts: Vec<Arc<P>>) -> Result<Vec<Arc<Node<P>>>, NoMemory>
+    requires { AreSound P.items P.sound parts.items }
+    ensures items { IfOk result (λ nodes.
+        items_in (items_over P.items) nodes.items ≡ items_in P.items parts.items) }
+    ensures sound { IfOk result (λ nodes.
+        AreSound (items_over P.items) (IsSoundOver P.items P.sound) nodes.items) }
+{
+    nodes_of(alloc, pieces_of(alloc, parts, NODE_MOST)?)
+}
+
+/// Tops that have just these items, as full as can be.
+pub(crate) fn tops_of<T: Keyed>(
     alloc: Global,
     items: Vec<T>,
-) -> Result<Vec<Arc<Node<Vec<T>>>>, NoMemory>
-    ensures items { IfOk result (λ nodes. items_in node_items nodes.items ≡ items.items) }
-    ensures sound { IfOk result (λ nodes. AreSound node_items IsFilled nodes.items) }
+) -> Result<Vec<Arc<Node<Node<Vec<T>>>>>, NoMemory>
+    ensures items { IfOk result (λ tops. items_in top_items tops.items ≡ items.items) }
+    ensures sound { IfOk result (λ tops. AreSound top_items IsTop tops.items) }
 {
     let leaves = leaves_of(alloc, pieces_of(alloc, items, LEAF_MOST)?)?;
-    nodes_over(alloc, pieces_of(alloc, leaves, NODE_MOST)?)
+    let nodes = nodes_over(alloc, leaves)?;
+    nodes_over(alloc, nodes)
 }

@@ -12,14 +12,17 @@ pub(crate) struct Arrival<T> {
     pub(crate) replaced: Option<T>,
     /// Whether there is one more at the end.
     pub(crate) at_end: bool,
+    /// The number of the place at which the item came to stand.
+    pub(crate) at: usize,
 }
 
 /// The most items of a leaf. Changes that are spread over a long list are in leaves of their own, of which all items are
 /// copied: so a leaf has few.
 pub(crate) const LEAF_MOST: usize = 16;
 
-/// The most parts of a node. A version of a list is a share of each node, so these are more.
-pub(crate) const NODE_MOST: usize = 32;
+/// The most parts of a node. Changes that are spread over a long list are in nodes of their own too, each part of
+/// which is shared once more for the copy: so a node has few.
+pub(crate) const NODE_MOST: usize = 16;
 
 /// Takes the back of a part that has more than so many items off, by whether the newest is the last.
 pub(crate) fn split_off<X>(

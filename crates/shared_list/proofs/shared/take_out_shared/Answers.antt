@@ -4,11 +4,6 @@ use Rattle.shared_list.specs.Parts.{parts_of}
 use Rattle.shared_list.proofs.PartLemmas.{good_here, Rises-here, item_here, without_kept, without_gone}
 use Rattle.shared_list.proofs.shared.take_out_shared.Goals as goal
 
-pub take_from-requires-clause-some : goal.take_from-requires-clause-some
-take_from-requires-clause-some g c =
-    let home : IsHome g.P.Item.Keyed.key_cmp g.P.Item.Keyed.key_of (g.K.KeyFor.sought c.args.key) (parts_of g.P.Part.items c.args.parts.now.items) c.home-at.result = rw c.as_slice.ensures.value at c.home-at.ensures in
-    (good_here g.met.P.Item.Keyed.total g.P.Item.Keyed.key_of g.P.Part.items g.P.Part.sound (g.K.KeyFor.sought c.args.key) c.args.parts.now.items c.home-at.result c.index_mut.result.now home c.index_mut.ensures.value c.requires.sound).1
-
 pub take_from-requires-clause-sound : goal.take_from-requires-clause-sound
 take_from-requires-clause-sound g c =
     let home : IsHome g.P.Item.Keyed.key_cmp g.P.Item.Keyed.key_of (g.K.KeyFor.sought c.args.key) (parts_of g.P.Part.items c.args.parts.now.items) c.home-at.result = rw c.as_slice.ensures.value at c.home-at.ensures in
