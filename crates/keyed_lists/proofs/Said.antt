@@ -1,5 +1,5 @@
 -- What answers on code need again and again.
-use Rattle.std.proofs.Common.{◌≡◌, ℕ, ◌+◌, ◌<◌, ◌≤◌, List, [], ◌++◌, Option, Some, None, length, map, drop, get_or, refl, sym, ap, ◌∙◌, append-nil, append_assoc}
+use Rattle.std.proofs.Common.{◌≡◌, ℕ, ◌+◌, ◌<◌, ◌≤◌, List, [], ◌∷◌, ◌++◌, Option, Some, None, length, map, drop, get_or, refl, sym, ap, ◌∙◌, append-nil, append_assoc}
 use Rattle.std.specs.Prelude.{IfOk, Ok, Err, Result}
 use Rattle.std.specs.List.{cons_option, enumerate_from, filter_map}
 use Rattle.std.specs.Option.{option_to_list}
@@ -15,6 +15,15 @@ if_ok_is (Err x) f a b e is = tt
 -- what was made of all that is gone over, when nothing is left
 pub all_made : {X Y : Type 0} (f : X → Y) (made : List Y) (left all whole : List X) → left ≡ [] → all ≡ whole → made ++ map f left ≡ map f all → made ≡ map f whole
 all_made f made left all whole ended same so_far = sym (append-nil made) ∙ ap (λ xs. made ++ map f xs) (sym ended) ∙ so_far ∙ ap (map f) same
+
+-- one more was made
+pub one_made : {X Y : Type 0} (f : X → Y) (made more : List Y) (left rest : List X) (x : X) (y : Y) (all : List Y) → left ≡ x ∷ rest → y ≡ f x → more ≡ made ++ y ∷ [] → made ++ map f left ≡ all → more ++ map f rest ≡ all
+one_made f made more left rest x y all step is pushed so_far =
+    ap (λ ys. ys ++ map f rest) pushed
+    ∙ append_assoc made (y ∷ []) (map f rest)
+    ∙ ap (λ z. made ++ z ∷ map f rest) is
+    ∙ ap (λ xs. made ++ map f xs) (sym step)
+    ∙ so_far
 
 -- what numbered things give, one more of them, and all
 cons_is : {X : Type 0} (given : Option X) (xs : List X) → cons_option given xs ≡ option_to_list given ++ xs
