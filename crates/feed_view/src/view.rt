@@ -2,7 +2,7 @@
 
 ghost use Rattle.std.specs.Prelude.{◌≡◌, ◌+◌, ◌*◌, ◌<◌, ◌≤◌, [], length, IfOk, IsTrue};
 ghost use Rattle.alert_select.specs.FeedAlerts.{alerts_of};
-ghost use Rattle.feed_defs.specs.History.{entities_after, is_full, stamp_of};
+ghost use Rattle.feed_defs.specs.History.{entities_after, stamp_of};
 ghost use Rattle.sched_types.specs.Timetable.{Timetable};
 ghost use Rattle.text_defs.specs.Moments.{last_moment, is_stamp};
 ghost use Rattle.board_defs.specs.Views.{fold_after};
@@ -11,8 +11,8 @@ ghost use Rattle.feed_view.specs.Kept.{nothing_seen, IsOver};
 use crate::NoMemory;
 use alert_select::AlertIndex;
 use delay_rule::Steps;
-use entity_table::{SharedStored, Stored, Table, first_table};
-use rt_types::{Copied, FeedMessage, Incrementality};
+use entity_table::{Place, SharedStored, Stored, Table, first_table, is_whole};
+use rt_types::{Copied, FeedMessage};
 use run_overlay::Overlay;
 use sched_types::Plan;
 use std::alloc::Global;
@@ -87,7 +87,12 @@ impl FeedView {
         let _all = old.table.iter();
         let stamp = message.header.timestamp.unwrap_or(0);
         let ids = old.overlay.ids_of(alloc, &message)?;
-        let Held { table, alerts } = held_after(alloc, &old.table, &old.alerts, message)?;
+        let Held {
+            table,
+            alerts,
+            places,
+        } = held_after(alloc, &old.table, &old.alerts, message)?;
+        let ids = ids.at(places);
         let overlay = old.overlay.change_by(alloc, plan, &table, ids, steps)?;
         Ok(FeedView {
             table,
@@ -158,16 +163,8 @@ impl FeedView {
 struct Held {
     table: Table,
     alerts: AlertIndex,
-}
-
-/// Whether a message is the whole data set of its feed (GTFS Realtime 2.0, FeedHeader, `incrementality`).
-fn is_whole(message: &FeedMessage) -> bool
-    ensures { result ≡ is_full message.now }
-{
-    match message.header.incrementality {
-        Some(Incrementality::Differential) => false,
-        Some(Incrementality::FullDataset) | None => true,
-    }
+    // Where the message's entities came to stand in the table; none of a whole data set.
+    places: Vec<Place>,
 }
 
 /// What a feed that held nothing holds after a message, whose entities are taken out of it; or out of memory.
@@ -177,7 +174,12 @@ fn held_first(alloc: Global, message: FeedMessage) -> Result<Held, NoMemory>
 {
     let table = first_table(alloc, message)?;
     let alerts = AlertIndex::build(alloc, &table)?;
-    Ok(Held { table, alerts })
+    let places = Vec::new(alloc);
+    Ok(Held {
+        table,
+        alerts,
+        places,
+    })
 }
 
 /// What a feed holds after a message that goes on from what it held, entity by entity; or out of memory.
@@ -195,13 +197,19 @@ fn held_on(
     let stamp = message.header.timestamp.unwrap_or(0);
     let mut table = before.start(alloc, &message)?;
     let mut alerts = alerts_before.start(alloc, &message)?;
+    let mut places = Vec::with_capacity(alloc, message.entity.as_slice().len())?;
     for entity in message.entity.into_vec() {
         let stored = SharedStored::new(alloc, Stored { entity, stamp })?;
         let changed = table.with(stored.copy()?)?;
         alerts = alerts.with(&stored, changed.before)?;
         table = changed.table;
+        places.push(changed.at)?;
     }
-    Ok(Held { table, alerts })
+    Ok(Held {
+        table,
+        alerts,
+        places,
+    })
 }
 
 /// What a feed holds after a message, whose entities are taken out of it; or out of memory.

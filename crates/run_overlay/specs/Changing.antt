@@ -27,13 +27,14 @@ abbrev pub id_before : List (List ℕ × Link) → List ℕ → IdBefore
 id_before links id =
     record { id = id; before = option_map (λ link. link.mention) (find id_cmp id links) }
 
--- and what the update is about that the table has there now
+-- and what the update is about that is held there now
+abbrev pub id_change_held : Timetable → Option Stored → IdBefore → IdChange
+id_change_held t held one =
+    record { id = one.id; before = one.before; after = about_held t held }
+
+-- by the table that there is now
 abbrev pub id_change : Timetable → List EntityChange → IdBefore → IdChange
-id_change t table one = record {
-  id = one.id;
-  before = one.before;
-  after = about_held t (find id_cmp one.id table);
-}
+id_change t table one = id_change_held t (find id_cmp one.id table) one
 
 abbrev pub id_change_by : Timetable → List (List ℕ × Link) → List EntityChange → List ℕ → IdChange
 id_change_by t links table id = id_change t table (id_before links id)

@@ -1,5 +1,5 @@
 -- Keys as they are sought, and the departures that an iterator has ahead.
-use Rattle.std.specs.Prelude.{◌≡◌, ℕ, ◌≤◌, Bool, ◌&&◌, ◌==◌, Some, List, map, filter, ℤ, int_lt}
+use Rattle.std.specs.Prelude.{◌≡◌, ℕ, ◌≤◌, Bool, ◌&&◌, ◌==◌, IfSome, Option, Some, List, map, filter, ℤ, int_lt}
 use Rattle.std.specs.Borrow.{Bor}
 use Rattle.std.specs.List.{AllByRecursion}
 use Rattle.std.specs.FinMap.{find}
@@ -32,9 +32,13 @@ is_same_run run other = (other.trip == run.trip) && (other.day == run.day)
 abbrev pub IsHeld : List Change → Stored → Type 0
 IsHeld table stored = find id_cmp stored.entity.id table ≡ Some stored
 
+-- what is at hand is, if anything is at hand
+abbrev pub IsAtHand : List Change → Option (Bor Stored) → Type 0
+IsAtHand table near = IfSome near (λ stored. IsHeld table stored.now)
+
 -- each of them is
-abbrev pub AreHeld : List Change → List (Bor Stored) → Type 0
-AreHeld table held = AllByRecursion (λ stored. IsHeld table stored.now) held
+abbrev pub AreHeld : List Change → List (Option (Bor Stored)) → Type 0
+AreHeld table held = AllByRecursion (IsAtHand table) held
 
 -- ---- departures ahead
 

@@ -1,10 +1,10 @@
 //! The update that counts for a run.
 
-ghost use Rattle.std.specs.Prelude.{◌≡◌, IfSome};
+ghost use Rattle.std.specs.Prelude.{◌≡◌};
 ghost use Rattle.std.specs.FinMap.{find};
 ghost use Rattle.std.specs.Option.{option_and_then, option_copied};
 ghost use Rattle.run_overlay.specs.Keys.{id_cmp};
-ghost use Rattle.run_overlay.specs.Sought.{IsHeld};
+ghost use Rattle.run_overlay.specs.Sought.{IsAtHand};
 ghost use Rattle.run_overlay.specs.Turning.{first_of, is_of_run};
 
 use crate::candidate::{Candidate, FirstOf};
@@ -46,31 +46,23 @@ fn trip_update(stored: &Stored) -> Option<&TripUpdate>
     }
 }
 
-/// The trip update that a table has under an id.
-pub(crate) fn update_at<'a>(table: &'a Table, id: &str) -> Option<&'a TripUpdate>
-    ensures { option_copied result
-        ≡ option_and_then (λ stored. stored.entity.trip_update)
-        (find id_cmp id.now table.entry.now) }
-{
-    match table.get(id) {
-        Some(stored) => trip_update(stored),
-        None => None,
-    }
-}
-
-/// The same, where something is at hand that the table has and that may be the entity: then nothing is searched for.
+/// The trip update that a table has under an id. Where what is at hand of the table is that entity, nothing is
+/// searched for.
 pub(crate) fn update_near<'a>(
     table: &'a Table,
     near: Option<&'a Stored>,
     id: &str,
 ) -> Option<&'a TripUpdate>
-    requires { IfSome near (λ stored. IsHeld table.now stored.now) }
+    requires { IsAtHand table.now near }
     ensures { option_copied result
         ≡ option_and_then (λ stored. stored.entity.trip_update)
         (find id_cmp id.now table.entry.now) }
 {
     match near {
         Some(stored) if stored.entity.id.order(id).is_eq() => trip_update(stored),
-        _ => update_at(table, id),
+        _ => match table.get(id) {
+            Some(stored) => trip_update(stored),
+            None => None,
+        },
     }
 }

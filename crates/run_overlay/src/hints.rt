@@ -1,41 +1,37 @@
 //! Where the updates that count for runs may stand in a table.
 
-ghost use Rattle.std.specs.Prelude.{List, IfOk, IfSome};
+ghost use Rattle.std.specs.Prelude.{◌≡◌, List, IfOk};
 ghost use Rattle.feed_defs.specs.History.{Change};
-ghost use Rattle.run_overlay.specs.Sought.{AreHeld, IsHeld};
+ghost use Rattle.run_overlay.specs.Sought.{AreHeld, IsAtHand};
 
 use crate::NoMemory;
 use crate::id_changes::IdChange;
 use crate::mention::About;
-use entity_table::{Stored, Table};
+use entity_table::Stored;
 use sched_types::Run;
 use std::alloc::Global;
 
-/// All that a table holds, in order of the ids, and for each of some runs the place of an entity whose update may be the
-/// one that counts for it. A place is a guess: what stands there is compared with what is looked for.
+/// What a table has under ids that change, and for each of some runs the number of the id whose update may be the one
+/// that counts for it. That is a guess: what is held under the id is compared with what is looked for.
 #[derive(Drop)]
 pub(crate) struct Hints<'a> {
-    held: Vec<&'a Stored>,
+    held: Vec<Option<&'a Stored>>,
     places: Vec<usize>,
 }
 
-/// What a table holds, in order of the ids; or out of memory.
-fn held_in<'a>(alloc: Global, table: &'a Table) -> Result<Vec<&'a Stored>, NoMemory>
-    ensures { IfOk result (λ held. AreHeld table.entry.now held.items) }
-{
-    let mut held = Vec::with_capacity(alloc, table.len())?;
-    for stored in table.iter() {
-        held.push(stored)?;
-    }
-    Ok(held)
-}
-
-/// For each run the place of the last change of an id whose update is about it now; or out of memory. The runs rise.
+/// For each run the number of the last id whose update is about it now; or out of memory. The runs rise, and often so do
+/// those of the ids: so each is looked for behind the one before first.
 fn places_of(alloc: Global, ids: &[IdChange], runs: &[Run]) -> Result<Vec<usize>, NoMemory> {
     let mut places = vec![in alloc; 0usize; runs.len()]?;
+    let mut likely: usize = 0;
     for (number, one) in ids.iter().enumerate() {
         if let About::Run(mention) = one.after {
-            if let Ok(at) = runs.binary_search(&mention.run) {
+            let found = match runs.get(likely) {
+                Some(run) if *run == mention.run => Ok(likely),
+                _ => runs.binary_search(&mention.run),
+            };
+            if let Ok(at) = found {
+                likely = at.wrapping_add(1);
                 if let Some(place) = places.get_mut(at) {
                     *place = number;
                 }
@@ -46,22 +42,16 @@ fn places_of(alloc: Global, ids: &[IdChange], runs: &[Run]) -> Result<Vec<usize>
 }
 
 impl<'a> Hints<'a> {
-    /// Those of the runs that updates are about after changes of ids; or out of memory. They are worth what they cost
-    /// where the changes are those of all ids that the table has, in order.
+    /// Those of the runs that updates are about after changes of ids, by what the table has under these; or out of
+    /// memory.
     pub(crate) fn of(
         alloc: Global,
-        table: &'a Table,
+        held: Vec<Option<&'a Stored>>,
         ids: &[IdChange],
         runs: &[Run],
     ) -> Result<Hints<'a>, NoMemory>
-        ensures { IfOk result (λ hints. AreHeld table.entry.now hints.held.items) }
+        ensures { IfOk result (λ hints. hints.held ≡ held.entry) }
     {
-        if ids.len() < table.len() {
-            let held = Vec::new(alloc);
-            let places = Vec::new(alloc);
-            return Ok(Hints { held, places });
-        }
-        let held = held_in(alloc, table)?;
         let places = places_of(alloc, ids, runs)?;
         Ok(Hints { held, places })
     }
@@ -69,9 +59,10 @@ impl<'a> Hints<'a> {
     /// What may have the update that counts for the run of that number.
     pub(crate) fn at(&self, run: usize) -> Option<&'a Stored>
         ensures { (table : List Change) → AreHeld table self.now.held.items
-            → IfSome result (λ stored. IsHeld table stored.now) }
+            → IsAtHand table result }
     {
         let place = self.places.get(run)?;
-        self.held.get(*place).copied()
+        let near = self.held.get(*place)?;
+        *near
     }
 }

@@ -1,17 +1,15 @@
 //! The lists of runs for which an update counts, and of their departures.
 
-ghost use Rattle.std.specs.Prelude.{◌≡◌, ◌+◌, ◌≤◌, ◌++◌, ◌∷◌, [], if◌then◌else◌, drop, length, map};
+ghost use Rattle.std.specs.Prelude.{◌≡◌, ◌+◌, ◌≤◌, ◌++◌, length, map};
 ghost use Rattle.std.specs.Prelude.{IfOk, OnOk};
 ghost use Rattle.std.specs.List.{flat_map};
-ghost use Rattle.std.specs.Option.{option_copied};
-ghost use Rattle.shared_list.specs.declared.change.Change.TheVariants.{Put, Remove};
 ghost use Rattle.keyed_lists.specs.Keyed as keyed;
 ghost use Rattle.keyed_lists.specs.Keyed.{naming_keys};
 ghost use Rattle.run_overlay.specs.Keys.{row_cmp, row_key};
 ghost use Rattle.run_overlay.specs.Kept.{mentions_of, nothing_live};
 ghost use Rattle.run_overlay.specs.Sought.{AreHeld, row_at};
 ghost use Rattle.run_overlay.specs.Turning as rule;
-ghost use Rattle.run_overlay.specs.Turning.{live_after, rows_kept, same_row};
+ghost use Rattle.run_overlay.specs.Turning.{live_after};
 ghost use Rattle.run_overlay.specs.Updates.{updates_of};
 
 use crate::NoMemory;
@@ -19,11 +17,11 @@ use crate::candidate::Candidate;
 use crate::first_rows::first_rows;
 use crate::hints::Hints;
 use crate::live_run::{LiveRun, rows_of};
-use crate::row::{LiveRow, is_same};
+use crate::row::LiveRow;
 use crate::turns::{Turn, turns_of};
 use delay_rule::Steps;
 use entity_table::Table;
-use keyed_lists::changed;
+use keyed_lists::{changed, push_turned};
 use sched_types::{Plan, Run};
 use shared_list::{Change, SharedList};
 use std::alloc::Global;
@@ -56,8 +54,8 @@ impl LiveLists {
         }
     }
 
-    /// The lists where those runs are as the table says, whose candidates and hints are given; or out of memory. A run is walked at
-    /// most once, and each list is changed once; these stay as they are.
+    /// The lists where those runs are as the table says, whose candidates and hints are given; or out of memory. A run
+    /// is walked at most once, and each list is changed once; these stay as they are.
     pub(crate) fn after<'a, L: Ledger>(
         &self,
         alloc: Global,
@@ -95,95 +93,6 @@ impl LiveLists {
     }
 }
 
-/// Whether a departure is the first of others.
-fn stands_first(row: &LiveRow, others: &[LiveRow]) -> bool
-    ensures { result ≡ keyed.stands_first same_row row.now others.now }
-{
-    match others.first() {
-        Some(other) => is_same(row, other),
-        None => false,
-    }
-}
-
-/// The departures after the first.
-fn after_first<'a>(rows: &'a [LiveRow]) -> &'a [LiveRow]
-    ensures { result.now ≡ drop 1 rows.entry.now }
-{
-    match rows.split_first() {
-        Some((_, rest)) => rest,
-        None => rows,
-    }
-}
-
-/// Appends the removal of a departure, unless it is the first of others.
-fn push_gone<'a>(
-    row: &'a LiveRow,
-    others: &[LiveRow],
-    out: &mut Vec<Change<LiveRow, &'a LiveRow>>,
-) -> Result<(), NoMemory>
-    ensures { OnOk result (naming_keys row_at out.new.items
-        ≡ naming_keys row_at out.old.items
-        ++ (if keyed.stands_first same_row row.entry.now others.now
-        then [] else Remove (row_key row.entry.now) ∷ [])) }
-{
-    if !stands_first(row, others) {
-        out.push(Change::Remove(row))?;
-    }
-    Ok(())
-}
-
-/// Appends a departure that comes, unless it is the first of others.
-fn push_new<'a>(
-    row: &LiveRow,
-    others: &[LiveRow],
-    out: &mut Vec<Change<LiveRow, &'a LiveRow>>,
-) -> Result<(), NoMemory>
-    ensures { OnOk result (naming_keys row_at out.new.items
-        ≡ naming_keys row_at out.old.items
-        ++ (if keyed.stands_first same_row row.now others.now then [] else Put row.now ∷ [])) }
-{
-    if !stands_first(row, others) {
-        out.push(Change::Put(*row))?;
-    }
-    Ok(())
-}
-
-/// Appends the removal of those departures that are not the same at their places among others.
-fn push_going<'a>(
-    rows: &'a [LiveRow],
-    others: &[LiveRow],
-    out: &mut Vec<Change<LiveRow, &'a LiveRow>>,
-) -> Result<(), NoMemory>
-    ensures { OnOk result (naming_keys row_at out.new.items
-        ≡ naming_keys row_at out.old.items
-        ++ map (λ row. Remove (row_key row)) (keyed.unlike same_row rows.entry.now others.now)) }
-{
-    let mut others = others;
-    for row in rows {
-        push_gone(row, others, out)?;
-        others = after_first(others);
-    }
-    Ok(())
-}
-
-/// Appends those departures that come, which are not the same at their places among others.
-fn push_coming<'a>(
-    rows: &[LiveRow],
-    others: &[LiveRow],
-    out: &mut Vec<Change<LiveRow, &'a LiveRow>>,
-) -> Result<(), NoMemory>
-    ensures { OnOk result (naming_keys row_at out.new.items
-        ≡ naming_keys row_at out.old.items
-        ++ map Put (keyed.unlike same_row rows.now others.now)) }
-{
-    let mut others = others;
-    for row in rows {
-        push_new(row, others, out)?;
-        others = after_first(others);
-    }
-    Ok(())
-}
-
 /// Appends what a turn changes of the departures: those that the run had go, and then those come that it has now. One that
 /// stays as it was is left out of both.
 fn push_turn<'a>(
@@ -196,8 +105,7 @@ fn push_turn<'a>(
 {
     let before = rows_of(runs.get(turn.run));
     let now = rows_of(turn.now.as_ref());
-    push_going(before, now, out)?;
-    push_coming(now, before, out)
+    push_turned(before, now, out)
 }
 
 /// What turns change of the departures; or out of memory.

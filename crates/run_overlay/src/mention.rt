@@ -1,13 +1,12 @@
 //! What trip updates are about.
 
 ghost use Rattle.std.specs.Prelude.{◌≡◌};
-ghost use Rattle.std.specs.FinMap.{find};
+ghost use Rattle.std.specs.Option.{option_copied};
 ghost use Rattle.board_defs.specs.Choice.{stamp_or};
 ghost use Rattle.trip_match_defs.specs.Matching.{match_of};
-ghost use Rattle.run_overlay.specs.Keys.{id_cmp};
 ghost use Rattle.run_overlay.specs.Updates as rule;
 
-use entity_table::{Stored, Table};
+use entity_table::Stored;
 use rt_types::TripUpdate;
 use sched_types::{Plan, Run};
 use texts::is_stamp;
@@ -65,12 +64,12 @@ pub(crate) fn about_stored(plan: &Plan, stored: &Stored, near: Option<u32>) -> A
     }
 }
 
-/// The same of what a table holds under an id.
-pub(crate) fn about_held(plan: &Plan, table: &Table, id: &str) -> About
-    ensures { result ≡ rule.about_held plan.now (find id_cmp id.now table.now) }
+/// The same of what is held under an id, if anything is.
+pub(crate) fn about_held(plan: &Plan, held: Option<&Stored>, near: Option<u32>) -> About
+    ensures { result ≡ rule.about_held plan.now (option_copied held.entry) }
 {
-    match table.get(id) {
-        Some(stored) => about_stored(plan, stored, None),
+    match held {
+        Some(stored) => about_stored(plan, stored, near),
         None => About::Nothing,
     }
 }

@@ -5,9 +5,10 @@ ghost use Rattle.std.specs.Option.{option_map};
 ghost use Rattle.run_overlay.specs.Named.{ids_named};
 
 use crate::NoMemory;
-use crate::id_changes::{IdBefore, ids_before};
+use crate::id_changes::{IdsBefore, ids_before};
 use crate::link::Link;
-use rt_types::{FeedMessage, Incrementality};
+use entity_table::{Place, is_whole};
+use rt_types::FeedMessage;
 use shared_list::SharedList;
 use std::alloc::Global;
 use std::marker::Model;
@@ -19,7 +20,7 @@ pub struct MessageIds {
     // How many entities the message has.
     count: usize,
     // Their ids, with what the updates under them were about; none where it is a whole data set.
-    ids: Option<Vec<IdBefore>>,
+    ids: Option<IdsBefore>,
 }
 
 impl Model for MessageIds {
@@ -30,7 +31,7 @@ impl Model for MessageIds {
 
     ghost view = { λ named. record {
       count = named.count;
-      ids = option_map (λ ids. ids.items) named.ids;
+      ids = option_map (λ before. before.ids.items) named.ids;
     } };
 }
 
@@ -45,16 +46,35 @@ impl MessageIds {
     {
         let entities = message.entity.as_slice();
         let count = entities.len();
-        let ids = match message.header.incrementality {
-            Some(Incrementality::Differential) => Some(ids_before(alloc, links, entities)?),
-            Some(Incrementality::FullDataset) | None => None,
-        };
-        Ok(MessageIds { count, ids })
+        if is_whole(message) {
+            return Ok(MessageIds { count, ids: None });
+        }
+        let ids = ids_before(alloc, links, entities)?;
+        let places = Vec::new(alloc);
+        Ok(MessageIds {
+            count,
+            ids: Some(IdsBefore { ids, places }),
+        })
+    }
+
+    /// The same ids, with the places at which the table after the message may have what is under them: where the
+    /// message's entities came to stand in it, one after another. So what stands there is not searched for.
+    pub fn at(self, places: Vec<Place>) -> MessageIds
+        ensures { result ≡ self }
+    {
+        let MessageIds { count, ids } = self;
+        match ids {
+            Some(IdsBefore { ids, places: _ }) => MessageIds {
+                count,
+                ids: Some(IdsBefore { ids, places }),
+            },
+            None => MessageIds { count, ids: None },
+        }
     }
 
     /// The ids, where the message is no whole data set.
-    pub(crate) fn into_ids(self) -> Option<Vec<IdBefore>>
-        ensures { option_map (λ ids. ids.items) result ≡ self.ids }
+    pub(crate) fn into_ids(self) -> Option<IdsBefore>
+        ensures { option_map (λ before. before.ids.items) result ≡ self.ids }
     {
         self.ids
     }

@@ -9,13 +9,14 @@ ghost use Rattle.run_overlay.specs.Changing.{AreIdChanges, touched_runs};
 ghost use Rattle.run_overlay.specs.Kept.{chosen_in, no_overlay, overlay_of, slots_in, told_update, IsTable};
 ghost use Rattle.run_overlay.specs.Live.{live_between};
 ghost use Rattle.run_overlay.specs.Named.{named_by, IsAfter};
+ghost use Rattle.run_overlay.specs.Sought.{AreHeld};
 ghost use Rattle.run_overlay.specs.Told.{told};
 ghost use Rattle.run_overlay.specs.Updates.{updates_of};
 
 use crate::NoMemory;
 use crate::at_stop::AtStop;
 use crate::hints::Hints;
-use crate::id_changes::{IdChange, changes_of_ids, changes_of_table};
+use crate::id_changes::{IdChanges, changes_of_ids, changes_of_table};
 use crate::live_lists::LiveLists;
 use crate::mention_lists::MentionLists;
 use crate::message_ids::MessageIds;
@@ -78,9 +79,9 @@ impl Overlay {
         ensures few { steps.new ≤ steps.old + length table.now }
     {
         let _all = table.iter();
-        let ids = changes_of_table(alloc, plan, table)?;
+        let changes = changes_of_table(alloc, plan, table)?;
         let none = Overlay::empty(alloc);
-        none.after(alloc, plan, table, ids.as_slice(), steps)
+        none.after(alloc, plan, table, changes, steps)
     }
 
     /// The overlay after a message, which is that of the table after it: what [`Overlay::build`] makes of that table; or
@@ -128,29 +129,32 @@ impl Overlay {
             Some(ids) => {
                 let _all = table.iter();
                 let changes = changes_of_ids(alloc, plan, table, ids)?;
-                self.after(alloc, plan, table, changes.as_slice(), steps)
+                self.after(alloc, plan, table, changes, steps)
             }
             None => Overlay::build(alloc, plan, table, steps),
         }
     }
 
     /// The overlay after changes of ids that lead to the table; or out of memory.
-    fn after<L: Ledger>(
+    fn after<'a, L: Ledger>(
         &self,
         alloc: Global,
         plan: &Plan,
-        table: &Table,
-        ids: &[IdChange],
+        table: &'a Table,
+        changes: IdChanges<'a>,
         steps: &mut Steps<L>,
     ) -> Result<Overlay, NoMemory>
-        requires changes { AreIdChanges plan.now self.now table.now ids.now }
+        requires changes { AreIdChanges plan.now self.now table.now changes.ids.items }
+        requires held { AreHeld table.now changes.held.items }
         requires table { IsTable table.now }
-        ensures overlay { IfOk result (λ next. next ≡ overlay_of plan.now table.now) }
-        ensures few { steps.new ≤ steps.old + length (touched_runs ids.now) }
+        ensures overlay { IfOk result (λ next. next ≡ overlay_of plan.now table.entry.now) }
+        ensures few { steps.new ≤ steps.old + length (touched_runs changes.entry.ids.items) }
     {
+        let IdChanges { ids, held } = changes;
+        let ids = ids.as_slice();
         let mentions = self.mentions.after(alloc, table, ids)?;
         let runs = touched_runs(alloc, ids)?;
-        let hints = Hints::of(alloc, table, ids, runs.as_slice())?;
+        let hints = Hints::of(alloc, held, ids, runs.as_slice())?;
         let candidates = mentions.candidates();
         let live = self.live.after(
             alloc,

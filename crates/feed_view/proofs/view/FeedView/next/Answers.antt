@@ -1,5 +1,5 @@
 -- The overlay goes on with the message that the table took in.
-use Rattle.std.proofs.Common.{rules}
+use Rattle.std.proofs.Common.{rules, ◌∙◌}
 use Rattle.feed_view.proofs.view.FeedView.next.Goals as goal
 
 pub change_by-requires : goal.change_by-requires
@@ -9,5 +9,5 @@ change_by-requires g c = record {
   was = record { rising = c.iter-all.ensures.rising; keyed = c.iter-all.ensures.keyed };
   kept = search rules;
   now = c.in_ok-table.ensures.table;
-  names = c.in_ok-ids.ensures;
+  names = c.at-ids.ensures ∙ c.in_ok-ids.ensures;
 }

@@ -7,15 +7,16 @@ use Rattle.run_overlay.proofs.overlay.Overlay.after.Goals as goal
 pub after-requires-2-clause-candidates : goal.after-requires-2-clause-candidates
 after-requires-2-clause-candidates g c =
     c.candidates-candidates.ensures
-    ∙ candidates_then c.args.plan.now c.args.self.now c.args.table.now c.args.ids.now c.in_ok-runs.runs.items c.requires.changes c.requires.table c.in_ok-runs.ensures.all
+    ∙ candidates_then c.args.plan.now c.args.self.now c.args.table.now c.as_slice-ids.result.now c.in_ok-runs.runs.items (rw c.as_slice-ids.ensures.value c.requires.changes) c.requires.table c.in_ok-runs.ensures.all
     c.in_ok-mentions.mentions (rw (← c.self.view_is) c.in_ok-mentions.ensures)
 
 pub returns-clause-overlay : goal.returns-clause-overlay
 returns-clause-overlay g c =
-    after_is c.args.plan.now c.args.self.now c.args.table.now c.args.ids.now c.as_slice-2.result.now c.requires.changes c.requires.table
+    after_is c.args.plan.now c.args.self.now c.args.table.now c.as_slice-ids.result.now c.as_slice-2.result.now (rw c.as_slice-ids.ensures.value c.requires.changes) c.requires.table
     (rw c.as_slice-2.ensures.value c.in_ok-runs.ensures.all)
     c.in_ok-mentions.mentions c.in_ok-live.live
     (rw (← c.self.view_is) c.in_ok-mentions.ensures) (rw (← c.self.view_is) c.in_ok-live.ensures.lists)
 
 pub returns-clause-few : goal.returns-clause-few
-returns-clause-few g c = omega (arith, c.in_ok-live.ensures.few, c.in_ok-runs.ensures.few, ap length c.as_slice-2.ensures.value)
+returns-clause-few g c =
+    omega (arith, c.in_ok-live.ensures.few, rw (c.as_slice-ids.ensures.value) at c.in_ok-runs.ensures.few, ap length c.as_slice-2.ensures.value)
