@@ -1,14 +1,16 @@
 -- Of one legal history, what a feed holds with a stamp that is not above an earlier one of the feed was held then.
-use Rattle.std.proofs.Common.{◌≡◌, ◌⊎◌, inl, inr, ◌<◌, ◌≤◌, ℕ, zero, suc, ◌+◌, List, [], ◌∷◌, ◌++◌, map, length, take, drop, Bool, true, false, cond, Some, None, refl, sym, ap, ◌∙◌, subst, append_assoc, append-nil, arith}
+use Rattle.std.proofs.Common.{◌-◌, length-append, ◌≡◌, ◌⊎◌, inl, inr, ◌<◌, ◌≤◌, ℕ, zero, suc, ◌+◌, List, [], ◌∷◌, ◌++◌, map, length, take, drop, Bool, true, false, cond, Some, None, refl, sym, ap, ◌∙◌, subst, append_assoc, append-nil, arith}
 use Rattle.std.specs.Prelude.{nat_lt, nat_eq, unwrap_or, fold, filter, slice_index_or, if◌then◌else◌}
 use Rattle.std.specs.List.{last_or, filter_map, range_with_len, AllByRecursion}
+use Rattle.std.specs.List.{find as find_first}
 use Rattle.std.specs.Ordering.{eq_by_cmp}
 use Rattle.std.specs.FinMap.{find, put}
 use Rattle.std.specs.FinMap.Entries.{find-put}
 use Rattle.std.proofs.lemmas.Bool.{and_parts}
 use Rattle.std.proofs.lemmas.Bool.Decides.{nat_tests}
 use Rattle.std.proofs.lemmas.Cmp.{nat_list_cmp_total}
-use Rattle.std.proofs.lemmas.List.{map-append}
+use Rattle.std.proofs.Math.Seq.{take-length}
+use Rattle.std.proofs.lemmas.List.{map-append, take-append-le}
 use Rattle.std.proofs.lemmas.List.Elements.{filter_map-append}
 use Rattle.rt_types.specs.declared.message.Entity.{Entity}
 use Rattle.rt_types.specs.declared.message.FeedMessage.{FeedMessage}
@@ -17,13 +19,15 @@ use Rattle.feed_defs.specs.declared.history.Stored.{Stored}
 use Rattle.feed_defs.specs.History.{Change, is_rising, stamp_of, stamps_of, last_stamp, message_of, messages_of, is_full, is_kept, changes_with, changes_without, entities_of, entities_after}
 use Rattle.feed_defs.proofs.Applied.{find-without, held_more, held_none}
 use Rattle.feed_defs.proofs.Kept.{id_cmp}
-use Rattle.feed_defs.proofs.Sifted.{each_then}
+use Rattle.feed_defs.proofs.Sifted.{each_then, each_append}
 use Rattle.sched_types.specs.declared.plans.NamedFeed.{NamedFeed}
+use Rattle.sched_types.specs.Schedules.{Schedules}
 use Rattle.board_defs.specs.Feeds.{HubFeed, feeds_from, is_of_schedule, schedule_feeds}
 use Rattle.board_defs.specs.Fold.{FeedFold, feed_fold, fold_of}
-use Rattle.board_defs.specs.Views.{HubKept, no_fold, folds_of}
+use Rattle.board_defs.specs.Views.{HubKept, StandsFor, no_fold, folds_of}
 use Rattle.delta_defs.specs.Changes.{held_under, held_before}
-use Rattle.delta_defs.specs.OneHistory.{AreOfOneHistory, stamp_before}
+use Rattle.delta_defs.specs.Kept.{KeptView, is_newest, newest_views, view_of, views_with}
+use Rattle.delta_defs.specs.OneHistory.{IsOfHistory, AreOfHistory, AreOfOneHistory, stamp_before}
 
 -- ---- what newer messages leave
 
@@ -165,9 +169,62 @@ module _ (plan : ℕ) (h : List Entry) where
       chosen false rest = rest
 
 -- Of one history each feed has what it had, where the stamp is not above.
-pub all_held_since : (plan : ℕ) (old : List FeedFold) (view : HubKept) → AreOfOneHistory old view → AllByRecursion (IsHeldSince old) (schedule_feeds plan view.plans.feeds (folds_of view))
+pub all_held_since : (plan : ℕ) (old : KeptView) (view : HubKept) → AreOfOneHistory (old ∷ []) view → AllByRecursion (IsHeldSince old.folds) (schedule_feeds plan view.plans.feeds (folds_of view))
 unfolding fold_of
 all_held_since plan old view one =
-    each_then (one_feed (length view.plans.feeds) one.history one.first one.rising old one.was) (schedule_feeds plan view.plans.feeds (folds_of view))
+    each_then (one_feed (length view.plans.feeds) one.history old.number one.rising old.folds one.are.0.folds) (schedule_feeds plan view.plans.feeds (folds_of view))
     (subst (λ (folds : List FeedFold). AllByRecursion (λ x. x.fold ≡ feed_fold one.history x.number) (schedule_feeds plan view.plans.feeds folds)) (sym one.stands.feeds)
     (each_number plan one.history 0 (length view.plans.feeds) view.plans.feeds))
+
+-- ---- views that are kept
+
+some_view : (a b : KeptView) → Some a ≡ Some b → a ≡ b
+some_view a b e = cc
+
+-- a view that is found is of the history too
+pub found_of_one : (test : KeptView → Bool) (kept : List KeptView) (old : KeptView) (view : HubKept) → Some old ≡ find_first test kept → AreOfOneHistory kept view → AreOfOneHistory (old ∷ []) view
+found_of_one test kept old view found one = record {
+  history = one.history;
+  rising = one.rising;
+  stands = one.stands;
+  are = (among kept one.are (sym found), tt);
+}
+  where
+    among : (views : List KeptView) → AllByRecursion (IsOfHistory view.plans one.history) views → find_first test views ≡ Some old → IsOfHistory view.plans one.history old
+    among [] each e = absurd (none_some old e)
+    among (v ∷ views) each e = by_test (test v) e
+      where
+        by_test : (b : Bool) → (if b then Some v else find_first test views) ≡ Some old → IsOfHistory view.plans one.history old
+        by_test true is = subst (IsOfHistory view.plans one.history) (some_view v old is) each.0
+        by_test false rest = among views each.1 rest
+
+-- views of a history are of what it goes on to be
+pub of_longer : (plans : Schedules) (h more : List Entry) (kept : List KeptView) → AreOfHistory plans h kept → AreOfHistory plans (h ++ more) kept
+of_longer plans h more [] are = tt
+of_longer plans h more (view ∷ kept) are = (
+  record {
+    within = let few = are.0.within in let longer = length-append h more in omega arith;
+    folds = are.0.folds ∙ ap (fold_of (length plans.feeds)) (sym (take-append-le view.number h more are.0.within));
+  },
+  of_longer plans h more kept are.1,
+)
+
+drop_each : {X : Type 0} (P : X → Type 0) (n : ℕ) (xs : List X) → AllByRecursion P xs → AllByRecursion P (drop n xs)
+drop_each P zero xs each = each
+drop_each P (suc n) [] each = each
+drop_each P (suc n) (x ∷ xs) each = drop_each P n xs each.1
+
+-- so are they with one more
+pub of_history_with : (plans : Schedules) (h : List Entry) (view : KeptView) (kept : List KeptView) → IsOfHistory plans h view → AreOfHistory plans h kept → AreOfHistory plans h (views_with view kept)
+of_history_with plans h view kept is are = by_newest (is_newest view.number kept)
+  where
+    by_newest : (b : Bool) → AreOfHistory plans h (if b then kept else newest_views (kept ++ view ∷ []))
+    by_newest true = are
+    by_newest false = drop_each (IsOfHistory plans h) (length (kept ++ view ∷ []) - 64) (kept ++ view ∷ []) (each_append (IsOfHistory plans h) kept (view ∷ []) are (is, tt))
+
+-- what is kept of a view that stands for a history is of it
+pub view_of_history : (h : List Entry) (view : HubKept) → StandsFor h view → IsOfHistory view.plans h (view_of view)
+view_of_history h view stands = record {
+  within = let whole = stands.entries in omega arith;
+  folds = stands.feeds ∙ ap (fold_of (length view.plans.feeds)) (sym (take-length h) ∙ ap (λ n. take n h) (sym stands.entries));
+}
