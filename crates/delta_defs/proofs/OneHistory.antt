@@ -181,22 +181,22 @@ all_held_since plan old view one =
 some_view : (a b : KeptView) → Some a ≡ Some b → a ≡ b
 some_view a b e = cc
 
+found_among : (P : KeptView → Type 0) (test : KeptView → Bool) (views : List KeptView) (old : KeptView) → AllByRecursion P views → find_first test views ≡ Some old → P old
+found_among P test [] old each e = absurd (none_some old e)
+found_among P test (v ∷ views) old each e = by_test (test v) e (found_among P test views old each.1)
+  where
+    by_test : (b : Bool) → (if b then Some v else find_first test views) ≡ Some old → (find_first test views ≡ Some old → P old) → P old
+    by_test true is rest = subst P (some_view v old is) each.0
+    by_test false is rest = rest is
+
 -- a view that is found is of the history too
 pub found_of_one : (test : KeptView → Bool) (kept : List KeptView) (old : KeptView) (view : HubKept) → Some old ≡ find_first test kept → AreOfOneHistory kept view → AreOfOneHistory (old ∷ []) view
 found_of_one test kept old view found one = record {
   history = one.history;
   rising = one.rising;
   stands = one.stands;
-  are = (among kept one.are (sym found), tt);
+  are = (found_among (IsOfHistory view.plans one.history) test kept old one.are (sym found), tt);
 }
-  where
-    among : (views : List KeptView) → AllByRecursion (IsOfHistory view.plans one.history) views → find_first test views ≡ Some old → IsOfHistory view.plans one.history old
-    among [] each e = absurd (none_some old e)
-    among (v ∷ views) each e = by_test (test v) e
-      where
-        by_test : (b : Bool) → (if b then Some v else find_first test views) ≡ Some old → IsOfHistory view.plans one.history old
-        by_test true is = subst (IsOfHistory view.plans one.history) (some_view v old is) each.0
-        by_test false rest = among views each.1 rest
 
 -- views of a history are of what it goes on to be
 pub of_longer : (plans : Schedules) (h more : List Entry) (kept : List KeptView) → AreOfHistory plans h kept → AreOfHistory plans (h ++ more) kept

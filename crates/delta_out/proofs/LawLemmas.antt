@@ -1,5 +1,5 @@
 -- Where the messages were read, the difference brings a reader from one combined feed to the other.
-use Rattle.std.proofs.Common.{◌≡◌, ◌⊎◌, inl, inr, ℕ, ◌^◌, ◌<◌, List, [], ◌∷◌, ◌++◌, map, length, Bool, true, false, cond, Some, Ok, IsTrue, slice_get, sym, ap, ◌∙◌, subst, refl, codes}
+use Rattle.std.proofs.Common.{◌≡◌, inl, inr, ℕ, ◌^◌, ◌<◌, List, [], ◌∷◌, ◌++◌, map, length, Bool, true, false, cond, Some, Ok, IsTrue, slice_get, sym, ap, ◌∙◌, subst, refl, codes}
 use Rattle.std.specs.List.{AllByRecursion}
 use Rattle.std.specs.Str.{is_utf8}
 use Rattle.std.specs.Ordering.{eq_by_cmp}
@@ -39,9 +39,6 @@ found_has P id s (c ∷ es) each found = by_tie (eq_by_cmp id_cmp id c.0) found 
     by_tie true is rest = let same : c.1 ≡ s = cc in subst P same each.0
     by_tie false is rest = rest is
 
-some_is : (a b : Stored) → Some a ≡ Some b → a ≡ b
-some_is a b e = cc
-
 -- and each pair of an id that is in the list
 each_at : (P : IdPair → Type 0) (was is es : List Change) → AllByRecursion P (map (pair_under was is) (map (λ c. c.0) es)) → (id : List ℕ) (x : Stored) → find id_cmp id es ≡ Some x → P (pair_under was is id)
 each_at P was is [] each id x found = absurd (cc)
@@ -57,9 +54,9 @@ module _ (prefix : List ℕ) (text : is_utf8 prefix ≡ true) where
   back one named s said short = entity_under prefix text one.feed.name named (said.payload ∷ []) s.entity (said.are_bytes, tt) said.is short
 
   -- what a feed held and holds under an id is the same, or both are short
-  both_short : (name : List ℕ) (was is : List Change) → AllByRecursion (IsShortPair prefix name) (pairs_of was is) → (id : List ℕ) (w s : Stored) → held_under id was ≡ Some w → held_under id is ≡ Some s → (Some w ≡ Some s) ⊎ AreShort prefix name (Some w) (Some s)
+  both_short : (name : List ℕ) (was is : List Change) → AllByRecursion (IsShortPair prefix name) (pairs_of was is) → (id : List ℕ) (w s : Stored) → held_under id was ≡ Some w → held_under id is ≡ Some s → AreShort prefix name (Some w) (Some s)
   both_short name was is each id w s at now =
-      subst (λ o. (Some w ≡ o) ⊎ AreShort prefix name (Some w) o) now (subst (λ o. (o ≡ held_under id is) ⊎ AreShort prefix name o (held_under id is)) at
+      subst (AreShort prefix name (Some w)) now (subst (λ o. AreShort prefix name o (held_under id is)) at
       (each_at (IsShortPair prefix name) was is (changes_by_id (was ++ is)) each id w (found_alone id (was ++ is) ∙ found_either id was is ∙ ap (λ o. or_else o (find id_cmp id is)) at)))
 
   -- so two that are written alike are one
@@ -73,8 +70,8 @@ module _ (prefix : List ℕ) (text : is_utf8 prefix ≡ true) where
       b : Entity
       b = named_one prefix one s
 
-      by_case : (Some w ≡ Some s) ⊎ AreShort prefix one.feed.name (Some w) (Some s) → a ≡ b
-      by_case (inl stays) = ap (named_one prefix one) (some_is w s stays)
+      by_case : AreShort prefix one.feed.name (Some w) (Some s) → a ≡ b
+      by_case (inl stays) = ap (named_one prefix one) stays
       by_case (inr short) =
           ok_is a b
           (sym (back one named w (found_has (λ x. WasSaid x.entity) id w (held_before old one) before at) short.0)

@@ -1,9 +1,11 @@
 -- What is no newer than a feed's stamp at an earlier view was held then, so nothing of it is sent.
-use Rattle.std.proofs.Common.{◌≡◌, ◌⊎◌, inl, inr, ◌≤◌, ℕ, List, [], ◌∷◌, ◌++◌, map, Bool, true, false, Option, Some, None, refl, sym, ap, ◌∙◌, subst, append-nil, arith}
-use Rattle.std.specs.Prelude.{nat_le, if◌then◌else◌}
+use Rattle.std.proofs.Common.{◌≡◌, inl, inr, ◌≤◌, ℕ, List, [], ◌∷◌, ◌++◌, map, Bool, true, false, Option, Some, None, refl, sym, ap, ◌∙◌, subst, append-nil, arith}
+use Rattle.std.specs.Prelude.{nat_le, Result, OnOk, if◌then◌else◌}
 use Rattle.std.specs.List.{AllByRecursion}
 use Rattle.std.specs.Str.{bytes_eq}
+use Rattle.std.specs.declared.alloc.AllocError.{AllocError}
 use Rattle.std.proofs.lemmas.Bool.Decides.{nat_tests}
+use Rattle.std.proofs.lemmas.Result.{on_ok_weaker}
 use Rattle.std.proofs.lemmas.Slice.Eq.{bytes_eq-Decides}
 use Rattle.rt_types.specs.declared.message.Entity.{Entity}
 use Rattle.feed_defs.specs.declared.history.Stored.{Stored}
@@ -20,9 +22,12 @@ use Rattle.delta_defs.specs.OneHistory.{AreOfOneHistory, stamp_before}
 use Rattle.delta_defs.proofs.IdOrder.{so_back}
 use Rattle.delta_defs.proofs.OneHistory.{IsHeldSince, all_held_since}
 use Rattle.delta_out.specs.Pairs.{IdPair, pair_under, pairs_of}
-use Rattle.delta_out.specs.Sent.{entity_sent, field_of, pair_field, named_entity, is_held_no_newer, is_no_newer, IsSettled, IsSettledFeed, AreShort, IsShortPair}
+use Rattle.delta_out.specs.Sent.{entity_sent, field_of, pair_field, named_entity, is_held_no_newer, is_no_newer, IsSettled, IsSettledFeed, IsShort, AreShort, IsShortPair}
 
 -- ---- what was held is not sent
+
+some_is : (a b : Stored) → Some a ≡ Some b → a ≡ b
+some_is a b e = cc
 
 is_itself : (e : Entity) → is_same e e ≡ true
 is_itself e = so_back (is_same e e) ((bytes_eq-Decides (message_bytes entity e) (message_bytes entity e)).1 refl)
@@ -37,8 +42,17 @@ pub passed_over : (prefix name : List ℕ) (stamp : ℕ) (pair : IdPair) (before
 passed_over prefix name stamp pair before settled told =
     sym (append-nil before) ∙ ap (λ bytes. before ++ bytes) (sym (nothing_sent prefix name pair.id pair.was pair.is (settled (sym told))))
 
+short_itself : (prefix name : List ℕ) (was is : Option Stored) → was ≡ is → AreShort prefix name was is
+short_itself prefix name (Some w) (Some s) same = inl (some_is w s same)
+short_itself prefix name (Some w) None same = tt
+short_itself prefix name None is same = tt
+
 pub passed_short : (prefix name : List ℕ) (stamp : ℕ) (pair : IdPair) → IsSettled stamp pair → true ≡ is_no_newer stamp pair → IsShortPair prefix name pair
-passed_short prefix name stamp pair settled told = inl (settled (sym told))
+passed_short prefix name stamp pair settled told = short_itself prefix name pair.was pair.is (settled (sym told))
+
+-- what was compared is short
+pub compared_short : (prefix name : List ℕ) (w s : Stored) (result : Result Unit AllocError) → OnOk result (IsShort (named_entity prefix name w.entity) × IsShort (named_entity prefix name s.entity)) → OnOk result (AreShort prefix name (Some w) (Some s))
+compared_short prefix name w s result short = on_ok_weaker result (λ both. inr both) short
 
 -- ---- each id of each feed
 

@@ -57,16 +57,15 @@ IsSettled stamp pair = is_no_newer stamp pair ≡ true → pair.was ≡ pair.is
 abbrev pub IsShort : Entity → Type 0
 IsShort e = length (message_bytes entity e) < 2 ^ 64
 
--- two that were compared have no more
+-- what was held and is held is the same, or both were compared, and so have no more
 abbrev pub AreShort : List ℕ → List ℕ → Option Stored → Option Stored → Type 0
-AreShort prefix name (Some was) (Some is) = IsShort (named_entity prefix name was.entity)
-    × IsShort (named_entity prefix name is.entity)
+AreShort prefix name (Some was) (Some is) = (was ≡ is)
+    ⊎ (IsShort (named_entity prefix name was.entity) × IsShort (named_entity prefix name is.entity))
 AreShort prefix name (Some was) None = Unit {0}
 AreShort prefix name None is = Unit {0}
 
--- what was held is still held, or both were compared
 abbrev pub IsShortPair : List ℕ → List ℕ → IdPair → Type 0
-IsShortPair prefix name pair = (pair.was ≡ pair.is) ⊎ AreShort prefix name pair.was pair.is
+IsShortPair prefix name pair = AreShort prefix name pair.was pair.is
 
 -- ---- feeds
 

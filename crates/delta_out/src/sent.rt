@@ -41,6 +41,7 @@ pub(crate) fn push_feed(
 
 /// Appends what is sent of an id, of which what is no newer than the stamp was held. `spare` is for the bytes of what was
 /// held.
+#[tactic(auto, using(crate::proofs::SettledLemmas::compared_short))]
 fn push_pair(
     feed: &str,
     prefix: &str,
