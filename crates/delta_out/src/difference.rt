@@ -109,7 +109,7 @@ fn push_feeds(
     feeds: ScheduleFeeds<'_>,
     out: &mut Vec<u8>,
 ) -> Result<(), NoMemory>
-    requires { AllByRecursion (IsSettledFeed old.now) feeds.entry }
+    requires { AllByRecursion (IsSettledFeed old.now) feeds }
     ensures sent { OnOk result (out.new.items
         ≡ out.old.items ++ flat_map (feed_field prefix.now old.now) feeds.entry) }
     ensures short { OnOk result (AllByRecursion (IsShortFeed prefix.now old.now) feeds.entry) }
