@@ -1,5 +1,5 @@
 -- What is written of each id of a feed.
-use Rattle.std.specs.Prelude.{ℕ, ◌^◌, ◌<◌, length, List, [], Option, Some, None, if◌then◌else◌}
+use Rattle.std.specs.Prelude.{◌≡◌, ◌⊎◌, ℕ, ◌^◌, ◌<◌, nat_le, Bool, true, false, length, List, [], Option, Some, None, if◌then◌else◌}
 use Rattle.std.specs.List.{flat_map, AllByRecursion}
 use Rattle.rt_types.specs.declared.message.Entity.{Entity}
 use Rattle.feed_defs.specs.Combined.{entity_under_feed}
@@ -11,6 +11,7 @@ use Rattle.feed_write.specs.Entities.{entity_field}
 use Rattle.board_defs.specs.Feeds.{HubFeed}
 use Rattle.board_defs.specs.Fold.{FeedFold}
 use Rattle.delta_defs.specs.Changes.{gone, is_same, held_before}
+use Rattle.delta_defs.specs.OneHistory.{stamp_before}
 use Rattle.delta_out.specs.Pairs.{IdPair, pairs_of}
 
 -- an entity of the feed of that name, as the combined feed has it
@@ -35,16 +36,31 @@ field_of (Some e) = entity_field e
 abbrev pub pair_field : List ℕ → List ℕ → IdPair → List ℕ
 pair_field prefix name pair = field_of (entity_sent prefix name pair.id pair.was pair.is)
 
+-- ---- entities that stay
+
+-- something was held under the id, and what is held has no stamp above that one
+abbrev pub is_held_no_newer : ℕ → Option Stored → Option Stored → Bool
+is_held_no_newer stamp (Some was) (Some is) = nat_le is.stamp stamp
+is_held_no_newer stamp (Some was) None = false
+is_held_no_newer stamp None is = false
+
+abbrev pub is_no_newer : ℕ → IdPair → Bool
+is_no_newer stamp pair = is_held_no_newer stamp pair.was pair.is
+
+-- then it is what was held
+abbrev pub IsSettled : ℕ → IdPair → Type 0
+IsSettled stamp pair = is_no_newer stamp pair ≡ true → pair.was ≡ pair.is
+
 -- ---- entities that can be written
 
 -- an entity with so few bytes that a length says how many
 abbrev pub IsShort : Entity → Type 0
 IsShort e = length (message_bytes entity e) < 2 ^ 64
 
--- two that were compared have no more
+-- what was held and is held is the same, or both were compared, and so have no more
 abbrev pub AreShort : List ℕ → List ℕ → Option Stored → Option Stored → Type 0
-AreShort prefix name (Some was) (Some is) = IsShort (named_entity prefix name was.entity)
-    × IsShort (named_entity prefix name is.entity)
+AreShort prefix name (Some was) (Some is) = (was ≡ is)
+    ⊎ (IsShort (named_entity prefix name was.entity) × IsShort (named_entity prefix name is.entity))
 AreShort prefix name (Some was) None = Unit {0}
 AreShort prefix name None is = Unit {0}
 
@@ -56,6 +72,11 @@ IsShortPair prefix name pair = AreShort prefix name pair.was pair.is
 -- the bytes that are sent of a feed, of what all feeds held
 abbrev pub feed_field : List ℕ → List FeedFold → HubFeed → List ℕ
 feed_field prefix old one = flat_map (pair_field prefix one.feed.name)
+    (pairs_of (held_before old one) one.fold.entities)
+
+-- what has no stamp above the one that the feed had is what it held
+abbrev pub IsSettledFeed : List FeedFold → HubFeed → Type 0
+IsSettledFeed old one = AllByRecursion (IsSettled (stamp_before old one))
     (pairs_of (held_before old one) one.fold.entities)
 
 -- all that was compared of it was short

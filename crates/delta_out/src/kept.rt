@@ -173,4 +173,11 @@ impl KeptFeed {
     {
         &self.table
     }
+
+    /// The stamp of its last message, 0 if it had none.
+    pub(crate) fn stamp(&self) -> u64
+        ensures { result ≡ self.now.stamp }
+    {
+        self.stamp
+    }
 }

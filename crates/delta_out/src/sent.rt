@@ -7,7 +7,8 @@ ghost use Rattle.feed_defs.specs.Combined.{entity_under_feed};
 ghost use Rattle.feed_write.specs.Entities.{entity_field};
 ghost use Rattle.delta_defs.specs.Changes.{gone, is_same};
 ghost use Rattle.delta_out.specs.Pairs.{pairs_of};
-ghost use Rattle.delta_out.specs.Sent.{named_entity, pair_field, IsShort, IsShortPair};
+ghost use Rattle.delta_out.specs.Sent as rule;
+ghost use Rattle.delta_out.specs.Sent.{named_entity, pair_field, IsShort, IsShortPair, IsSettled};
 
 use crate::NoMemory;
 use crate::pairs::{Pair, Pairs};
@@ -15,15 +16,17 @@ use entity_table::Table;
 use feed_write::write_under_feed;
 use rt_types::{Bytes, Entity, Text};
 
-/// Appends what changed in the feed of that name, which held the one and holds the other, by id; or as much as memory
-/// allows. The ids of the timetable are behind the prefix.
+/// Appends what changed in the feed of that name, which held the one up to that stamp and holds the other, by id; or as
+/// much as memory allows. The ids of the timetable are behind the prefix.
 pub(crate) fn push_feed(
     feed: &str,
     prefix: &str,
     old: &Table,
+    stamp: u64,
     new: &Table,
     out: &mut Vec<u8>,
 ) -> Result<(), NoMemory>
+    requires { AllByRecursion (IsSettled stamp) (pairs_of old.now new.now) }
     ensures sent { OnOk result (out.new.items
         ≡ out.old.items ++ flat_map (pair_field prefix.now feed.now) (pairs_of old.now new.now)) }
     ensures short { OnOk result (AllByRecursion (IsShortPair prefix.now feed.now)
@@ -31,28 +34,46 @@ pub(crate) fn push_feed(
 {
     let mut spare = Vec::new(*out.allocator());
     for pair in Pairs::of(old, new) {
-        push_pair(feed, prefix, &pair, &mut spare, out)?;
+        push_pair(feed, prefix, stamp, &pair, &mut spare, out)?;
     }
     Ok(())
 }
 
-/// Appends what is sent of an id. `spare` is for the bytes of what was held.
+/// Appends what is sent of an id, of which what is no newer than the stamp was held. `spare` is for the bytes of what was
+/// held.
+#[tactic(auto, using(crate::proofs::SettledLemmas::compared_short))]
 fn push_pair(
     feed: &str,
     prefix: &str,
+    stamp: u64,
     pair: &Pair<'_>,
     spare: &mut Vec<u8>,
     out: &mut Vec<u8>,
 ) -> Result<(), NoMemory>
+    requires { IsSettled stamp pair.now }
     ensures sent { OnOk result (out.new.items
         ≡ out.old.items ++ pair_field prefix.now feed.now pair.now) }
     ensures short { OnOk result (IsShortPair prefix.now feed.now pair.now) }
 {
+    if is_no_newer(stamp, pair) {
+        return Ok(());
+    }
     match (pair.was, pair.is) {
         (Some(was), Some(is)) => { push_changed(feed, prefix, &was.entity, &is.entity, spare, out) }
         (Some(_), None) => push_gone(feed, pair.id, out),
         (None, Some(is)) => write_under_feed(feed, prefix, &is.entity, out),
         (None, None) => Ok(()),
+    }
+}
+
+/// Whether something was held under the id, and what is held is no newer than the stamp: so it is the same, and its bytes
+/// need not be compared.
+fn is_no_newer(stamp: u64, pair: &Pair<'_>) -> bool
+    ensures { result ≡ rule.is_no_newer stamp pair.now }
+{
+    match (pair.was, pair.is) {
+        (Some(_), Some(is)) => is.stamp <= stamp,
+        _ => false,
     }
 }
 

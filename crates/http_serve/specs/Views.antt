@@ -1,20 +1,10 @@
--- Views that are kept of a history.
-use Rattle.std.specs.Prelude.{◌≡◌, ℕ, ◌≤◌, List, length, take, Option, Some, Result, Ok, Err, ◌⊎◌}
-use Rattle.std.specs.List.{AllByRecursion}
-use Rattle.feed_defs.specs.declared.history.Entry.{Entry}
-use Rattle.sched_types.specs.Schedules.{Schedules}
-use Rattle.board_defs.specs.Fold.{FeedFold, fold_of}
+-- Views that are kept of looks.
+use Rattle.std.specs.Prelude.{◌≡◌, ℕ, List, Option, Some, Result, Ok, Err, ◌⊎◌}
+use Rattle.board_defs.specs.Fold.{FeedFold}
 use Rattle.delta_defs.specs.Kept.{KeptView, folds_at, views_with}
 use Rattle.http_defs.specs.declared.asked.Query.{Query}
 use Rattle.http_serve_defs.specs.Answers.{feed_since, since_view}
-
--- a view stands for the first messages of a history, as many as its number says
-pub record IsOfHistory (plans : Schedules) (history : List Entry) (view : KeptView) : Type 0 where
-  pub within : view.number ≤ length history
-  pub folds : view.folds ≡ fold_of (length plans.feeds) (take view.number history)
-
-abbrev pub AreOfHistory : Schedules → List Entry → List KeptView → Type 0
-AreOfHistory plans history kept = AllByRecursion (IsOfHistory plans history) kept
+pub use Rattle.delta_defs.specs.OneHistory.{IsOfHistory, AreOfHistory}
 
 -- a look's view is kept; where memory ran out it is or it isn't
 abbrev pub KeepsLook : {A E : Type 0} → Result A E → KeptView → List KeptView → List KeptView

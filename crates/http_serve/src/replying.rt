@@ -3,9 +3,10 @@ ghost use Rattle.std.specs.Prelude.{◌≡◌, ◌≤◌, false, length, drop, I
 ghost use Rattle.text_defs.specs.Moments.{last_moment};
 ghost use Rattle.board_defs.specs.Views.{folds_of};
 ghost use Rattle.delta_defs.specs.Kept.{view_of};
+ghost use Rattle.delta_defs.specs.OneHistory.{AreOfOneHistory};
 ghost use Rattle.http_serve_defs.specs.Answers.{answer};
 ghost use Rattle.http_serve.specs.Setting.{setting};
-ghost use Rattle.http_serve.specs.Views.{KeepsLook};
+ghost use Rattle.http_serve.specs.Views.{KeepsLook, AreOfHistory};
 ghost use Rattle.http_serve.specs.Notes.{noted_in};
 ghost use Rattle.http_serve.specs.Turns.{Replies};
 
@@ -31,7 +32,7 @@ pub(crate) enum Unwritten {
 /// Answers the item at a place of its connection: a look, a reading of the clock, and then the
 /// response, which is made whole before it is written, and noted once it is. What all feeds said at the
 /// look is kept first. The view itself is let go before the first byte is written, so that a client that
-/// reads slowly, or never, keeps none in memory.
+/// reads slowly, or never, keeps none in memory. The views that are kept are of the oracle's history.
 pub(crate) fn reply<K: Sink, O: Oracle, C: Clock>(
     place: u16,
     item: &Item,
@@ -42,6 +43,7 @@ pub(crate) fn reply<K: Sink, O: Oracle, C: Clock>(
     oracle: &mut O,
     clock: &mut C,
 ) -> Result<(), Unwritten>
+    requires { AreOfHistory (O.plans oracle.old) (O.history oracle.old) kept.old }
     ensures replies { Replies place
         (setting (K.written sink.old) (K.faults sink.old) (C.ahead clock.old)
         (O.plans oracle.old) (O.history oracle.old) (O.reads oracle.old)
@@ -91,7 +93,8 @@ fn respond(
     number: u64,
     moment: u64,
 ) -> Result<usize, NoMemory>
-    requires { moment ≤ last_moment }
+    requires moment { moment ≤ last_moment }
+    requires one_history { AreOfOneHistory kept.old view.now }
     ensures keeps { KeepsLook result (view_of view.now) kept.old kept.new }
     ensures begins_within { IfOk result (λ start. start ≤ length responder.new.bytes.items) }
     ensures made { IfOk result (λ start. drop start responder.new.bytes.items

@@ -5,6 +5,7 @@ ghost use Rattle.board_defs.specs.Fold.{FeedFold};
 ghost use Rattle.board_defs.specs.Views.{folds_of};
 ghost use Rattle.delta_defs.specs.Changes.{changes_bytes};
 ghost use Rattle.delta_defs.specs.Kept.{folds_at};
+ghost use Rattle.delta_defs.specs.OneHistory.{AreOfOneHistory};
 ghost use Rattle.http_defs.specs.declared.response.BodyKind.TheVariants as kinds;
 ghost use Rattle.http_serve_defs.specs.Questions.{is_status, is_refusal, IsAskable};
 ghost use Rattle.http_serve_defs.specs.Answers.{answer, changes_answer, found, refused, query_answered, item_answered, whole_answered, closes_behind};
@@ -44,7 +45,7 @@ impl Responder {
     }
 
     /// Makes the response to an item, which may be the thousandth of its connection, of the messages
-    /// that the view holds and of the views that are kept, at a moment up to the end of the year 9999; or
+    /// that the view holds and of the views that are kept of the same history, at a moment up to the end of the year 9999; or
     /// runs out of memory. Answers where in `bytes` it begins: the body is written where it is sent from,
     /// and then its head is put before it.
     #[tactic(auto, unfolding(http_serve_defs::specs::Answers::answer))]
@@ -57,7 +58,8 @@ impl Responder {
         number: u64,
         moment: u64,
     ) -> Result<usize, NoMemory>
-        requires { moment ≤ last_moment }
+        requires moment { moment ≤ last_moment }
+        requires one_history { AreOfOneHistory kept.now view.now }
         ensures begins_within { IfOk result (λ start. start ≤ length self.new.bytes.items) }
         ensures made { IfOk result (λ start. drop start self.new.bytes.items
             ≡ answer view.now.plans item.now thousandth moment number (folds_of view.now)
@@ -93,7 +95,8 @@ fn answer_item(
     moment: u64,
     bytes: &mut Vec<u8>,
 ) -> Result<Heading, NoMemory>
-    requires { moment ≤ last_moment }
+    requires moment { moment ≤ last_moment }
+    requires one_history { AreOfOneHistory kept.now view.now }
     ensures answered { IfOk result (λ heading. Appends heading bytes.old.items bytes.new.items
         (item_answered view.now.plans (folds_of view.now) kept.now item.now moment)) }
     ensures status { IfOk result (λ heading. is_status heading.status ≡ true) }
@@ -120,6 +123,7 @@ fn answer_query(
 ) -> Result<Heading, NoMemory>
     requires askable { IsAskable query.now }
     requires moment { moment ≤ last_moment }
+    requires one_history { AreOfOneHistory kept.now view.now }
     ensures answered { IfOk result (λ heading. Appends heading bytes.old.items bytes.new.items
         (query_answered view.now.plans (folds_of view.now) kept.now query.now moment)) }
     ensures status { IfOk result (λ heading. is_status heading.status ≡ true) }
@@ -139,7 +143,8 @@ fn answer_since(
     number: u64,
     bytes: &mut Vec<u8>,
 ) -> Result<Heading, NoMemory>
-    requires { IsSome (folds_at number kept.now) }
+    requires kept { IsSome (folds_at number kept.now) }
+    requires one_history { AreOfOneHistory kept.now view.now }
     ensures answered { (old : List FeedFold) → folds_at number kept.now ≡ Some old
         → IfOk result (λ heading. Appends heading bytes.old.items bytes.new.items
         (found kinds.Feed (changes_answer view.now.plans (folds_of view.now)
@@ -163,6 +168,7 @@ fn push_changes(
 ) -> Result<Heading, NoMemory>
     requires plan { plan < length view.now.plans.plans }
     requires kept { IsSome (folds_at number kept.now) }
+    requires one_history { AreOfOneHistory kept.now view.now }
     ensures answered { (old : List FeedFold) → folds_at number kept.now ≡ Some old
         → IfOk result (λ heading. Appends heading bytes.old.items bytes.new.items
         (found kinds.Feed (Some (changes_bytes view.now.plans plan old (folds_of view.now))))) }

@@ -3,6 +3,7 @@ ghost use Rattle.std.specs.Prelude.{◌≡◌, false};
 ghost use Rattle.http_serve.specs.Setting.{setting};
 ghost use Rattle.http_serve.specs.Notes.{noted_in};
 ghost use Rattle.http_serve.specs.Serves.{Serves};
+ghost use Rattle.http_serve.specs.Views.{AreOfHistory};
 ghost use Rattle.http_serve.specs.Turns.{Turns, HasTurnCause, TakesNext, HasNextCause, turn_after};
 
 use crate::notes::Notes;
@@ -42,7 +43,7 @@ impl Service {
         })
     }
 
-    /// Serves a connection; each look's view is added to those that are kept. What the reader holds of the
+    /// Serves a connection; each look's view is added to those that are kept, which are of the oracle's history. What the reader holds of the
     /// connection before it is dropped.
     pub(crate) fn serve<S: Source, K: Sink, O: Oracle, C: Clock>(
         &mut self,
@@ -52,6 +53,7 @@ impl Service {
         clock: &mut C,
         kept: &mut Kept,
     ) -> Session
+        requires { AreOfHistory (O.plans oracle.old) (O.history oracle.old) kept.old }
         ensures serves { Serves (S.left source.old) (S.left source.new)
             (S.faults source.old) (S.faults source.new)
             (setting (K.written sink.old) (K.faults sink.old) (C.ahead clock.old)
@@ -85,6 +87,7 @@ impl Service {
         clock: &mut C,
         kept: &mut Kept,
     ) -> Turn
+        requires { AreOfHistory (O.plans oracle.old) (O.history oracle.old) kept.old }
         ensures turns { Turns place self.old.reader self.new.reader
             (S.left source.old) (S.left source.new)
             (setting (K.written sink.old) (K.faults sink.old) (C.ahead clock.old)

@@ -1,8 +1,8 @@
 //! A hub on one thread that keeps its history.
 
-ghost use Rattle.std.specs.Prelude.{◌≡◌, ◌<◌, ◌+◌, [], length, true, false, Ok, IfOk, IfErr};
+ghost use Rattle.std.specs.Prelude.{◌≡◌, ℕ, ◌<◌, ◌+◌, [], length, true, false, Ok, IfOk, IfErr};
 ghost use Rattle.std.specs.Arc.{arc_value};
-ghost use Rattle.feed_defs.specs.History.{IsLegal, WereRead};
+ghost use Rattle.feed_defs.specs.History.{IsLegal, WereRead, is_rising, stamps_of};
 ghost use Rattle.sched_types.specs.Schedules.{AreSchedules};
 ghost use Rattle.board_defs.specs.Views.{StandsFor, feed_at, hub_first};
 ghost use Rattle.board_parts.specs.Looks.{Looked};
@@ -100,6 +100,7 @@ impl Oracle for ReplayHub {
     fn look(&mut self) -> Result<u64, NoMemory>
         ensures looked { Looked self.old.history self.new.history self.old.shown self.new.shown
             self.old.reads self.new.reads true result }
+        ensures rising { (feed : ℕ) → is_rising (stamps_of feed self.new.history) ≡ true }
         ensures plans { self.new.shown.plans ≡ self.old.shown.plans }
         ensures held { IfErr result (λ none. false ≡ false) }
         ensures steady { true ≡ true }

@@ -1,7 +1,8 @@
 //! Passes.
 
-ghost use Rattle.std.specs.Prelude.{◌≡◌, ◌⊎◌, false, IfErr};
+ghost use Rattle.std.specs.Prelude.{◌≡◌, ◌⊎◌, ℕ, true, false, IfErr};
 ghost use mathlib.Core.List.{IsPrefix};
+ghost use Rattle.feed_defs.specs.History.{is_rising, stamps_of};
 ghost use Rattle.board_parts.specs.Looks.{Looked};
 ghost use Rattle.hub_history.specs.Told.{history_of, AreOne};
 
@@ -75,6 +76,13 @@ impl Pass {
         self.line.finish(&ending.line);
     }
 
+    /// Does nothing; its contract tells what is true of the history that every pass knows.
+    fn sound(&self)
+        ensures { (feed : ℕ) → is_rising (stamps_of feed (history_of self.now.line)) ≡ true }
+    {
+        self.line.sound();
+    }
+
     /// A look, in the words of `Oracle`.
     fn take_look(&mut self) -> Result<u64, NoMemory>
         ensures looked { Looked (history_of self.old.line) (history_of self.new.line)
@@ -121,12 +129,16 @@ impl Oracle for Pass {
     fn look(&mut self) -> Result<u64, NoMemory>
         ensures looked { Looked (history_of self.old.line) (history_of self.new.line)
             self.old.shown self.new.shown self.old.reads self.new.reads false result }
+        ensures rising { (feed : ℕ)
+            → is_rising (stamps_of feed (history_of self.new.line)) ≡ true }
         ensures plans { self.new.shown.plans ≡ self.old.shown.plans }
         ensures held { IfErr result (λ none. self.new.holds ≡ self.old.holds) }
         ensures steady { false ≡ false }
         ensures hub { AreOne self.new.line self.old.line }
     {
-        self.take_look()
+        let found = self.take_look();
+        self.sound();
+        found
     }
 
     fn view(&self) -> &HubView {

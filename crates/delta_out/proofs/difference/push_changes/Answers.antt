@@ -3,19 +3,24 @@ use Rattle.std.proofs.lemmas.Result.{on_ok_weaker}
 use Rattle.feed_out.proofs.Bytes.{prefix_is}
 use Rattle.delta_out.proofs.LawLemmas.{brings_to}
 use Rattle.delta_out.proofs.MessageLemmas.{sent_are}
+use Rattle.delta_out.proofs.SettledLemmas.{all_settled}
 use Rattle.delta_out.proofs.difference.push_changes.Goals as goal
+
+pub push_feeds-requires : goal.push_feeds-requires
+push_feeds-requires c =
+    all_settled c.args.view.now c.args.plan c.args.old.now c.feeds.result.now c.feeds_of-2.result c.requires.one_history c.feeds.ensures c.feeds_of-2.ensures
 
 pub returns-clause-sent : goal.returns-clause-sent
 returns-clause-sent c =
     on_ok_weaker c.push_feeds.result
     (sent_are c.args.view.now c.plans.result.now c.plans-2.result.now c.args.plan c.index-plans-plan.result c.as_str-prefix.result.now c.feeds_of.result c.feeds_of-2.result c.newest_stamp-stamp.result
     c.args.old.now.folds c.feeds.result.now c.args.out.now.items c.push_header.new.out.items c.push_feeds.new.out.items
-    c.plans.ensures c.plans-2.ensures c.requires c.as_str-prefix.ensures c.feeds_of.ensures c.newest_stamp-stamp.ensures c.feeds.ensures c.feeds_of-2.ensures c.in_ok-push_header.ensures.written)
+    c.plans.ensures c.plans-2.ensures c.requires.plan c.as_str-prefix.ensures c.feeds_of.ensures c.newest_stamp-stamp.ensures c.feeds.ensures c.feeds_of-2.ensures c.in_ok-push_header.ensures.written)
     c.push_feeds.ensures.sent
 
 pub returns-clause-brings : goal.returns-clause-brings
 returns-clause-brings c = λ g h were read then stands. on_ok_weaker c.push_feeds.result
     (λ each. brings_to c.args.view.now c.args.plan c.args.old.now.folds c.feeds.result.now c.as_str-prefix.result.now c.feeds_of-2.result
-    (prefix_is c.args.view.now c.plans.result.now c.plans-2.result.now c.args.plan c.index-plans-plan.result c.as_str-prefix.result.now c.plans.ensures c.plans-2.ensures c.requires c.as_str-prefix.ensures)
+    (prefix_is c.args.view.now c.plans.result.now c.plans-2.result.now c.args.plan c.index-plans-plan.result c.as_str-prefix.result.now c.plans.ensures c.plans-2.ensures c.requires.plan c.as_str-prefix.ensures)
     c.is_text.ensures c.sound.ensures.plans c.feeds_of-2.ensures c.feeds.ensures each g h were read then stands)
     c.push_feeds.ensures.short

@@ -6,8 +6,15 @@ use Rattle.http_serve.specs.Replies.{none_begun}
 use Rattle.http_serve.specs.Notes.{Noted, noted_in}
 use Rattle.http_serve.proofs.Chains.{answers_none}
 use Rattle.http_serve.proofs.Ends.{starved_at_rest}
+use Rattle.http_serve.proofs.KeptViews.{look_one}
 use Rattle.http_serve.proofs.OneReply.{looks_and_reads, kept_is, kept_or_not, view_answers, released, look_starved, response_starved, response_cut, response_whole}
 use Rattle.http_serve.proofs.replying.reply.Goals as goal
+
+pub respond-made-requires-clause-one_history : goal.respond-made-requires-clause-one_history
+respond-made-requires-clause-one_history g c =
+    look_one (g.O.Oracle.plans c.args.oracle.now) (g.O.Oracle.plans c.look.new.self) (g.O.Oracle.history c.args.oracle.now) (g.O.Oracle.history c.look.new.self)
+    (g.O.Oracle.shown c.look.new.self) c.view.result.now c.args.kept.now c.in-Ok-look.ensures.looked.goes_on c.look.ensures.rising
+    c.in-Ok-look.ensures.looked.found.1 c.view.ensures.view c.view.ensures.plans c.look.ensures.plans c.requires
 
 pub returns-in_default-clause-replies : goal.returns-in_default-clause-replies
 returns-in_default-clause-replies g c = (none_begun, starved_at_rest (g.O.Oracle.history c.args.oracle.now), answers_none c.args.place _, c.make_room.ensures.same)

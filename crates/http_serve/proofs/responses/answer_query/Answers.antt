@@ -6,8 +6,8 @@ use Rattle.board_defs.specs.Views.{folds_of}
 use Rattle.http_serve.proofs.Bodies.{by_since, by_none}
 use Rattle.http_serve.proofs.responses.answer_query.Goals as goal
 
-pub answer_since-requires : goal.answer_since-requires
-answer_since-requires c = subst (λ (o : Option (List FeedFold)). IsSome o) (sym c.in-Some.ensures.1) refl
+pub answer_since-requires-clause-kept : goal.answer_since-requires-clause-kept
+answer_since-requires-clause-kept c = subst (λ (o : Option (List FeedFold)). IsSome o) (sym c.in-Some.ensures.1) refl
 
 pub returns-in-Some-clause-answered : goal.returns-in-Some-clause-answered
 returns-in-Some-clause-answered c =

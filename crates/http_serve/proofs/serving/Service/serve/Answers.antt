@@ -1,6 +1,7 @@
 use Rattle.std.proofs.Common.{arith}
 use Rattle.http_serve.specs.Setting.{setting}
 use Rattle.http_serve.specs.Notes.{noted_in}
+use Rattle.http_serve.proofs.KeptViews.{answered_kept}
 use Rattle.http_serve.proofs.OnWay.{on_way_first, on_way_next, past_last}
 use Rattle.http_serve.proofs.Ends.{ended_by, serves_as}
 use Rattle.http_serve.proofs.serving.Service.serve.Goals as goal
@@ -14,6 +15,13 @@ requests-init g c = record {
   writes_later = omega arith;
   lets_go = λ none. none;
 }
+
+pub serve_next-requires : goal.serve_next-requires
+serve_next-requires g c =
+    answered_kept 1
+    (setting (g.K.Sink.written c.args.sink.now) (g.K.Sink.faults c.args.sink.now) (g.C.Clock.ahead c.args.clock.now) (g.O.Oracle.plans c.args.oracle.now) (g.O.Oracle.history c.args.oracle.now) (g.O.Oracle.reads c.args.oracle.now) (g.O.Oracle.steady c.args.oracle.now) c.args.kept.now)
+    (setting (g.K.Sink.written c.requests.sink) (g.K.Sink.faults c.requests.sink) (g.C.Clock.ahead c.requests.clock) (g.O.Oracle.plans c.requests.oracle) (g.O.Oracle.history c.requests.oracle) (g.O.Oracle.reads c.requests.oracle) (g.O.Oracle.steady c.requests.oracle) c.requests.kept)
+    c.requests.invariant.way.replies c.requests.invariant.way.answers c.requires
 
 pub requests-preserved : goal.requests-preserved
 requests-preserved g c = record {
