@@ -69,12 +69,3 @@ held_more ms m =
 pub held_none : entities_of [] ≡ []
 unfolding entities_of changes_by_id since_full
 held_none = refl
-
-sorted_fold : (cs es : List Change) → T (is_sorted id_cmp es) → T (is_sorted id_cmp (fold changes_with es cs))
-sorted_fold [] es h = h
-sorted_fold (c ∷ cs) es h = sorted_fold cs (changes_with es c) (sorted_changed es c h)
-
--- a message keeps the order
-pub sorted_applied : (m : FeedMessage) (es : List Change) → T (is_sorted id_cmp es) → T (is_sorted id_cmp (entities_after m es))
-unfolding entities_after
-sorted_applied m es h = sorted_fold (changes_in m) _ (grind arith)

@@ -49,9 +49,6 @@ stamps_of-other feed k h m ne = ap (map stamp_of) (messages_of-other feed k h m 
 pub last_stamp-own : (k : ℕ) (h : List Entry) (m : FeedMessage) → last_stamp k (grown h k m) ≡ stamp_of m
 last_stamp-own k h m = grind (arith, stamps_of-own k h m, last_or-append None (stamps_of k h) (stamp_of m))
 
-pub last_stamp-other : (feed k : ℕ) (h : List Entry) (m : FeedMessage) → feed ≢ k → last_stamp feed (grown h k m) ≡ last_stamp feed h
-last_stamp-other feed k h m ne = ap (λ xs. unwrap_or (last_or None xs) 0) (stamps_of-other feed k h m ne)
-
 -- one feed or another
 pub same_or_not : (a b : ℕ) → (a ≡ b) ⊎ (a ≢ b)
 same_or_not a b = grind arith

@@ -1,14 +1,11 @@
 -- What requests ask is what may be asked.
-use Rattle.std.proofs.Common.{◌≡◌, ℕ, ◌≤◌, Bool, true, false, not, bytes_eq, codes, List, [], Option, Some, None, refl, ap, arith}
+use Rattle.std.proofs.Common.{◌≡◌, ℕ, ◌≤◌, Bool, true, false, not, bytes_eq, codes, List, [], Option, Some, None, refl, arith}
 use Rattle.std.specs.Prelude.{if◌then◌else◌, ◌&&◌, nat_le, ⊤}
-use Rattle.std.specs.Option.{option_and_then, option_map, option_map_or}
+use Rattle.std.specs.Option.{option_and_then, option_map}
 use Rattle.std.specs.Str.{is_utf8}
 use Rattle.std.proofs.lemmas.Bool.Decides.{nat_tests}
 use Rattle.text_defs.specs.Numbers.{number, digits, within}
-use Rattle.sched_types.specs.Schedules.{Schedules}
-use Rattle.board_defs.specs.Fold.{FeedFold}
 use Rattle.http_defs.specs.declared.request.Request.{Request}
-use Rattle.http_defs.specs.declared.response.BodyKind.TheVariants.{Feed as Message}
 use Rattle.http_defs.specs.declared.asked.RouteKind.{RouteKind}
 use Rattle.http_defs.specs.declared.asked.RouteKind.TheVariants.{Board as BoardRoute, Alerts as AlertsRoute, Feed as FeedRoute, Unmatched as UnmatchedRoute, Status as StatusRoute}
 use Rattle.http_defs.specs.declared.asked.Choices.{Choices}
@@ -17,7 +14,7 @@ use Rattle.http_defs.specs.declared.asked.Query.TheVariants.{Board, Alerts, Feed
 use Rattle.http_defs.specs.Routes.{routes, kind_at}
 use Rattle.http_defs.specs.Targets.{begins_with_slash, path_in, form_in, text_at, first_value, number_or, span_in, limit_in, json_in, choices_in, since_in, or_bad, query_by, query_at, query_of}
 use Rattle.http_serve_defs.specs.Questions.{AreChoices, IsAskable}
-use Rattle.http_serve_defs.specs.Answers.{FeedSince, since_view, feed_since, found, changes_answer, whole_answered, query_answered}
+use Rattle.http_serve_defs.specs.Answers.{since_view, feed_since}
 
 -- a number is one of its range
 pub record InRange (low high n : ℕ) : Type 0 where
@@ -146,10 +143,3 @@ none_kept (Alerts schedule stop span limit json) = refl
 none_kept (Unmatched schedule) = refl
 none_kept Status = refl
 none_kept (Refused code) = refl
-
--- and all is answered whole
-pub answered_whole : (schedules : Schedules) (folds : List FeedFold) (query : Query) (moment : ℕ)
-    → query_answered schedules folds [] query moment ≡ whole_answered schedules folds query moment
-answered_whole schedules folds query moment =
-    ap (λ (since : Option FeedSince). option_map_or (λ s. found Message (changes_answer schedules folds s)) since (whole_answered schedules folds query moment))
-    (none_kept query)
