@@ -108,6 +108,7 @@ impl Oracle for ReplayHub {
         ensures same { self.new ≡ record self.old { reads = self.old.reads + 1 } }
     {
         self.looks.tick();
+        self.sound();
         Ok(self.core.view().entries())
     }
 
