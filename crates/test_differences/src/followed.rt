@@ -11,13 +11,13 @@ use std::alloc::Global;
 use std::test::Fail;
 
 /// A whole data set of the entity `x`, with stamp 5.
-const ENTITY: [u8; 16] = *b"\x0a\x09\x0a\x032.0\x10\x00\x18\x05\x12\x03\x0a\x01x";
+pub(crate) const ENTITY: [u8; 16] = *b"\x0a\x09\x0a\x032.0\x10\x00\x18\x05\x12\x03\x0a\x01x";
 
 /// The same with stamp 6.
 const AGAIN: [u8; 16] = *b"\x0a\x09\x0a\x032.0\x10\x00\x18\x06\x12\x03\x0a\x01x";
 
 /// A hub that accepted nothing, with the feed `a`.
-fn hub(alloc: Global) -> Result<ReplayHub, Fail>
+pub(crate) fn hub(alloc: Global) -> Result<ReplayHub, Fail>
     ensures plans { IfOk result (λ hub. length hub.shown.plans.plans ≡ 1) }
     ensures feeds { IfOk result (λ hub. length hub.shown.plans.feeds ≡ 1) }
 {
@@ -25,7 +25,7 @@ fn hub(alloc: Global) -> Result<ReplayHub, Fail>
 }
 
 /// No views of a hub.
-fn none(alloc: Global, _hub: &ReplayHub) -> Result<Kept, Fail>
+pub(crate) fn none(alloc: Global, _hub: &ReplayHub) -> Result<Kept, Fail>
     ensures { IfOk result (λ kept. AreOfHistory _hub.now.shown.plans _hub.now.history kept) }
 {
     Ok(Kept::new(alloc)?)
