@@ -16,6 +16,13 @@ pub(crate) const ENTITY: [u8; 16] = *b"\x0a\x09\x0a\x032.0\x10\x00\x18\x05\x12\x
 /// The same with stamp 6.
 const AGAIN: [u8; 16] = *b"\x0a\x09\x0a\x032.0\x10\x00\x18\x06\x12\x03\x0a\x01x";
 
+/// A message without entities that changes nothing, with that stamp, which is below 128.
+pub(crate) fn without_entities(stamp: u8) -> [u8; 11] {
+    [
+        0x0a, 0x09, 0x0a, 0x03, b'2', b'.', b'0', 0x10, 0x01, 0x18, stamp,
+    ]
+}
+
 /// A hub that accepted nothing, with the feed `a`.
 pub(crate) fn hub(alloc: Global) -> Result<ReplayHub, Fail>
     ensures plans { IfOk result (λ hub. length hub.shown.plans.plans ≡ 1) }
@@ -126,10 +133,7 @@ fn sixty_four_views_are_kept(rt: HostRuntime) -> Result<(), Fail> {
     keep(&hub, &mut kept)?;
     follow(&mut hub, &mut kept, &ENTITY)?;
     for stamp in 6..70 {
-        let message = [
-            0x0a, 0x09, 0x0a, 0x03, b'2', b'.', b'0', 0x10, 0x01, 0x18, stamp,
-        ];
-        follow(&mut hub, &mut kept, &message)?;
+        follow(&mut hub, &mut kept, &without_entities(stamp))?;
     }
     assert!(rt; !kept.has(1));
     assert!(rt; kept.has(2));

@@ -3,7 +3,7 @@
 ghost use Rattle.std.specs.Prelude.{◌≡◌, ◌<◌, length, OnOk};
 ghost use Rattle.delta_defs.specs.OneHistory.{AreOfHistory};
 
-use crate::followed::{ENTITY, hub, none};
+use crate::followed::{ENTITY, hub, none, without_entities};
 use delta_out::{Kept, NoMemory};
 use http_serve::serve_since;
 use hub_outside::{FixedClock, MemorySink, MemorySource};
@@ -87,10 +87,7 @@ fn a_client_that_is_64_looks_late_gets_all(rt: HostRuntime) -> Result<(), Fail> 
     take_in(&mut hub, &kept, &ENTITY)?;
     answer(alloc, &mut hub, &mut kept, b"")?;
     for stamp in 6..70 {
-        let message = [
-            0x0a, 0x09, 0x0a, 0x03, b'2', b'.', b'0', 0x10, 0x01, 0x18, stamp,
-        ];
-        take_in(&mut hub, &kept, &message)?;
+        take_in(&mut hub, &kept, &without_entities(stamp))?;
         answer(alloc, &mut hub, &mut kept, b"")?;
     }
     let whole = b"\x0a\x09\x0a\x032.0\x10\x00\x18\x45\x12\x05\x0a\x03a:x";
