@@ -5,9 +5,11 @@ use Rattle.std.specs.List.{AllByRecursion, flat_map}
 use Rattle.std.specs.declared.sync.Arc.{Arc}
 use Rattle.std.specs.declared.alloc.Global.{Global}
 use Rattle.std.proofs.lemmas.List.{length-drop, reverse-append, take-append-drop}
+use Rattle.shared_list.specs.declared.leaf.Leaf.{Leaf}
 use Rattle.shared_list.specs.declared.node.Node.{Node}
-use Rattle.shared_list.specs.Parts.{items_in, leaf_items, node_items, AreSound, IsFilled, IsPlain}
-use Rattle.shared_list.proofs.PartLemmas.{join_parts, sound_front, sound_back, some_items}
+use Rattle.shared_list.specs.Parts.{items_in, leaf_items, node_items, AreSound, IsDated, IsFilled}
+use Rattle.shared_list.proofs.PartLemmas.{Good, join_parts, sound_front, sound_back, some_items}
+use Rattle.shared_list.proofs.Each.{each_push}
 
 -- what pieces have, one after another
 abbrev pub pieces_items : {X : Type 0} → List (Vec X Global) → List X
@@ -51,44 +53,62 @@ cut_ends all left pieces turned so_far none is = ap pieces_items is ∙ ap (λ x
 
 -- ---- leaves
 
-module _ {X : Type 0} where
-  pub leaves_items : (leaves : List (Arc (Vec X Global) Global)) (pieces : List (Vec X Global)) → map (λ leaf. leaf.value) leaves ≡ pieces → items_in leaf_items leaves ≡ pieces_items pieces
-  leaves_items leaves pieces are = by_values leaves ∙ ap pieces_items are
-    where
-      by_values : (ls : List (Arc (Vec X Global) Global)) → items_in leaf_items ls ≡ pieces_items (map (λ leaf. leaf.value) ls)
-      by_values [] = refl
-      by_values (l ∷ ls) = ap (λ xs. l.value.items ++ xs) (by_values ls)
+module _ {X : Type 0} (stamp : X → ℕ) where
+  -- leaves that were made of pieces, and the pieces that are left
+  pub record LeavesSoFar (leaves : List (Arc (Leaf X) Global)) (left all : List (Vec X Global)) : Type 0 where
+    pub items : items_in leaf_items leaves ++ pieces_items left ≡ pieces_items all
+    pub sound : AreSound leaf_items (IsDated stamp) leaves
+    pub filled : AreFilled left
 
-  pub leaves_sound : (leaves : List (Arc (Vec X Global) Global)) (pieces : List (Vec X Global)) → map (λ leaf. leaf.value) leaves ≡ pieces → AreFilled pieces → AreSound leaf_items IsPlain leaves
-  leaves_sound leaves pieces are filled = each leaves (subst (λ ps. AreFilled ps) (sym are) filled)
-    where
-      each : (ls : List (Arc (Vec X Global) Global)) → AreFilled (map (λ leaf. leaf.value) ls) → AreSound leaf_items IsPlain ls
-      each [] h = tt
-      each (l ∷ ls) h = ((tt, h.0), each ls h.1)
+  pub leaves_begin : (leaves : List (Arc (Leaf X) Global)) (pieces : List (Vec X Global)) → leaves ≡ [] → AreFilled pieces → LeavesSoFar leaves pieces pieces
+  leaves_begin leaves pieces none filled = record {
+    items = ap (λ ls. items_in leaf_items ls ++ pieces_items pieces) none;
+    sound = subst (λ ls. AreSound leaf_items (IsDated stamp) ls) (sym none) tt;
+    filled = filled;
+  }
+
+  pub leaves_go_on : (leaves more : List (Arc (Leaf X) Global)) (left rest all : List (Vec X Global)) (piece : Vec X Global) (leaf : Arc (Leaf X) Global) → LeavesSoFar leaves left all → left ≡ piece ∷ rest → leaf_items leaf.value ≡ piece.items → IsDated stamp leaf.value → more ≡ leaves ++ leaf ∷ [] → LeavesSoFar more rest all
+  leaves_go_on leaves more left rest all piece leaf so_far first items dated pushed =
+      let filled : AreFilled (piece ∷ rest) = subst (λ ps. AreFilled ps) first so_far.filled in
+      record {
+        items =
+            ap (λ ls. items_in leaf_items ls ++ pieces_items rest) pushed
+            ∙ ap (λ xs. xs ++ pieces_items rest) (sym (join_parts leaf_items leaves (leaf ∷ []) _ refl))
+            ∙ append_assoc (items_in leaf_items leaves) (leaf_items leaf.value ++ []) (pieces_items rest)
+            ∙ ap (λ xs. items_in leaf_items leaves ++ (xs ++ pieces_items rest)) (append-nil (leaf_items leaf.value) ∙ items)
+            ∙ ap (λ ps. items_in leaf_items leaves ++ pieces_items ps) (sym first)
+            ∙ so_far.items;
+        sound = subst (λ ls. AreSound leaf_items (IsDated stamp) ls) (sym pushed)
+            (each_push (Good leaf_items (IsDated stamp)) leaves leaf so_far.sound (dated, subst (λ xs. 0 < length xs) (sym items) filled.0));
+        filled = filled.1;
+      }
+
+  pub leaves_end : (leaves : List (Arc (Leaf X) Global)) (left all : List (Vec X Global)) → LeavesSoFar leaves left all → left ≡ [] → items_in leaf_items leaves ≡ pieces_items all
+  leaves_end leaves left all so_far none = sym (append-nil (items_in leaf_items leaves)) ∙ ap (λ ps. items_in leaf_items leaves ++ pieces_items ps) (sym none) ∙ so_far.items
 
 -- ---- nodes
 
-module _ {X : Type 0} where
-  pub nodes_items : (nodes : List (Arc (Node (Vec X Global)) Global)) (pieces : List (Vec (Arc (Vec X Global) Global) Global)) → map (λ node. node.value.parts) nodes ≡ pieces → items_in node_items nodes ≡ items_in leaf_items (pieces_items pieces)
+module _ {X : Type 0} (stamp : X → ℕ) where
+  pub nodes_items : (nodes : List (Arc (Node (Leaf X)) Global)) (pieces : List (Vec (Arc (Leaf X) Global) Global)) → map (λ node. node.value.parts) nodes ≡ pieces → items_in node_items nodes ≡ items_in leaf_items (pieces_items pieces)
   nodes_items nodes pieces are = by_values nodes ∙ ap (λ ps. items_in leaf_items (pieces_items ps)) are
     where
-      by_values : (ns : List (Arc (Node (Vec X Global)) Global)) → items_in node_items ns ≡ items_in leaf_items (pieces_items (map (λ node. node.value.parts) ns))
+      by_values : (ns : List (Arc (Node (Leaf X)) Global)) → items_in node_items ns ≡ items_in leaf_items (pieces_items (map (λ node. node.value.parts) ns))
       by_values [] = refl
       by_values (n ∷ ns) =
           ap (λ xs. items_in leaf_items n.value.parts.items ++ xs) (by_values ns)
           ∙ join_parts leaf_items n.value.parts.items (pieces_items (map (λ node. node.value.parts) ns)) _ refl
 
-  pub nodes_sound : (nodes : List (Arc (Node (Vec X Global)) Global)) (pieces : List (Vec (Arc (Vec X Global) Global) Global)) → map (λ node. node.value.parts) nodes ≡ pieces → AreFilled pieces → AreSound leaf_items IsPlain (pieces_items pieces) → AreSound node_items IsFilled nodes
+  pub nodes_sound : (nodes : List (Arc (Node (Leaf X)) Global)) (pieces : List (Vec (Arc (Leaf X) Global) Global)) → map (λ node. node.value.parts) nodes ≡ pieces → AreFilled pieces → AreSound leaf_items (IsDated stamp) (pieces_items pieces) → AreSound node_items (IsFilled stamp) nodes
   nodes_sound nodes pieces are filled sound =
-      each nodes (subst (λ ps. AreFilled ps) (sym are) filled) (subst (λ ps. AreSound leaf_items IsPlain (pieces_items ps)) (sym are) sound)
+      each nodes (subst (λ ps. AreFilled ps) (sym are) filled) (subst (λ ps. AreSound leaf_items (IsDated stamp) (pieces_items ps)) (sym are) sound)
     where
-      each : (ns : List (Arc (Node (Vec X Global)) Global)) → AreFilled (map (λ node. node.value.parts) ns) → AreSound leaf_items IsPlain (pieces_items (map (λ node. node.value.parts) ns)) → AreSound node_items IsFilled ns
+      each : (ns : List (Arc (Node (Leaf X)) Global)) → AreFilled (map (λ node. node.value.parts) ns) → AreSound leaf_items (IsDated stamp) (pieces_items (map (λ node. node.value.parts) ns)) → AreSound node_items (IsFilled stamp) ns
       each [] h good = tt
       each (n ∷ ns) h good =
           let leaves = n.value.parts.items in
           let later = pieces_items (map (λ node. node.value.parts) ns) in
-          let own = sound_front leaf_items IsPlain leaves later (leaves ++ later) refl good in
-          ((own, some_items leaf_items IsPlain leaves own h.0), each ns h.1 (sound_back leaf_items IsPlain leaves later (leaves ++ later) refl good))
+          let own = sound_front leaf_items (IsDated stamp) leaves later (leaves ++ later) refl good in
+          ((own, some_items leaf_items (IsDated stamp) leaves own h.0), each ns h.1 (sound_back leaf_items (IsDated stamp) leaves later (leaves ++ later) refl good))
 
 -- what was made of the pieces that are gone over, when none is left
 pub all_made : {A B : Type 0} (f : A → B) (made : List A) (left all : List B) → left ≡ [] → map f made ++ left ≡ all → map f made ≡ all
