@@ -51,65 +51,65 @@ cut_goes_on all left kept at piece pieces more so_far less front back pushed = r
 pub cut_ends : {X : Type 0} (all left : List X) (pieces turned : List (Vec X Global)) → IsCut all left pieces → left ≡ [] → turned ≡ reverse pieces → pieces_items turned ≡ all
 cut_ends all left pieces turned so_far none is = ap pieces_items is ∙ ap (λ xs. xs ++ pieces_items (reverse pieces)) (sym none) ∙ so_far.whole
 
--- ---- leaves
+-- ---- parts that are made of pieces, one of each
 
-module _ {X : Type 0} (stamp : X → ℕ) where
-  -- leaves that were made of pieces, and the pieces that are left
-  pub record LeavesSoFar (leaves : List (Arc (Leaf X) Global)) (left all : List (Vec X Global)) : Type 0 where
-    pub items : items_in leaf_items leaves ++ pieces_items left ≡ pieces_items all
-    pub sound : AreSound leaf_items (IsDated stamp) leaves
-    pub filled : AreFilled left
+module _ {P X Y : Type 0} (items : P → List X) (sound : P → Type 0) (given : Vec Y Global → List X) (Fits : Vec Y Global → Type 0) where
+  -- parts that were made, and the pieces that are left
+  pub record MadeSoFar (parts : List (Arc P Global)) (left all : List (Vec Y Global)) : Type 0 where
+    pub whole : items_in items parts ++ flat_map given left ≡ flat_map given all
+    pub good : AreSound items sound parts
+    pub fit : AllByRecursion Fits left
 
-  pub leaves_begin : (leaves : List (Arc (Leaf X) Global)) (pieces : List (Vec X Global)) → leaves ≡ [] → AreFilled pieces → LeavesSoFar leaves pieces pieces
-  leaves_begin leaves pieces none filled = record {
-    items = ap (λ ls. items_in leaf_items ls ++ pieces_items pieces) none;
-    sound = subst (λ ls. AreSound leaf_items (IsDated stamp) ls) (sym none) tt;
-    filled = filled;
+  pub made_begins : (parts : List (Arc P Global)) (left pieces : List (Vec Y Global)) → parts ≡ [] → left ≡ pieces → AllByRecursion Fits pieces → MadeSoFar parts left pieces
+  made_begins parts left pieces none same fit = record {
+    whole = ap (λ ps. items_in items ps ++ flat_map given left) none ∙ ap (flat_map given) same;
+    good = subst (λ ps. AreSound items sound ps) (sym none) tt;
+    fit = subst (λ ps. AllByRecursion Fits ps) (sym same) fit;
   }
 
-  pub leaves_go_on : (leaves more : List (Arc (Leaf X) Global)) (left rest all : List (Vec X Global)) (piece : Vec X Global) (leaf : Arc (Leaf X) Global) → LeavesSoFar leaves left all → left ≡ piece ∷ rest → leaf_items leaf.value ≡ piece.items → IsDated stamp leaf.value → more ≡ leaves ++ leaf ∷ [] → LeavesSoFar more rest all
-  leaves_go_on leaves more left rest all piece leaf so_far first items dated pushed =
-      let filled : AreFilled (piece ∷ rest) = subst (λ ps. AreFilled ps) first so_far.filled in
-      record {
-        items =
-            ap (λ ls. items_in leaf_items ls ++ pieces_items rest) pushed
-            ∙ ap (λ xs. xs ++ pieces_items rest) (sym (join_parts leaf_items leaves (leaf ∷ []) _ refl))
-            ∙ append_assoc (items_in leaf_items leaves) (leaf_items leaf.value ++ []) (pieces_items rest)
-            ∙ ap (λ xs. items_in leaf_items leaves ++ (xs ++ pieces_items rest)) (append-nil (leaf_items leaf.value) ∙ items)
-            ∙ ap (λ ps. items_in leaf_items leaves ++ pieces_items ps) (sym first)
-            ∙ so_far.items;
-        sound = subst (λ ls. AreSound leaf_items (IsDated stamp) ls) (sym pushed)
-            (each_push (Good leaf_items (IsDated stamp)) leaves leaf so_far.sound (dated, subst (λ xs. 0 < length xs) (sym items) filled.0));
-        filled = filled.1;
-      }
+  pub made_first : (parts : List (Arc P Global)) (left rest all : List (Vec Y Global)) (piece : Vec Y Global) → MadeSoFar parts left all → left ≡ piece ∷ rest → Fits piece
+  made_first parts left rest all piece so_far first = (subst (λ ps. AllByRecursion Fits ps) first so_far.fit).0
 
-  pub leaves_end : (leaves : List (Arc (Leaf X) Global)) (left all : List (Vec X Global)) → LeavesSoFar leaves left all → left ≡ [] → items_in leaf_items leaves ≡ pieces_items all
-  leaves_end leaves left all so_far none = sym (append-nil (items_in leaf_items leaves)) ∙ ap (λ ps. items_in leaf_items leaves ++ pieces_items ps) (sym none) ∙ so_far.items
+  pub made_goes_on : (parts more : List (Arc P Global)) (left rest all : List (Vec Y Global)) (piece : Vec Y Global) (part : Arc P Global) → MadeSoFar parts left all → left ≡ piece ∷ rest → items part.value ≡ given piece → sound part.value → 0 < length (given piece) → more ≡ parts ++ part ∷ [] → MadeSoFar more rest all
+  made_goes_on parts more left rest all piece part so_far first same good some pushed = record {
+    whole =
+        ap (λ ps. items_in items ps ++ flat_map given rest) pushed
+        ∙ ap (λ xs. xs ++ flat_map given rest) (sym (join_parts items parts (part ∷ []) _ refl))
+        ∙ append_assoc (items_in items parts) (items part.value ++ []) (flat_map given rest)
+        ∙ ap (λ xs. items_in items parts ++ (xs ++ flat_map given rest)) (append-nil (items part.value) ∙ same)
+        ∙ ap (λ ps. items_in items parts ++ flat_map given ps) (sym first)
+        ∙ so_far.whole;
+    good = subst (λ ps. AreSound items sound ps) (sym pushed)
+        (each_push (Good items sound) parts part so_far.good (good, subst (λ xs. 0 < length xs) (sym same) some));
+    fit = (subst (λ ps. AllByRecursion Fits ps) first so_far.fit).1;
+  }
 
--- ---- nodes
+  pub made_ends : (parts : List (Arc P Global)) (left all : List (Vec Y Global)) → MadeSoFar parts left all → left ≡ [] → items_in items parts ≡ flat_map given all
+  made_ends parts left all so_far none =
+      sym (append-nil (items_in items parts)) ∙ ap (λ ps. items_in items parts ++ flat_map given ps) (sym none) ∙ so_far.whole
 
+-- leaves are made of items
+abbrev pub LeavesSoFar : {X : Type 0} → (X → ℕ) → List (Arc (Leaf X) Global) → List (Vec X Global) → List (Vec X Global) → Type 0
+LeavesSoFar stamp = MadeSoFar leaf_items (IsDated stamp) (λ piece. piece.items) (λ piece. 0 < length piece.items)
+
+-- nodes are made of leaves
 module _ {X : Type 0} (stamp : X → ℕ) where
-  pub nodes_items : (nodes : List (Arc (Node (Leaf X)) Global)) (pieces : List (Vec (Arc (Leaf X) Global) Global)) → map (λ node. node.value.parts) nodes ≡ pieces → items_in node_items nodes ≡ items_in leaf_items (pieces_items pieces)
-  nodes_items nodes pieces are = by_values nodes ∙ ap (λ ps. items_in leaf_items (pieces_items ps)) are
-    where
-      by_values : (ns : List (Arc (Node (Leaf X)) Global)) → items_in node_items ns ≡ items_in leaf_items (pieces_items (map (λ node. node.value.parts) ns))
-      by_values [] = refl
-      by_values (n ∷ ns) =
-          ap (λ xs. items_in leaf_items n.value.parts.items ++ xs) (by_values ns)
-          ∙ join_parts leaf_items n.value.parts.items (pieces_items (map (λ node. node.value.parts) ns)) _ refl
+  abbrev pub in_leaves : Vec (Arc (Leaf X) Global) Global → List X
+  in_leaves piece = items_in leaf_items piece.items
 
-  pub nodes_sound : (nodes : List (Arc (Node (Leaf X)) Global)) (pieces : List (Vec (Arc (Leaf X) Global) Global)) → map (λ node. node.value.parts) nodes ≡ pieces → AreFilled pieces → AreSound leaf_items (IsDated stamp) (pieces_items pieces) → AreSound node_items (IsFilled stamp) nodes
-  nodes_sound nodes pieces are filled sound =
-      each nodes (subst (λ ps. AreFilled ps) (sym are) filled) (subst (λ ps. AreSound leaf_items (IsDated stamp) (pieces_items ps)) (sym are) sound)
-    where
-      each : (ns : List (Arc (Node (Leaf X)) Global)) → AreFilled (map (λ node. node.value.parts) ns) → AreSound leaf_items (IsDated stamp) (pieces_items (map (λ node. node.value.parts) ns)) → AreSound node_items (IsFilled stamp) ns
-      each [] h good = tt
-      each (n ∷ ns) h good =
-          let leaves = n.value.parts.items in
-          let later = pieces_items (map (λ node. node.value.parts) ns) in
-          let own = sound_front leaf_items (IsDated stamp) leaves later (leaves ++ later) refl good in
-          ((own, some_items leaf_items (IsDated stamp) leaves own h.0), each ns h.1 (sound_back leaf_items (IsDated stamp) leaves later (leaves ++ later) refl good))
+  abbrev pub FitsNode : Vec (Arc (Leaf X) Global) Global → Type 0
+  FitsNode piece = (AreSound leaf_items (IsDated stamp) piece.items) × (0 < length (in_leaves piece))
 
--- what was made of the pieces that are gone over, when none is left
-pub all_made : {A B : Type 0} (f : A → B) (made : List A) (left all : List B) → left ≡ [] → map f made ++ left ≡ all → map f made ≡ all
-all_made f made left all none so_far = sym (append-nil (map f made)) ∙ ap (λ xs. map f made ++ xs) (sym none) ∙ so_far
+  abbrev pub NodesSoFar : List (Arc (Node (Leaf X)) Global) → List (Vec (Arc (Leaf X) Global) Global) → List (Vec (Arc (Leaf X) Global) Global) → Type 0
+  NodesSoFar = MadeSoFar node_items (IsFilled stamp) in_leaves FitsNode
+
+  pub all_in_leaves : (pieces : List (Vec (Arc (Leaf X) Global) Global)) → flat_map in_leaves pieces ≡ items_in leaf_items (pieces_items pieces)
+  all_in_leaves [] = refl
+  all_in_leaves (p ∷ ps) =
+      ap (λ xs. in_leaves p ++ xs) (all_in_leaves ps) ∙ join_parts leaf_items p.items (pieces_items ps) _ refl
+
+  pub fit_nodes : (pieces : List (Vec (Arc (Leaf X) Global) Global)) → AreFilled pieces → AreSound leaf_items (IsDated stamp) (pieces_items pieces) → AllByRecursion FitsNode pieces
+  fit_nodes [] filled good = tt
+  fit_nodes (p ∷ ps) filled good =
+      let own = sound_front leaf_items (IsDated stamp) p.items (pieces_items ps) (p.items ++ pieces_items ps) refl good in
+      ((own, some_items leaf_items (IsDated stamp) p.items own filled.0), fit_nodes ps filled.1 (sound_back leaf_items (IsDated stamp) p.items (pieces_items ps) (p.items ++ pieces_items ps) refl good))

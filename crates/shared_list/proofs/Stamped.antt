@@ -1,5 +1,5 @@
 -- Stamps of items after a change, and what is newer than a stamp.
-use Rattle.std.proofs.Common.{◌≡◌, ℕ, zero, suc, ◌<◌, ◌≤◌, List, [], ◌∷◌, ◌++◌, Bool, true, false, cond, not, length, map, take, get_or, filter, refl, sym, ap, ◌∙◌, subst, arith}
+use Rattle.std.proofs.Common.{◌≡◌, ℕ, zero, suc, ◌+◌, ◌<◌, ◌≤◌, List, [], ◌∷◌, ◌++◌, Bool, true, false, cond, not, length, map, take, get_or, filter, refl, sym, ap, ◌∙◌, subst, arith}
 use Rattle.std.specs.Prelude.{ltb}
 use Rattle.std.specs.List.{AllByRecursion}
 use Rattle.std.specs.Ordering.{eq_by_cmp}
@@ -14,6 +14,7 @@ use Rattle.std.specs.declared.alloc.Global.{Global}
 use Rattle.shared_list.specs.Order.{entries, without}
 use Rattle.shared_list.specs.Parts.{items_in, AreSound}
 use Rattle.shared_list.specs.Stamps.{NoneAbove, newer}
+use Rattle.shared_list.proofs.Each.{each_before, each_behind}
 
 module _ {X : Type 0} (stamp : X → ℕ) where
   -- what no item is above, no item is above what is no less
@@ -21,11 +22,26 @@ module _ {X : Type 0} (stamp : X → ℕ) where
   none_above_more n m [] more none = tt
   none_above_more n m (x ∷ xs) more none = (omega (arith, none.0), none_above_more n m xs more none.1)
 
-  -- one item more is gone over
-  pub none_above_next : (n m i : ℕ) (xs : List X) (x : X) → NoneAbove stamp n (take i xs) → x ≡ get_or xs i x → i < length xs → n ≤ m → stamp x ≤ m → NoneAbove stamp m (take (suc i) xs)
-  none_above_next n m i [] x none is less more own = tt
-  none_above_next n m zero (y ∷ xs) x none is less more own = (subst (λ z. stamp z ≤ m) is own, tt)
-  none_above_next n m (suc i) (y ∷ xs) x none is less more own = (omega (arith, none.0), none_above_next n m i xs x none.1 is (omega arith) more own)
+  none_above_both : (n : ℕ) (xs ys : List X) → NoneAbove stamp n xs → NoneAbove stamp n ys → NoneAbove stamp n (xs ++ ys)
+  none_above_both n [] ys front back = back
+  none_above_both n (x ∷ xs) ys front back = (front.0, none_above_both n xs ys front.1 back)
+
+  module _ {P : Type 0} (items : P → List X) where
+    parts_more : (n own m i : ℕ) (parts : List (Arc P Global)) (part : Arc P Global) → NoneAbove stamp n (items_in items (take i parts)) → part ≡ get_or parts i part → i < length parts → n ≤ m → NoneAbove stamp own (items part.value) → own ≤ m → NoneAbove stamp m (items_in items (take (suc i) parts))
+    parts_more n own m i [] part none is less more here fits = tt
+    parts_more n own m zero (p ∷ parts) part none is less more here fits =
+        none_above_both m (items p.value) [] (subst (λ q. NoneAbove stamp m (items q.value)) is (none_above_more own m (items part.value) fits here)) tt
+    parts_more n own m (suc i) (p ∷ parts) part none is less more here fits =
+        let back = items_in items (take i parts) in
+        none_above_both m (items p.value) (items_in items (take (suc i) parts))
+        (none_above_more n m (items p.value) more (each_before (λ x. stamp x ≤ n) (items p.value) back none))
+        (parts_more n own m i parts part (each_behind (λ x. stamp x ≤ n) (items p.value) back none) is (omega arith) more here fits)
+
+    -- one part more is gone over
+    pub parts_next : (n own m i j : ℕ) (parts : List (Arc P Global)) (part : Arc P Global) → j ≡ i + 1 → NoneAbove stamp n (items_in items (take i parts)) → part ≡ get_or parts i part → i < length parts → n ≤ m → NoneAbove stamp own (items part.value) → own ≤ m → NoneAbove stamp m (items_in items (take j parts))
+    parts_next n own m i j parts part later none is less more here fits =
+        let next : j ≡ suc i = omega arith in
+        subst (λ k. NoneAbove stamp m (items_in items (take k parts))) (sym next) (parts_more n own m i parts part none is less more here fits)
 
   module _ {K : Type 0} (cmp : K → K → Ordering) (key : X → K) where
     abbrev EntriesUpTo : ℕ → List (K × X) → Type 0

@@ -56,11 +56,17 @@ leaf_items leaf = leaf.items.items
 abbrev pub IsDated : {X : Type 0} → (X → ℕ) → Leaf X → Type 0
 IsDated stamp leaf = NoneAbove stamp leaf.newest leaf.items.items
 
+-- each part of a node is sound, and no item is newer than the node says
+abbrev pub IsNode : {P X : Type 0} → (P → List X) → (P → Type 0) → (X → ℕ) → Node P → Type 0
+IsNode items sound stamp node =
+    (AreSound items sound node.parts.items)
+    × (NoneAbove stamp node.newest (items_in items node.parts.items))
+
 abbrev pub node_items : {X : Type 0} → Node (Leaf X) → List X
 node_items node = items_in leaf_items node.parts.items
 
 abbrev pub IsFilled : {X : Type 0} → (X → ℕ) → Node (Leaf X) → Type 0
-IsFilled stamp node = AreSound leaf_items (IsDated stamp) node.parts.items
+IsFilled stamp node = IsNode leaf_items (IsDated stamp) stamp node
 
 -- what is true of the nodes of a list with so many items
 pub record AreNodes {K X : Type 0} (cmp : K → K → Ordering) (key : X

@@ -26,8 +26,8 @@ use std::mem;
 #[derive(Drop)]
 pub(crate) struct Leaf<T> {
     pub(crate) items: Vec<T>,
-    // No item has a stamp above it. It was the greatest of them when the leaf was made.
-    pub(crate) newest: u64,
+    // No item has a stamp above it.
+    newest: u64,
 }
 
 impl<T: Keyed> Leaf<T> {
@@ -147,6 +147,10 @@ impl<T: Keyed> Part for Leaf<T> {
             Ok(at) => Some(&self.items[at]),
             Err(_) => None,
         }
+    }
+
+    fn newest(&self) -> u64 {
+        self.newest
     }
 
     fn copied(&self, more: usize) -> Result<Self, NoMemory> {

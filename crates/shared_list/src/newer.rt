@@ -9,6 +9,7 @@ ghost use Rattle.shared_list.specs.Stamps.{newer};
 use crate::keyed::Keyed;
 use crate::leaf::Leaf;
 use crate::node::Node;
+use crate::part::Part;
 use std::marker::Model;
 use std::sync::Arc;
 
@@ -85,7 +86,7 @@ fn newer_in_leaf<'a, T: Keyed>(leaf: &'a Leaf<T>, than: u64) -> Option<(&'a T, &
         (λ found. newer T.stamp_of than (leaf_items leaf.entry.now)
         ≡ found.0.now ∷ newer T.stamp_of than found.1.now) }
 {
-    if leaf.newest > than {
+    if leaf.newest() > than {
         newer_item(leaf.items.as_slice(), than)
     } else {
         None
@@ -117,6 +118,23 @@ fn newer_in_leaves<'a, T: Keyed>(leaves: &'a [Arc<Leaf<T>>], than: u64) -> Optio
     None
 }
 
+/// The same of the leaves of a node, which is passed over where it has none.
+fn newer_in_node<'a, T: Keyed>(node: &'a Node<Leaf<T>>, than: u64) -> Option<Found<'a, T>>
+    requires { IsFilled T.stamp_of node.now }
+    ensures step { MatchOption result (newer T.stamp_of than (node_items node.entry.now) ≡ [])
+        (λ found. newer T.stamp_of than (node_items node.entry.now)
+        ≡ found.item.now
+        ∷ newer T.stamp_of than (found.items.now ++ items_in leaf_items found.leaves.now)) }
+    ensures sound { IfSome result (λ found.
+        AreSound leaf_items (IsDated T.stamp_of) found.leaves.now) }
+{
+    if node.newest() > than {
+        newer_in_leaves(node.parts.as_slice(), than)
+    } else {
+        None
+    }
+}
+
 /// The same of the items of nodes, and the nodes behind the one in which it stands.
 fn newer_in_nodes<'a, T: Keyed>(
     nodes: &'a [Arc<Node<Leaf<T>>>],
@@ -135,7 +153,7 @@ fn newer_in_nodes<'a, T: Keyed>(
 {
     let mut left = nodes;
     'nodes: while let Some((node, nodes)) = left.split_first() {
-        if let Some(found) = newer_in_leaves(node.parts.as_slice(), than) {
+        if let Some(found) = newer_in_node(&**node, than) {
             return Some((found, nodes));
         }
         left = nodes;

@@ -62,7 +62,7 @@ fn nodes_over<T: Keyed>(
 {
     let mut nodes = Vec::with_capacity(alloc, pieces.len())?;
     for parts in pieces {
-        nodes.push(Arc::new(alloc, Node { parts })?)?;
+        nodes.push(Arc::new(alloc, Node::of(parts))?)?;
     }
     Ok(nodes)
 }

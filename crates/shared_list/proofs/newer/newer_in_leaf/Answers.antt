@@ -2,5 +2,5 @@
 use Rattle.shared_list.proofs.Stamped.{none_newer}
 use Rattle.shared_list.proofs.newer.newer_in_leaf.Goals as goal
 
-pub returns-else-leaf-than : goal.returns-else-leaf-than
-returns-else-leaf-than g c = none_newer g.T.Keyed.stamp_of c.args.leaf.now.newest c.args.than c.args.leaf.now.items.items c.requires c.if-leaf-than.false
+pub returns-else-newest-than : goal.returns-else-newest-than
+returns-else-newest-than g c = none_newer g.T.Keyed.stamp_of c.newest.result c.args.than c.args.leaf.now.items.items c.newest.ensures c.if-newest-than.false
