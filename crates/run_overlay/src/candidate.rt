@@ -65,6 +65,13 @@ impl Keyed for Candidate {
 
     ghost key_cmp = { candidate_cmp };
 
+    // Nobody asks which are newer.
+    ghost stamp_of = { λ _. 0 };
+
+    fn stamp(&self) -> u64 {
+        0
+    }
+
     fn order(&self, other: &Self) -> Ordering {
         match self.mention.run.cmp(&other.mention.run) {
             Ordering::Less => Ordering::Less,

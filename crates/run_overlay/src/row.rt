@@ -103,6 +103,13 @@ impl Keyed for LiveRow {
 
     ghost key_cmp = { row_cmp };
 
+    // Nobody asks which are newer.
+    ghost stamp_of = { λ _. 0 };
+
+    fn stamp(&self) -> u64 {
+        0
+    }
+
     fn order(&self, other: &Self) -> Ordering {
         row_order(self, other)
     }

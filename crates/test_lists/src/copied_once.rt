@@ -55,6 +55,13 @@ impl Keyed for Tallied {
 
     ghost key_cmp = { nat_cmp };
 
+    // Nobody asks which are newer.
+    ghost stamp_of = { λ _. 0 };
+
+    fn stamp(&self) -> u64 {
+        0
+    }
+
     fn order(&self, other: &Self) -> Ordering {
         self.number.cmp(&other.number)
     }

@@ -67,6 +67,13 @@ impl Keyed for Due {
     ghost key_cmp = { λ a b. ordering_then (nat_cmp a.0 b.0)
         (ordering_then (int_cmp a.1.0 b.1.0) (slice_cmp nat_cmp a.1.1 b.1.1)) };
 
+    // Nobody asks which are newer.
+    ghost stamp_of = { λ _. 0 };
+
+    fn stamp(&self) -> u64 {
+        0
+    }
+
     fn order(&self, other: &Self) -> Ordering {
         in_turn(
             self.stop.cmp(&other.stop),
