@@ -23,9 +23,10 @@ of-requires g c =
     sound_back g.P.Part.items g.P.Part.sound c.split_off.new.items.items c.in-Some.parts.items c.put_shared.new.parts.items (rw c.in-Some.is at c.in_ok-parts.ensures.parts) c.in_ok-replaced.ensures.sound
 
 pub returns-in-Some-clause-sound : goal.returns-in-Some-clause-sound
-returns-in-Some-clause-sound g c =
-    (sound_front g.P.Part.items g.P.Part.sound c.split_off.new.items.items c.in-Some.parts.items c.put_shared.new.parts.items (rw c.in-Some.is at c.in_ok-parts.ensures.parts) c.in_ok-replaced.ensures.sound,
-    rw c.as_slice.ensures.value at c.newest_in-self.ensures)
+returns-in-Some-clause-sound g c = (
+  sound_front g.P.Part.items g.P.Part.sound c.split_off.new.items.items c.in-Some.parts.items c.put_shared.new.parts.items (rw c.in-Some.is at c.in_ok-parts.ensures.parts) c.in_ok-replaced.ensures.sound,
+  rw c.as_slice.ensures.value at c.newest_in-self.ensures,
+)
 
 pub returns-in-Some-clause-back : goal.returns-in-Some-clause-back
 returns-in-Some-clause-back g c =
@@ -47,8 +48,9 @@ returns-in-None-clause-front g c =
 
 pub returns-in-None-clause-sound : goal.returns-in-None-clause-sound
 returns-in-None-clause-sound g c =
-    let whole : c.split_off.new.items.items ++ [] ≡ c.put_shared.new.parts.items = rw c.in-None.is at c.in_ok-parts.ensures.parts in
-    (sound_front g.P.Part.items g.P.Part.sound c.split_off.new.items.items [] c.put_shared.new.parts.items whole c.in_ok-replaced.ensures.sound,
-    none_above_put g.P.Item.Keyed.stamp_of g.P.Item.Keyed.key_cmp g.P.Item.Keyed.key_of c.args.self.now.newest c.max-newest.result (g.P.Item.Keyed.key_of c.args.item) c.args.item (items_in g.P.Part.items c.args.self.now.parts.items) (items_in g.P.Part.items c.split_off.new.items.items)
-    c.requires.sound.1 (omega (arith, c.max-newest.ensures)) (omega (arith, c.max-newest.ensures, c.stamp.ensures))
-    (ap (λ parts. entries g.P.Item.Keyed.key_of (items_in g.P.Part.items parts)) (sym (append-nil c.split_off.new.items.items) ∙ whole) ∙ c.in_ok-replaced.ensures.put))
+    let whole : c.split_off.new.items.items ++ [] ≡ c.put_shared.new.parts.items = rw c.in-None.is at c.in_ok-parts.ensures.parts in (
+      sound_front g.P.Part.items g.P.Part.sound c.split_off.new.items.items [] c.put_shared.new.parts.items whole c.in_ok-replaced.ensures.sound,
+      none_above_put g.P.Item.Keyed.stamp_of g.P.Item.Keyed.key_cmp g.P.Item.Keyed.key_of c.args.self.now.newest c.max-newest.result (g.P.Item.Keyed.key_of c.args.item) c.args.item (items_in g.P.Part.items c.args.self.now.parts.items) (items_in g.P.Part.items c.split_off.new.items.items)
+          c.requires.sound.1 (omega (arith, c.max-newest.ensures)) (omega (arith, c.max-newest.ensures, c.stamp.ensures))
+          (ap (λ parts. entries g.P.Item.Keyed.key_of (items_in g.P.Part.items parts)) (sym (append-nil c.split_off.new.items.items) ∙ whole) ∙ c.in_ok-replaced.ensures.put),
+    )
