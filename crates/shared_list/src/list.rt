@@ -174,8 +174,8 @@ impl<T: Keyed> SharedList<T> {
         Iter::starting(self.nodes.as_slice(), key)
     }
 
-    /// The items whose stamps are above the given one, in the order of their keys. A leaf in which there are none is
-    /// passed over by one comparison.
+    /// The items whose stamps are above the given one, in the order of their keys. Nodes and leaves in which nothing
+    /// is newer are passed over by one comparison each.
     pub fn newer(&self, than: u64) -> Newer<'_, T>
         ensures { result ≡ newer T.stamp_of than (map (λ entry. entry.1) self.entry.now) }
     {
