@@ -12,7 +12,8 @@ use crate::shared::part_and_rest;
 use std::marker::Model;
 use std::sync::Arc;
 
-/// The items of a list, in the order of their keys. A contract sees the list of those that are left.
+/// The items of a list, in the order of their keys. A contract sees the list of those that are
+/// left.
 #[derive(Drop)]
 pub struct Iter<'a, T: Keyed> {
     items: &'a [T],

@@ -13,8 +13,8 @@ use crate::part::Part;
 use std::marker::Model;
 use std::sync::Arc;
 
-/// The items of a list whose stamps are above a given one, in the order of their keys. A contract sees the list of
-/// those that are left.
+/// The items of a list whose stamps are above a given one, in the order of their keys. A contract
+/// sees the list of those that are left.
 #[derive(Drop)]
 pub struct Newer<'a, T: Keyed> {
     than: u64,
@@ -55,7 +55,8 @@ impl<'a, T: Keyed> Newer<'a, T> {
     }
 }
 
-/// An item with a stamp above the one asked for, and what stands behind it in its leaf and in its node.
+/// An item with a stamp above the one asked for, and what stands behind it in its leaf and in its
+/// node.
 #[derive(Drop)]
 struct Found<'a, T> {
     item: &'a T,

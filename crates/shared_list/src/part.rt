@@ -39,7 +39,8 @@ pub(crate) trait Part: Drop {
     // Its items in order.
     ghost items: { Self → List Self.Item };
 
-    // What holds of it beside the order of its items: no part within it is empty, and no item is newer than it says.
+    // What holds of it beside the order of its items: no part within it is empty, and no item is
+    // newer than it says.
     ghost sound: { Self → Type 0 };
 
     // How the key of its first item stands to another.
@@ -66,7 +67,8 @@ pub(crate) trait Part: Drop {
         requires sound { sound self.now }
         ensures { NoneAbove Self.Item.stamp_of result (items self.now) };
 
-    /// A part with the same items and room for so many more, which shares with this one what it can.
+    /// A part with the same items and room for so many more, which shares with this one what it
+    /// can.
     fn copied(&self, more: usize) -> Result<Self, NoMemory>
         requires sound { sound self.now }
         ensures items { IfOk result (λ same. items same ≡ items self.now) }

@@ -13,7 +13,8 @@ use crate::split::{LEAF_MOST, NODE_MOST};
 use std::alloc::Global;
 use std::sync::Arc;
 
-/// Cuts items into pieces of so many at most, in their order, none of them empty. All but the first are full.
+/// Cuts items into pieces of so many at most, in their order, none of them empty. All but the first
+/// are full.
 fn pieces_of<X: Drop>(alloc: Global, items: Vec<X>, most: usize) -> Result<Vec<Vec<X>>, NoMemory>
     requires { 0 < most }
     ensures items { IfOk result (λ pieces.
