@@ -18,7 +18,7 @@ use Rattle.feed_defs.specs.Rows.{message_bytes}
 use Rattle.feed_defs.specs.Table.{entity}
 use Rattle.feed_write.specs.Entities.{entity_field}
 use Rattle.delta_defs.specs.Changes.{is_same}
-use Rattle.delta_out.specs.Sent.{IsShort}
+use Rattle.delta_feed.specs.Sent.{IsShort}
 
 abbrev of_bytes : List ℕ → Written
 of_bytes bytes = record { number = 2; payload = Span bytes }

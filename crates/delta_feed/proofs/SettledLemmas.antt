@@ -1,4 +1,4 @@
--- What is no newer than a feed's stamp at an earlier view was held then, so nothing of it is sent.
+-- What is no newer than the stamp that a feed had was held then, so nothing of it is sent.
 use Rattle.std.proofs.Common.{◌≡◌, inl, inr, ◌≤◌, ℕ, List, [], ◌∷◌, ◌++◌, map, Bool, true, false, Option, Some, None, refl, sym, ap, ◌∙◌, subst, append-nil, arith}
 use Rattle.std.specs.Prelude.{nat_le, Result, OnOk, if◌then◌else◌}
 use Rattle.std.specs.List.{AllByRecursion}
@@ -12,22 +12,19 @@ use Rattle.feed_defs.specs.declared.history.Stored.{Stored}
 use Rattle.feed_defs.specs.History.{Change}
 use Rattle.feed_defs.specs.Rows.{message_bytes}
 use Rattle.feed_defs.specs.Table.{entity}
-use Rattle.feed_defs.proofs.Sifted.{each_then}
-use Rattle.board_defs.specs.Feeds.{HubFeed, schedule_feeds}
-use Rattle.board_defs.specs.Fold.{FeedFold}
-use Rattle.board_defs.specs.Views.{HubKept, folds_of}
-use Rattle.delta_defs.specs.Changes.{is_same, held_under, held_before, ids_of_both}
-use Rattle.delta_defs.specs.Kept.{KeptView}
-use Rattle.delta_defs.specs.OneHistory.{AreOfOneHistory, stamp_before}
+use Rattle.delta_defs.specs.Changes.{is_same, held_under, ids_of_both}
+use Rattle.delta_defs.specs.OneHistory.{HoldsSince}
 use Rattle.delta_defs.proofs.IdOrder.{so_back}
-use Rattle.delta_defs.proofs.OneHistory.{IsHeldSince, all_held_since}
-use Rattle.delta_out.specs.Pairs.{IdPair, pair_under, pairs_of}
-use Rattle.delta_out.specs.Sent.{entity_sent, field_of, pair_field, named_entity, is_held_no_newer, is_no_newer, IsSettled, IsSettledFeed, IsShort, AreShort, IsShortPair}
+use Rattle.delta_feed.specs.Pairs.{IdPair, pair_under, pairs_of}
+use Rattle.delta_feed.specs.Sent.{entity_sent, field_of, pair_field, named_entity, is_held_no_newer, is_no_newer, IsSettled, IsShort, AreShort, IsShortPair}
 
 -- ---- what was held is not sent
 
 some_is : (a b : Stored) → Some a ≡ Some b → a ≡ b
 some_is a b e = cc
+
+none_some : (a : Stored) → None ≡ Some a → ⊥
+none_some a e = cc
 
 is_itself : (e : Entity) → is_same e e ≡ true
 is_itself e = so_back (is_same e e) ((bytes_eq-Decides (message_bytes entity e) (message_bytes entity e)).1 refl)
@@ -54,22 +51,20 @@ passed_short prefix name stamp pair settled told = short_itself prefix name pair
 pub compared_short : (prefix name : List ℕ) (w s : Stored) (result : Result Unit AllocError) → OnOk result (IsShort (named_entity prefix name w.entity) × IsShort (named_entity prefix name s.entity)) → OnOk result (AreShort prefix name (Some w) (Some s))
 compared_short prefix name w s result short = on_ok_weaker result (λ both. inr both) short
 
--- ---- each id of each feed
+-- ---- each id
 
-by_stamp : (stamp : ℕ) (was is : Option Stored) → ((w s : Stored) → was ≡ Some w → is ≡ Some s → s.stamp ≤ stamp → w ≡ s) → is_held_no_newer stamp was is ≡ true → was ≡ is
-by_stamp stamp (Some w) (Some s) held told = ap Some (held w s refl refl (grind (arith, nat_tests)))
-by_stamp stamp (Some w) None held told = absurd (cc)
-by_stamp stamp None is held told = absurd (cc)
+settled : (stamp : ℕ) (old new : List Change) → HoldsSince stamp old new → (id : List ℕ) (was is : Option Stored) → held_under id old ≡ was → held_under id new ≡ is → is_held_no_newer stamp was is ≡ true → was ≡ is
+settled stamp old new holds id (Some w) (Some s) before now told = by_then (holds.was_held id s now (grind (arith, nat_tests)))
+  where
+    by_then : (held_under id old ≡ Some s) ⊎ (old ≡ []) → ◌≡◌ {A = Option Stored} (Some w) (Some s)
+    by_then (inl there) = sym before ∙ there
+    by_then (inr nothing) = absurd (none_some w (sym (ap (held_under id) nothing) ∙ before))
+settled stamp old new holds id (Some w) None before now told = absurd (cc)
+settled stamp old new holds id None is before now told = absurd (cc)
 
-each_id : (stamp : ℕ) (old new : List Change) → ((id : List ℕ) (w s : Stored) → held_under id old ≡ Some w → held_under id new ≡ Some s → s.stamp ≤ stamp → w ≡ s) → (ids : List (List ℕ)) → AllByRecursion (IsSettled stamp) (map (pair_under old new) ids)
-each_id stamp old new held [] = tt
-each_id stamp old new held (id ∷ ids) = (by_stamp stamp (held_under id old) (held_under id new) (held id), each_id stamp old new held ids)
-
-one_settled : (old : List FeedFold) (one : HubFeed) → IsHeldSince old one → IsSettledFeed old one
-one_settled old one held = each_id (stamp_before old one) (held_before old one) one.fold.entities held (ids_of_both (held_before old one) one.fold.entities)
-
-pub all_settled : (view : HubKept) (plan : ℕ) (old : KeptView) (folds : List FeedFold) (feeds : List HubFeed) → AreOfOneHistory (old ∷ []) view → folds ≡ old.folds → feeds ≡ schedule_feeds plan view.plans.feeds (folds_of view) → AllByRecursion (IsSettledFeed folds) feeds
-all_settled view plan old folds feeds one same its_feeds =
-    subst (AllByRecursion (IsSettledFeed folds)) (sym its_feeds)
-    (subst (λ (fs : List FeedFold). AllByRecursion (IsSettledFeed fs) (schedule_feeds plan view.plans.feeds (folds_of view))) (sym same)
-    (each_then (one_settled old.folds) (schedule_feeds plan view.plans.feeds (folds_of view)) (all_held_since plan old view one)))
+pub all_settled : (stamp : ℕ) (old new : List Change) → HoldsSince stamp old new → AllByRecursion (IsSettled stamp) (pairs_of old new)
+all_settled stamp old new holds = each_id (ids_of_both old new)
+  where
+    each_id : (ids : List (List ℕ)) → AllByRecursion (IsSettled stamp) (map (pair_under old new) ids)
+    each_id [] = tt
+    each_id (id ∷ ids) = (settled stamp old new holds id (held_under id old) (held_under id new) refl refl, each_id ids)

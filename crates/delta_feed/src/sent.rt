@@ -6,9 +6,10 @@ ghost use Rattle.std.specs.Str.{bytes_eq};
 ghost use Rattle.feed_defs.specs.Combined.{entity_under_feed};
 ghost use Rattle.feed_write.specs.Entities.{entity_field};
 ghost use Rattle.delta_defs.specs.Changes.{gone, is_same};
-ghost use Rattle.delta_out.specs.Pairs.{pairs_of};
-ghost use Rattle.delta_out.specs.Sent as rule;
-ghost use Rattle.delta_out.specs.Sent.{named_entity, pair_field, IsShort, IsShortPair, IsSettled};
+ghost use Rattle.delta_defs.specs.OneHistory.{HoldsSince};
+ghost use Rattle.delta_feed.specs.Pairs.{pairs_of};
+ghost use Rattle.delta_feed.specs.Sent as rule;
+ghost use Rattle.delta_feed.specs.Sent.{named_entity, pair_field, IsShort, IsShortPair, IsSettled};
 
 use crate::NoMemory;
 use crate::pairs::{Pair, Pairs};
@@ -18,7 +19,8 @@ use rt_types::{Bytes, Entity, Text};
 
 /// Appends what changed in the feed of that name, which held the one up to that stamp and holds the other, by id; or as
 /// much as memory allows. The ids of the timetable are behind the prefix.
-pub(crate) fn push_feed(
+#[tactic(auto, using(crate::proofs::SettledLemmas::all_settled))]
+pub fn push_feed(
     feed: &str,
     prefix: &str,
     old: &Table,
@@ -26,7 +28,7 @@ pub(crate) fn push_feed(
     new: &Table,
     out: &mut Vec<u8>,
 ) -> Result<(), NoMemory>
-    requires { AllByRecursion (IsSettled stamp) (pairs_of old.now new.now) }
+    requires { HoldsSince stamp old.now new.now }
     ensures sent { OnOk result (out.new.items
         ≡ out.old.items ++ flat_map (pair_field prefix.now feed.now) (pairs_of old.now new.now)) }
     ensures short { OnOk result (AllByRecursion (IsShortPair prefix.now feed.now)

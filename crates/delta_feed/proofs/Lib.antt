@@ -1,0 +1,3 @@
+pub mod PairLemmas
+pub mod SentLemmas
+pub mod SettledLemmas
