@@ -77,7 +77,7 @@ same_ids (x ∷ xs) (y ∷ ys) rises others among few =
     by_order : (r : Ordering) → id_cmp x.0 y.0 ≡ r → (IsAmong xs ys → length ys ≤ length xs → map (λ c. c.0) xs ≡ map (λ c. c.0) ys) → map (λ (c : Change). c.0) (x ∷ xs) ≡ map (λ c. c.0) (y ∷ ys)
     by_order Less l rest = absurd (none_before x y xs ys rises others among l)
     by_order Equal e rest = λ i. same_id x.0 y.0 e i ∷ rest (both_behind x y xs ys rises others among e) (omega (arith, few)) i
-    by_order Greater g rest = let fits = no_longer (x ∷ xs) ys rises (right _ _ others) (all_behind x y xs ys rises others among g) in absurd (omega (arith, few, fits))
+    by_order Greater g rest = absurd (omega (arith, few, no_longer (x ∷ xs) ys rises (right _ _ others) (all_behind x y xs ys rises others among g)))
 
 -- what is in a list is told by its ids
 told_by_ids : (q : List ℕ) (es : List Change) → has q es ≡ list_any (eq_by_cmp id_cmp q) (map (λ c. c.0) es)

@@ -130,7 +130,7 @@ module _ (stamp : ℕ) (xs : List Stored) (rises : T (is_sorted id_cmp (by_own_i
         as_few =
             let parts = count_parts old xs in
             let all = kept_all (is_added old) (is_newer stamp) xs (each_then added_newer xs older_held) in
-            let own = length-map kept (λ (s : Stored). (s.entity.id, s)) in
+            let own : length (by_own_id kept) ≡ length kept = length-map kept (λ s. (s.entity.id, s)) in
             omega arith
 
         ids : map (λ c. c.0) (by_own_id kept) ≡ map (λ c. c.0) old
@@ -143,13 +143,13 @@ module _ (stamp : ℕ) (xs : List Stored) (rises : T (is_sorted id_cmp (by_own_i
 
 lost_none : (stamp : ℕ) (old : List Change) (xs : List Stored) → T (is_sorted id_cmp old) → T (is_sorted id_cmp (by_own_id xs)) → HoldsSince stamp old (by_own_id xs)
     → length xs ≡ length old + length (filter (is_added old) (filter (is_newer stamp) xs)) → HasLostNone stamp old xs
-lost_none stamp [] xs before rises holds as_many = of_none stamp xs rises as_many
+lost_none stamp [] xs before rises holds as_many = of_none stamp xs rises (as_many ∙ omega arith)
 lost_none stamp (o ∷ old) xs before rises holds as_many = of_some stamp xs rises (o ∷ old) before (λ e. cc) holds as_many
 
 -- ---- what is sent
 
 module _ (stamp : ℕ) (old : List Change) (xs : List Stored) (before : T (is_sorted id_cmp old)) (rises : T (is_sorted id_cmp (by_own_id xs))) (none : HasLostNone stamp old xs) where
-  union : List Change
+  abbrev union : List Change
   union = changes_by_id (old ++ by_own_id xs)
 
   in_union : (q : List ℕ) → has q union ≡ is_some (or_else (find id_cmp q old) (find id_cmp q (by_own_id xs)))

@@ -1,5 +1,5 @@
 -- What is no newer than the stamp that a feed had was held then, so nothing of it is sent.
-use Rattle.std.proofs.Common.{◌≡◌, inl, inr, ◌≤◌, ℕ, List, [], ◌∷◌, ◌++◌, map, Bool, true, false, Option, Some, None, refl, sym, ap, ◌∙◌, subst, append-nil, arith}
+use Rattle.std.proofs.Common.{◌≡◌, ◌⊎◌, inl, inr, ◌≤◌, ℕ, List, [], ◌∷◌, ◌++◌, map, Bool, true, false, Option, Some, None, refl, sym, ap, ◌∙◌, subst, append-nil, arith}
 use Rattle.std.specs.Prelude.{nat_le, Result, OnOk, if◌then◌else◌}
 use Rattle.std.specs.List.{AllByRecursion}
 use Rattle.std.specs.Str.{bytes_eq}
@@ -14,7 +14,6 @@ use Rattle.feed_defs.specs.Rows.{message_bytes}
 use Rattle.feed_defs.specs.Table.{entity}
 use Rattle.delta_defs.specs.Changes.{is_same, held_under, ids_of_both}
 use Rattle.delta_defs.specs.OneHistory.{HoldsSince}
-use Rattle.delta_defs.proofs.IdOrder.{so_back}
 use Rattle.delta_feed.specs.Pairs.{IdPair, pair_under, pairs_of}
 use Rattle.delta_feed.specs.Sent.{entity_sent, field_of, pair_field, named_entity, is_held_no_newer, is_no_newer, IsSettled, IsShort, AreShort, IsShortPair}
 
@@ -27,9 +26,9 @@ none_some : (a : Stored) → None ≡ Some a → ⊥
 none_some a e = cc
 
 is_itself : (e : Entity) → is_same e e ≡ true
-is_itself e = so_back (is_same e e) ((bytes_eq-Decides (message_bytes entity e) (message_bytes entity e)).1 refl)
+is_itself e = (bytes_eq-Decides (message_bytes entity e) (message_bytes entity e)).1 refl
 
-nothing_sent : (prefix name id : List ℕ) (was is : Option Stored) → was ≡ is → field_of (entity_sent prefix name id was is) ≡ []
+pub nothing_sent : (prefix name id : List ℕ) (was is : Option Stored) → was ≡ is → field_of (entity_sent prefix name id was is) ≡ []
 nothing_sent prefix name id was None same = ap (λ o. field_of (entity_sent prefix name id o None)) same
 nothing_sent prefix name id was (Some s) same =
     ap (λ o. field_of (entity_sent prefix name id o (Some s))) same
@@ -39,7 +38,7 @@ pub passed_over : (prefix name : List ℕ) (stamp : ℕ) (pair : IdPair) (before
 passed_over prefix name stamp pair before settled told =
     sym (append-nil before) ∙ ap (λ bytes. before ++ bytes) (sym (nothing_sent prefix name pair.id pair.was pair.is (settled (sym told))))
 
-short_itself : (prefix name : List ℕ) (was is : Option Stored) → was ≡ is → AreShort prefix name was is
+pub short_itself : (prefix name : List ℕ) (was is : Option Stored) → was ≡ is → AreShort prefix name was is
 short_itself prefix name (Some w) (Some s) same = inl (some_is w s same)
 short_itself prefix name (Some w) None same = tt
 short_itself prefix name None is same = tt
