@@ -2,7 +2,7 @@
 use Rattle.std.proofs.Common.{◌≡◌, ◌++◌}
 use Rattle.std.specs.List.{flat_map, AllByRecursion}
 use Rattle.delta_feed.specs.Sent.{pair_field, IsSettled, IsShortPair}
-use Rattle.delta_feed.proofs.sent.push_feed.Given as goal
+use Rattle.delta_feed.proofs.feed.push_all.Given as goal
 
 abbrev pub invariant-loop-pair : goal.invariant-loop-pair
 invariant-loop-pair l = record {
