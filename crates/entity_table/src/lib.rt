@@ -5,7 +5,8 @@
 //! more and leaves the given one; the two share every entity that the message does not touch, and what they
 //! take up together grows with the message and hardly with the table. Its steps can be taken one by one: `start` is
 //! what a message goes on from, `with` and `without` change a table at one id, and `share` keeps the table that is
-//! changed. Each change also gives what the id had before. An entity goes in as a `SharedStored`, of which another
+//! changed. Each change also gives what the id had before. `newer` gives what came after a stamp, and passes over what
+//! the table shares with earlier ones. An entity goes in as a `SharedStored`, of which another
 //! table may hold a further share. `first_table` takes the entities out of a message that goes
 //! on from nothing, and makes the table of them at once.
 //!
@@ -23,4 +24,4 @@ pub use feed_defs::Stored;
 pub use first::first_table;
 pub use std::alloc::AllocError as NoMemory;
 pub use stored::SharedStored;
-pub use table::{Table, TableIter};
+pub use table::{NewerEntities, Table, TableIter};

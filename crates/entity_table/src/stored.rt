@@ -61,6 +61,12 @@ impl Keyed for SharedStored {
 
     ghost key_cmp = { slice_cmp nat_cmp };
 
+    ghost stamp_of = { λ stored. stored.stamp };
+
+    fn stamp(&self) -> u64 {
+        self.get().stamp
+    }
+
     fn order(&self, other: &Self) -> Ordering {
         self.get().entity.id.order(other.get().entity.id.as_str())
     }

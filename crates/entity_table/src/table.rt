@@ -8,11 +8,12 @@ ghost use Rattle.std.specs.Option.{option_copied};
 ghost use Rattle.std.specs.Ordering.{nat_cmp};
 ghost use Rattle.rt_types.specs.declared.message.FeedMessage.{FeedMessage};
 ghost use Rattle.feed_defs.specs.History.{entities_of, entity_at};
+ghost use Rattle.shared_list.specs.Stamps.{newer};
 
 use crate::NoMemory;
 use crate::stored::SharedStored;
 use feed_defs::Stored;
-use shared_list::{Iter, SharedList};
+use shared_list::{Iter, Newer, SharedList};
 use std::alloc::Global;
 use std::marker::Model;
 
@@ -73,6 +74,17 @@ impl Table {
         }
     }
 
+    /// What came with a message whose stamp is above the given one, in byte order of the ids. What the table shares with
+    /// an earlier one is passed over by parts, so it hardly costs more than what it gives.
+    pub fn newer(&self, than: u64) -> NewerEntities<'_>
+        ensures { result ≡ newer (λ stored. stored.stamp) than
+            (map (λ change. change.1) self.entry.now) }
+    {
+        NewerEntities {
+            inner: self.list.newer(than),
+        }
+    }
+
     /// Does nothing; its contract tells what is true of every table.
     pub fn sound(&self)
         ensures { IsSo (is_sorted (slice_cmp nat_cmp) self.entry.now) }
@@ -111,6 +123,34 @@ impl<'a> Model for TableIter<'a> {
 }
 
 impl<'a> Iterator for TableIter<'a> {
+    type Item = &'a Stored;
+
+    ghost next_gives = { YieldsFirstRef (λ left. left) };
+
+    ghost remaining = { item_count (λ left. left) };
+
+    fn next(&mut self) -> Option<&'a Stored> {
+        let shared = self.inner.next()?;
+        Some(shared.get())
+    }
+}
+
+/// What a table holds that is newer than a stamp, in byte order of the ids. A contract sees the list of what is left.
+#[derive(Drop)]
+pub struct NewerEntities<'a> {
+    inner: Newer<'a, SharedStored>,
+}
+
+impl<'a> Model for NewerEntities<'a> {
+    ghost use Rattle.std.specs.Prelude.{List};
+    ghost use Rattle.feed_defs.specs.declared.history.Stored.{Stored};
+
+    ghost Value = { List Stored };
+
+    ghost view = { λ left. left.inner };
+}
+
+impl<'a> Iterator for NewerEntities<'a> {
     type Item = &'a Stored;
 
     ghost next_gives = { YieldsFirstRef (λ left. left) };

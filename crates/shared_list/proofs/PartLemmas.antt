@@ -220,7 +220,7 @@ module _ {K P X : Type 0} {cmp : K → K → Ordering} (o : IsTotalOrder cmp) (k
 -- ---- parts stay sound
 
 module _ {P X : Type 0} (items : P → List X) (sound : P → Type 0) where
-  abbrev Good : Share P → Type 0
+  abbrev pub Good : Share P → Type 0
   Good share = (sound share.value) × (0 < length (items share.value))
 
   pub sound_set : (shares : List (Share P)) (i : ℕ) (share : Share P) → AreSound items sound shares → sound share.value → 0 < length (items share.value) → AreSound items sound (set shares i share)

@@ -1,6 +1,6 @@
 //! Items that have a key, and keys by which they are found.
 
-ghost use Rattle.std.specs.Prelude.{◌≡◌, IfOk};
+ghost use Rattle.std.specs.Prelude.{◌≡◌, ℕ, IfOk};
 ghost use Rattle.std.specs.Cmp.{IsTotalOrder};
 ghost use Rattle.std.specs.FinMap.{IsAntisymmetric};
 ghost use Rattle.std.specs.declared.cmp.Ordering.{Ordering};
@@ -18,6 +18,13 @@ pub trait Keyed: Copied {
 
     // How a key stands to another.
     ghost key_cmp: { Self.Key → Self.Key → Ordering };
+
+    // When it came, as a number that rises.
+    ghost stamp_of: { Self → ℕ };
+
+    /// Its stamp; 0 where nobody asks for what is newer.
+    fn stamp(&self) -> u64
+        ensures { result ≡ stamp_of self.now };
 
     /// How its key stands to that of another item.
     fn order(&self, other: &Self) -> Ordering

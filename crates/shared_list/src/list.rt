@@ -5,11 +5,14 @@ ghost use Rattle.std.specs.FinMap.{put, find, is_sorted};
 ghost use Rattle.std.specs.Option.{option_copied};
 ghost use Rattle.shared_list.specs.Changes.{after_change, after_changes};
 ghost use Rattle.shared_list.specs.Order.{entries, entries_from, without, Rises};
+ghost use Rattle.shared_list.specs.Stamps.{newer};
 
 use crate::NoMemory;
 use crate::change::Change;
 use crate::iter::Iter;
 use crate::keyed::{KeyFor, Keyed};
+use crate::leaf::Leaf;
+use crate::newer::Newer;
 use crate::node::Node;
 use crate::shared::{item_in, put_shared, share, take_out_shared};
 use crate::sorted::nodes_of;
@@ -22,7 +25,7 @@ use std::sync::Arc;
 #[derive(Drop)]
 pub struct SharedList<T: Keyed> {
     // Neither a node nor a leaf within one is empty.
-    nodes: Vec<Arc<Node<Vec<T>>>>,
+    nodes: Vec<Arc<Node<Leaf<T>>>>,
     len: usize,
 }
 
@@ -36,7 +39,7 @@ impl<T: Keyed> Model for SharedList<T> {
 
     ghost view = { λ list. entries T.key_of (items_in node_items list.nodes.items) };
 
-    ghost invariant = { λ list. AreNodes T.key_cmp T.key_of list.nodes.items list.len };
+    ghost invariant = { λ list. AreNodes T.key_cmp T.key_of T.stamp_of list.nodes.items list.len };
 }
 
 /// A list after a change at one key.
@@ -169,6 +172,14 @@ impl<T: Keyed> SharedList<T> {
         ensures keyed { entries T.key_of (map (λ entry. entry.1) self.entry.now) ≡ self.entry.now }
     {
         Iter::starting(self.nodes.as_slice(), key)
+    }
+
+    /// The items whose stamps are above the given one, in the order of their keys. A leaf in which there are none is
+    /// passed over by one comparison.
+    pub fn newer(&self, than: u64) -> Newer<'_, T>
+        ensures { result ≡ newer T.stamp_of than (map (λ entry. entry.1) self.entry.now) }
+    {
+        Newer::among(self.nodes.as_slice(), than)
     }
 
     /// How many items there are.
