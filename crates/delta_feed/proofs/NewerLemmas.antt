@@ -1,11 +1,10 @@
 -- Where as many were added as there are more, nothing is gone, and what is sent is of what has a newer stamp.
-use Rattle.std.proofs.Common.{◌≡◌, ◌⊎◌, inl, inr, ◌≤◌, ◌<◌, ◌+◌, ℕ, List, [], ◌∷◌, ◌++◌, map, length, Bool, true, false, cond, Option, Some, None, refl, sym, ap, ◌∙◌, subst, arith}
-use Rattle.std.specs.Prelude.{T, filter, nat_lt, nat_eq, not, is_some, count_by}
+use Rattle.std.proofs.Common.{◌≡◌, ◌⊎◌, inl, inr, ◌≤◌, ◌+◌, ℕ, List, [], ◌∷◌, ◌++◌, map, length, Bool, true, false, cond, Option, Some, None, refl, sym, ap, ◌∙◌, subst, arith}
+use Rattle.std.specs.Prelude.{T, filter, not, is_some}
 use Rattle.std.specs.Option.{is_none}
 use Rattle.std.specs.List.{flat_map, AllByRecursion}
 use Rattle.std.specs.Ordering.{eq_by_cmp, is_eq}
 use Rattle.std.specs.FinMap.{find, is_sorted}
-use Rattle.std.specs.FinMap.Entries.{below_all}
 use Rattle.std.proofs.lemmas.Bool.Decides.{nat_tests}
 use Rattle.std.proofs.lemmas.List.Filters.{length-filter_both}
 use Rattle.std.proofs.lemmas.List.{length-map}
@@ -18,9 +17,9 @@ use Rattle.feed_defs.proofs.Sifted.{each_then}
 use Rattle.delta_defs.specs.Changes.{held_under, ids_of_both}
 use Rattle.delta_defs.specs.OneHistory.{HoldsSince}
 use Rattle.delta_defs.proofs.IdOrder.{equal, same_id, tied, or_else, found_alone, found_either}
-use Rattle.delta_feed.specs.Newer.{is_newer, newer_of, pair_now, newer_pairs, is_added, added_count, has_lost_none}
+use Rattle.delta_feed.specs.Newer.{is_newer, newer_of, pair_now, newer_pairs, is_added, has_lost_none}
 use Rattle.delta_feed.specs.Pairs.{IdPair, pair_under, pairs_of, by_own_id}
-use Rattle.delta_feed.specs.Sent.{field_of, entity_sent, pair_field, AreShort, IsShortPair}
+use Rattle.delta_feed.specs.Sent.{pair_field, IsShortPair}
 use Rattle.delta_feed.proofs.AmongLemmas.{has, IsAmong, true_false, apart, no_longer, same_ids, has_same}
 use Rattle.delta_feed.proofs.SettledLemmas.{nothing_sent, short_itself}
 
@@ -199,8 +198,7 @@ pub newer_sent : (prefix name : List ℕ) (stamp : ℕ) (old new : List Change) 
     → (flat_map (pair_field prefix name) (newer_pairs stamp old new) ≡ flat_map (pair_field prefix name) (pairs_of old new)) × (AllByRecursion (IsShortPair prefix name) (newer_pairs stamp old new) → AllByRecursion (IsShortPair prefix name) (pairs_of old new))
 newer_sent prefix name stamp old new before rises keyed holds told =
     subst (λ pairs. (flat_map (pair_field prefix name) (newer_pairs stamp old new) ≡ flat_map (pair_field prefix name) pairs) × (AllByRecursion (IsShortPair prefix name) (newer_pairs stamp old new) → AllByRecursion (IsShortPair prefix name) pairs))
-    (sym (ap (pairs_of old) (sym keyed) ∙ pairs_are stamp old xs before own_rises none))
-    (
+    (sym (ap (pairs_of old) (sym keyed) ∙ pairs_are stamp old xs before own_rises none)) (
       rest_silent (is_newer stamp) (pair_now old) (pair_field prefix name) xs (each_then (λ s held older. nothing_sent prefix name s.entity.id (held_under s.entity.id old) (Some s) (held older)) xs none.was_held),
       rest_too (is_newer stamp) (pair_now old) (IsShortPair prefix name) xs (each_then (λ s held older. short_itself prefix name (held_under s.entity.id old) (Some s) (held older)) xs none.was_held),
     )

@@ -1,5 +1,5 @@
 -- Two entities are written as the same fields just where they have the same bytes.
-use Rattle.std.proofs.Common.{◌≡◌, ℕ, ◌^◌, ◌<◌, List, [], ◌∷◌, ◌++◌, length, drop, take, Bool, true, false, Ok, refl, sym, ap, ◌∙◌, append-nil, length-append, lit<, lit≤, arith}
+use Rattle.std.proofs.Common.{◌≡◌, ℕ, ◌^◌, ◌<◌, List, [], ◌++◌, length, drop, take, Bool, true, false, Ok, refl, sym, ap, ◌∙◌, append-nil, length-append, lit≤, arith}
 use Rattle.std.specs.Prelude.{if◌then◌else◌}
 use Rattle.std.specs.Bool.{Decides}
 use Rattle.std.specs.Str.{bytes_eq}
