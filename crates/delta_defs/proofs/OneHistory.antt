@@ -25,9 +25,9 @@ use Rattle.sched_types.specs.Schedules.{Schedules}
 use Rattle.board_defs.specs.Feeds.{HubFeed, feeds_from, is_of_schedule, schedule_feeds}
 use Rattle.board_defs.specs.Fold.{FeedFold, feed_fold, fold_of}
 use Rattle.board_defs.specs.Views.{HubKept, StandsFor, no_fold, folds_of}
-use Rattle.delta_defs.specs.Changes.{held_under, held_before}
+use Rattle.delta_defs.specs.Changes.{held_before}
 use Rattle.delta_defs.specs.Kept.{KeptView, is_newest, newest_views, view_of, views_with}
-use Rattle.delta_defs.specs.OneHistory.{IsOfHistory, AreOfHistory, AreOfOneHistory, stamp_before}
+use Rattle.delta_defs.specs.OneHistory.{IsOfHistory, AreOfHistory, AreOfOneHistory, stamp_before, HoldsSince, FeedHoldsSince}
 
 -- ---- what newer messages leave
 
@@ -104,30 +104,24 @@ front_and_back (suc n) (x ∷ h) = ap (λ xs. x ∷ xs) (front_and_back n h)
 -- ---- one feed
 
 -- What a feed holds under an id, with a stamp that is not above that of its last message of the first so many, is what
--- it held under that id then, if it held anything.
-same_then : (front behind : List FeedMessage) (id : List ℕ) (w s : Stored) → is_rising (map stamp_of (front ++ behind)) ≡ true
-    → find id_cmp id (entities_of front) ≡ Some w → find id_cmp id (entities_of (front ++ behind)) ≡ Some s → s.stamp ≤ unwrap_or (last_or None (map stamp_of front)) 0 → w ≡ s
-same_then [] behind id w s rising before now early = absurd (none_some w (ap (find id_cmp id) (sym held_none) ∙ before))
-same_then (m ∷ ms) behind id w s rising before now early =
+-- it held under that id then, if there was a message.
+same_then : (front behind : List FeedMessage) (id : List ℕ) (s : Stored) → is_rising (map stamp_of (front ++ behind)) ≡ true
+    → find id_cmp id (entities_of (front ++ behind)) ≡ Some s → s.stamp ≤ unwrap_or (last_or None (map stamp_of front)) 0
+    → (find id_cmp id (entities_of front) ≡ Some s) ⊎ (entities_of front ≡ [])
+same_then [] behind id s rising now early = inr held_none
+same_then (m ∷ ms) behind id s rising now early =
     let newer = behind_last (stamp_of m) (map stamp_of ms) (map stamp_of behind) (ap (λ xs. is_rising (stamp_of m ∷ xs)) (sym (map-append stamp_of ms behind)) ∙ rising) in
-    let found = all_messages (unwrap_or (last_or None (map stamp_of (m ∷ ms))) 0) id s early (m ∷ ms) behind (each_stamp (λ y. unwrap_or (last_or None (map stamp_of (m ∷ ms))) 0 < y) behind newer) now in
-    some_is w s (sym before ∙ found)
+    inl (all_messages (unwrap_or (last_or None (map stamp_of (m ∷ ms))) 0) id s early (m ∷ ms) behind (each_stamp (λ y. unwrap_or (last_or None (map stamp_of (m ∷ ms))) 0 < y) behind newer) now)
 
-pub held_then : (h : List Entry) (first feed : ℕ) → is_rising (stamps_of feed h) ≡ true → (id : List ℕ) (w s : Stored)
-    → find id_cmp id (entities_of (messages_of feed (take first h))) ≡ Some w → find id_cmp id (entities_of (messages_of feed h)) ≡ Some s
-    → s.stamp ≤ last_stamp feed (take first h) → w ≡ s
+held_then : (h : List Entry) (first feed : ℕ) → is_rising (stamps_of feed h) ≡ true → HoldsSince (last_stamp feed (take first h)) (entities_of (messages_of feed (take first h))) (entities_of (messages_of feed h))
 unfolding messages_of
-held_then h first feed rising id w s before now early =
+held_then h first feed rising =
     let front = filter_map (message_of feed) (take first h) in
     let behind = filter_map (message_of feed) (drop first h) in
     let parts : front ++ behind ≡ filter_map (message_of feed) h = sym (filter_map-append (message_of feed) (take first h) (drop first h)) ∙ ap (filter_map (message_of feed)) (front_and_back first h) in
-    same_then front behind id w s (ap (λ xs. is_rising (map stamp_of xs)) parts ∙ rising) before (ap (λ xs. find id_cmp id (entities_of xs)) parts ∙ now) early
+    record { was_held = λ id s now early. same_then front behind id s (ap (λ xs. is_rising (map stamp_of xs)) parts ∙ rising) (ap (λ xs. find id_cmp id (entities_of xs)) parts ∙ now) early }
 
 -- ---- the feeds of a schedule
-
--- under an id that a feed held and holds is the same, if its stamp is not above the one that the feed had
-abbrev pub IsHeldSince : List FeedFold → HubFeed → Type 0
-IsHeldSince old one = (id : List ℕ) (w s : Stored) → held_under id (held_before old one) ≡ Some w → held_under id one.fold.entities ≡ Some s → s.stamp ≤ stamp_before old one → w ≡ s
 
 at_place : (g : List Entry) (first n i feed : ℕ) → feed ≡ first + i
     → (slice_index_or (map (feed_fold g) (range_with_len first n)) i no_fold ≡ feed_fold g feed) ⊎ (slice_index_or (map (feed_fold g) (range_with_len first n)) i no_fold ≡ no_fold)
@@ -136,23 +130,20 @@ at_place g first zero (suc i) feed at = inr refl
 at_place g first (suc n) zero feed at = let same : first ≡ feed = omega arith in inl (ap (feed_fold g) same)
 at_place g first (suc n) (suc i) feed at = at_place g (first + 1) n i feed (omega arith)
 
-one_feed : (feeds : ℕ) (h : List Entry) (first : ℕ) → ((feed : ℕ) → is_rising (stamps_of feed h) ≡ true) → (old : List FeedFold) → old ≡ fold_of feeds (take first h) → (one : HubFeed) → one.fold ≡ feed_fold h one.number → IsHeldSince old one
+one_feed : (feeds : ℕ) (h : List Entry) (first : ℕ) → ((feed : ℕ) → is_rising (stamps_of feed h) ≡ true) → (old : List FeedFold) → old ≡ fold_of feeds (take first h) → (one : HubFeed) → one.fold ≡ feed_fold h one.number → FeedHoldsSince old one
 unfolding fold_of
-one_feed feeds h first rising old was one is id w s before now early =
+one_feed feeds h first rising old was one is =
     by_place (at_place (take first h) 0 feeds one.number one.number (omega arith))
   where
     held : slice_index_or old one.number no_fold ≡ slice_index_or (map (feed_fold (take first h)) (range_with_len 0 feeds)) one.number no_fold
     held = ap (λ (folds : List FeedFold). slice_index_or folds one.number no_fold) was
 
     by_place : (slice_index_or (map (feed_fold (take first h)) (range_with_len 0 feeds)) one.number no_fold ≡ feed_fold (take first h) one.number) ⊎ (slice_index_or (map (feed_fold (take first h)) (range_with_len 0 feeds)) one.number no_fold ≡ no_fold)
-        → w ≡ s
+        → FeedHoldsSince old one
     by_place (inl there) =
-        let same = held ∙ there in
-        held_then h first one.number (rising one.number) id w s
-        (ap (λ (f : FeedFold). find id_cmp id f.entities) (sym same) ∙ before)
-        (ap (λ (f : FeedFold). find id_cmp id f.entities) (sym is) ∙ now)
-        (subst (λ (n : ℕ). s.stamp ≤ n) (ap (λ (f : FeedFold). f.stamp) same) early)
-    by_place (inr past) = absurd (none_some w (ap (λ (f : FeedFold). find id_cmp id f.entities) (sym (held ∙ past)) ∙ before))
+        subst (λ (f : FeedFold). HoldsSince (stamp_before old one) (held_before old one) f.entities) (sym is)
+        (subst (λ (f : FeedFold). HoldsSince f.stamp f.entities (feed_fold h one.number).entities) (sym (held ∙ there)) (held_then h first one.number (rising one.number)))
+    by_place (inr past) = record { was_held = λ id s now early. inr (ap (λ (f : FeedFold). f.entities) (held ∙ past)) }
 
 module _ (plan : ℕ) (h : List Entry) where
   each_number : (first n : ℕ) (feeds : List NamedFeed) → AllByRecursion (λ one. one.fold ≡ feed_fold h one.number) (filter (is_of_schedule plan) (feeds_from first feeds (map (feed_fold h) (range_with_len first n))))
@@ -169,7 +160,7 @@ module _ (plan : ℕ) (h : List Entry) where
       chosen false rest = rest
 
 -- Of one history each feed has what it had, where the stamp is not above.
-pub all_held_since : (plan : ℕ) (old : KeptView) (view : HubKept) → AreOfOneHistory (old ∷ []) view → AllByRecursion (IsHeldSince old.folds) (schedule_feeds plan view.plans.feeds (folds_of view))
+pub all_held_since : (plan : ℕ) (old : KeptView) (view : HubKept) → AreOfOneHistory (old ∷ []) view → AllByRecursion (FeedHoldsSince old.folds) (schedule_feeds plan view.plans.feeds (folds_of view))
 unfolding fold_of
 all_held_since plan old view one =
     each_then (one_feed (length view.plans.feeds) one.history old.number one.rising old.folds one.are.0.folds) (schedule_feeds plan view.plans.feeds (folds_of view))

@@ -27,8 +27,9 @@ use Rattle.delta_defs.specs.Changes.{held_under, held_before, changes}
 use Rattle.delta_defs.proofs.Applying.{AreTold, IsTable, named_one, at_number, each_feed, each_fold, changes_bring}
 use Rattle.delta_defs.proofs.IdOrder.{same_id, equal, or_else, found_alone, found_either}
 use Rattle.delta_defs.proofs.Tables.{folds_tables, folds_count}
-use Rattle.delta_out.specs.Pairs.{IdPair, pair_under, pairs_of}
-use Rattle.delta_out.specs.Sent.{IsShort, AreShort, IsShortPair, IsShortFeed}
+use Rattle.delta_feed.specs.Pairs.{IdPair, pair_under, pairs_of}
+use Rattle.delta_feed.specs.Sent.{IsShort, AreShort, IsShortPair}
+use Rattle.delta_out.specs.Feeds.{IsShortFeed}
 
 -- what is found under an id has what each has
 found_has : (P : Stored → Type 0) (id : List ℕ) (s : Stored) (es : List Change) → AllByRecursion (λ c. P c.1) es → find id_cmp id es ≡ Some s → P s

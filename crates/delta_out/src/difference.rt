@@ -10,13 +10,13 @@ ghost use Rattle.board_defs.specs.Views.{StandsFor, folds_of, no_fold};
 ghost use Rattle.delta_defs.specs.Applied.{BringsTo};
 ghost use Rattle.delta_defs.specs.Changes.{changes, changes_bytes};
 ghost use Rattle.delta_defs.specs.Kept.{folds_at};
-ghost use Rattle.delta_defs.specs.OneHistory.{AreOfOneHistory};
-ghost use Rattle.delta_out.specs.Sent.{feed_field, IsSettledFeed, IsShortFeed};
+ghost use Rattle.delta_defs.specs.OneHistory.{AreOfOneHistory, FeedHoldsSince};
+ghost use Rattle.delta_out.specs.Feeds.{feed_field, IsShortFeed};
 
 use crate::NoMemory;
 use crate::kept::{Kept, KeptFeed, KeptView};
-use crate::sent::push_feed;
 use board_parts::{HubView, ScheduleFeeds};
+use delta_feed::push_feed;
 use entity_table::Table;
 use feed_out::{newest_stamp, push_header};
 use rt_types::Incrementality;
@@ -109,7 +109,7 @@ fn push_feeds(
     feeds: ScheduleFeeds<'_>,
     out: &mut Vec<u8>,
 ) -> Result<(), NoMemory>
-    requires { AllByRecursion (IsSettledFeed old.now) feeds }
+    requires { AllByRecursion (FeedHoldsSince old.now) feeds }
     ensures sent { OnOk result (out.new.items
         ≡ out.old.items ++ flat_map (feed_field prefix.now old.now) feeds.entry) }
     ensures short { OnOk result (AllByRecursion (IsShortFeed prefix.now old.now) feeds.entry) }

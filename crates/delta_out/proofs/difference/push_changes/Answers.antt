@@ -1,14 +1,18 @@
 -- The bytes are those of the difference, which brings a reader from the one combined feed to the other.
+use Rattle.std.proofs.Common.{sym, subst}
+use Rattle.std.specs.List.{AllByRecursion}
 use Rattle.std.proofs.lemmas.Result.{on_ok_weaker}
+use Rattle.delta_defs.specs.OneHistory.{FeedHoldsSince}
 use Rattle.feed_out.proofs.Bytes.{prefix_is}
 use Rattle.delta_out.proofs.LawLemmas.{brings_to}
 use Rattle.delta_out.proofs.MessageLemmas.{sent_are}
-use Rattle.delta_out.proofs.SettledLemmas.{all_settled}
+use Rattle.delta_defs.proofs.OneHistory.{all_held_since}
 use Rattle.delta_out.proofs.difference.push_changes.Goals as goal
 
 pub push_feeds-requires : goal.push_feeds-requires
 push_feeds-requires c =
-    all_settled c.args.view.now c.args.plan c.args.old.now c.feeds.result.now c.feeds_of-2.result c.requires.one_history c.feeds.ensures c.feeds_of-2.ensures
+    subst (λ folds. AllByRecursion (FeedHoldsSince folds) c.feeds_of-2.result) (sym c.feeds.ensures)
+    (subst (AllByRecursion (FeedHoldsSince c.args.old.now.folds)) (sym c.feeds_of-2.ensures) (all_held_since c.args.plan c.args.old.now c.args.view.now c.requires.one_history))
 
 pub returns-clause-sent : goal.returns-clause-sent
 returns-clause-sent c =

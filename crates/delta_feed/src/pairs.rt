@@ -3,8 +3,8 @@
 ghost use Rattle.std.specs.Prelude.{◌≡◌, true, [], ◌∷◌, MatchOption};
 ghost use Rattle.std.specs.Iterator.{YieldsFirst, item_count};
 ghost use Rattle.std.specs.Option.{option_copied};
-ghost use Rattle.delta_out.specs.Pairs as rule;
-ghost use Rattle.delta_out.specs.Pairs.{are_rising, by_own_id, pairs_of};
+ghost use Rattle.delta_feed.specs.Pairs as rule;
+ghost use Rattle.delta_feed.specs.Pairs.{are_rising, by_own_id, pairs_of};
 
 use crate::left::Left;
 use entity_table::{Stored, Table};
@@ -20,7 +20,7 @@ pub(crate) struct Pair<'a> {
 
 impl<'a> Model for Pair<'a> {
     ghost use Rattle.std.specs.Option.{option_copied};
-    ghost use Rattle.delta_out.specs.Pairs.{IdPair};
+    ghost use Rattle.delta_feed.specs.Pairs.{IdPair};
 
     ghost Value = { IdPair };
 
@@ -41,7 +41,7 @@ pub(crate) struct Pairs<'a> {
 
 impl<'a> Model for Pairs<'a> {
     ghost use Rattle.std.specs.Prelude.{◌≡◌, List, true};
-    ghost use Rattle.delta_out.specs.Pairs.{IdPair, are_rising, by_own_id, pairs_of};
+    ghost use Rattle.delta_feed.specs.Pairs.{IdPair, are_rising, by_own_id, pairs_of};
 
     ghost Value = { List IdPair };
 

@@ -1,9 +1,9 @@
 -- The lesser of the first ids goes first.
 use Rattle.std.proofs.Common.{◌≡◌, Some, None, sym}
 use Rattle.std.specs.Prelude.{slice_get}
-use Rattle.delta_out.specs.Pairs as rule
-use Rattle.delta_out.proofs.PairLemmas.{none_left, next_is}
-use Rattle.delta_out.proofs.pairs.next_of.Goals as goal
+use Rattle.delta_feed.specs.Pairs as rule
+use Rattle.delta_feed.proofs.PairLemmas.{none_left, next_is}
+use Rattle.delta_feed.proofs.pairs.next_of.Goals as goal
 
 pub returns-in-Some-clause-next : goal.returns-in-Some-clause-next
 returns-in-Some-clause-next c =

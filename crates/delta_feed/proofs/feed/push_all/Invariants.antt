@@ -1,8 +1,8 @@
 -- What was appended of the ids that were gone over, and what is left to append, are all.
 use Rattle.std.proofs.Common.{◌≡◌, ◌++◌}
 use Rattle.std.specs.List.{flat_map, AllByRecursion}
-use Rattle.delta_out.specs.Sent.{pair_field, IsSettled, IsShortPair}
-use Rattle.delta_out.proofs.sent.push_feed.Given as goal
+use Rattle.delta_feed.specs.Sent.{pair_field, IsSettled, IsShortPair}
+use Rattle.delta_feed.proofs.feed.push_all.Given as goal
 
 abbrev pub invariant-loop-pair : goal.invariant-loop-pair
 invariant-loop-pair l = record {

@@ -1,5 +1,5 @@
 -- Two entities are written as the same fields just where they have the same bytes.
-use Rattle.std.proofs.Common.{◌≡◌, ℕ, ◌^◌, ◌<◌, List, [], ◌∷◌, ◌++◌, length, drop, take, Bool, true, false, Ok, refl, sym, ap, ◌∙◌, append-nil, length-append, lit<, lit≤, arith}
+use Rattle.std.proofs.Common.{◌≡◌, ℕ, ◌^◌, ◌<◌, List, [], ◌++◌, length, drop, take, Bool, true, false, Ok, refl, sym, ap, ◌∙◌, append-nil, length-append, lit≤, arith}
 use Rattle.std.specs.Prelude.{if◌then◌else◌}
 use Rattle.std.specs.Bool.{Decides}
 use Rattle.std.specs.Str.{bytes_eq}
@@ -18,7 +18,7 @@ use Rattle.feed_defs.specs.Rows.{message_bytes}
 use Rattle.feed_defs.specs.Table.{entity}
 use Rattle.feed_write.specs.Entities.{entity_field}
 use Rattle.delta_defs.specs.Changes.{is_same}
-use Rattle.delta_out.specs.Sent.{IsShort}
+use Rattle.delta_feed.specs.Sent.{IsShort}
 
 abbrev of_bytes : List ℕ → Written
 of_bytes bytes = record { number = 2; payload = Span bytes }

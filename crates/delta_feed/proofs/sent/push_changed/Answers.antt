@@ -1,8 +1,8 @@
 -- An entity whose bytes are those that it had is taken back.
 use Rattle.std.proofs.Common.{◌≡◌, ◌<◌, ◌^◌, length, rules}
-use Rattle.delta_out.specs.Sent.{named_entity}
-use Rattle.delta_out.proofs.SentLemmas.{taken_back, written_short}
-use Rattle.delta_out.proofs.sent.push_changed.Goals as goal
+use Rattle.delta_feed.specs.Sent.{named_entity}
+use Rattle.delta_feed.proofs.SentLemmas.{taken_back, written_short}
+use Rattle.delta_feed.proofs.sent.push_changed.Goals as goal
 
 pub returns-clause-sent : goal.returns-clause-sent
 returns-clause-sent c =

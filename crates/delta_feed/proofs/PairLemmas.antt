@@ -1,6 +1,6 @@
 -- The ids of two tables, one after another: the lesser of the two first ids goes, with what each table has under it.
 use Rattle.std.proofs.Common.{◌≡◌, ℕ, List, [], ◌∷◌, ◌++◌, map, Bool, true, false, cond, Option, Some, None, refl, sym, ap, ◌∙◌, subst}
-use Rattle.std.specs.Prelude.{◌&&◌, T, slice_get, if◌then◌else◌}
+use Rattle.std.specs.Prelude.{T, slice_get, if◌then◌else◌}
 use Rattle.std.specs.Str.{bytes_eq}
 use Rattle.std.specs.Ordering.{is_lt, is_eq, is_gt, eq_by_cmp, ordering_reverse}
 use Rattle.std.specs.declared.cmp.Ordering.{Ordering}
@@ -13,7 +13,7 @@ use Rattle.feed_defs.specs.declared.history.Stored.{Stored}
 use Rattle.feed_defs.specs.History.{Change, changes_by_id}
 use Rattle.feed_defs.proofs.Kept.{id_cmp, left, right, listed_sorted}
 use Rattle.delta_defs.proofs.IdOrder.{both, so, so_back, equal, same_id, turned, tied, not_tied, below_less, find_below, below_append, below_listed, or_else, found_alone, found_either}
-use Rattle.delta_out.specs.Pairs.{IdPair, pair_under, pairs_of, by_own_id, are_rising, first_under, past, lesser, least_id}
+use Rattle.delta_feed.specs.Pairs.{pair_under, pairs_of, by_own_id, are_rising, first_under, past, lesser, least_id}
 
 -- ---- a list that begins with an id, or is above it
 

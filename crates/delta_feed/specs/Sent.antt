@@ -1,6 +1,5 @@
 -- What is written of each id of a feed.
 use Rattle.std.specs.Prelude.{◌≡◌, ◌⊎◌, ℕ, ◌^◌, ◌<◌, nat_le, Bool, true, false, length, List, [], Option, Some, None, if◌then◌else◌}
-use Rattle.std.specs.List.{flat_map, AllByRecursion}
 use Rattle.rt_types.specs.declared.message.Entity.{Entity}
 use Rattle.feed_defs.specs.Combined.{entity_under_feed}
 use Rattle.feed_defs.specs.Renamed.{renamed_entity}
@@ -8,11 +7,8 @@ use Rattle.feed_defs.specs.declared.history.Stored.{Stored}
 use Rattle.feed_defs.specs.Rows.{message_bytes}
 use Rattle.feed_defs.specs.Table.{entity}
 use Rattle.feed_write.specs.Entities.{entity_field}
-use Rattle.board_defs.specs.Feeds.{HubFeed}
-use Rattle.board_defs.specs.Fold.{FeedFold}
-use Rattle.delta_defs.specs.Changes.{gone, is_same, held_before}
-use Rattle.delta_defs.specs.OneHistory.{stamp_before}
-use Rattle.delta_out.specs.Pairs.{IdPair, pairs_of}
+use Rattle.delta_defs.specs.Changes.{gone, is_same}
+use Rattle.delta_feed.specs.Pairs.{IdPair}
 
 -- an entity of the feed of that name, as the combined feed has it
 abbrev pub named_entity : List ℕ → List ℕ → Entity → Entity
@@ -66,20 +62,3 @@ AreShort prefix name None is = Unit {0}
 
 abbrev pub IsShortPair : List ℕ → List ℕ → IdPair → Type 0
 IsShortPair prefix name pair = AreShort prefix name pair.was pair.is
-
--- ---- feeds
-
--- the bytes that are sent of a feed, of what all feeds held
-abbrev pub feed_field : List ℕ → List FeedFold → HubFeed → List ℕ
-feed_field prefix old one = flat_map (pair_field prefix one.feed.name)
-    (pairs_of (held_before old one) one.fold.entities)
-
--- what has no stamp above the one that the feed had is what it held
-abbrev pub IsSettledFeed : List FeedFold → HubFeed → Type 0
-IsSettledFeed old one = AllByRecursion (IsSettled (stamp_before old one))
-    (pairs_of (held_before old one) one.fold.entities)
-
--- all that was compared of it was short
-abbrev pub IsShortFeed : List ℕ → List FeedFold → HubFeed → Type 0
-IsShortFeed prefix old one = AllByRecursion (IsShortPair prefix one.feed.name)
-    (pairs_of (held_before old one) one.fold.entities)

@@ -1,48 +1,21 @@
 //! What is sent of each id of a feed.
 
 ghost use Rattle.std.specs.Prelude.{◌≡◌, ◌≤◌, ◌++◌, [], length, drop, take, OnOk, if◌then◌else◌};
-ghost use Rattle.std.specs.List.{flat_map, AllByRecursion};
 ghost use Rattle.std.specs.Str.{bytes_eq};
 ghost use Rattle.feed_defs.specs.Combined.{entity_under_feed};
 ghost use Rattle.feed_write.specs.Entities.{entity_field};
 ghost use Rattle.delta_defs.specs.Changes.{gone, is_same};
-ghost use Rattle.delta_out.specs.Pairs.{pairs_of};
-ghost use Rattle.delta_out.specs.Sent as rule;
-ghost use Rattle.delta_out.specs.Sent.{named_entity, pair_field, IsShort, IsShortPair, IsSettled};
+ghost use Rattle.delta_feed.specs.Sent as rule;
+ghost use Rattle.delta_feed.specs.Sent.{named_entity, pair_field, IsShort, IsShortPair, IsSettled};
 
 use crate::NoMemory;
-use crate::pairs::{Pair, Pairs};
-use entity_table::Table;
+use crate::pairs::Pair;
 use feed_write::write_under_feed;
 use rt_types::{Bytes, Entity, Text};
 
-/// Appends what changed in the feed of that name, which held the one up to that stamp and holds the other, by id; or as
-/// much as memory allows. The ids of the timetable are behind the prefix.
-pub(crate) fn push_feed(
-    feed: &str,
-    prefix: &str,
-    old: &Table,
-    stamp: u64,
-    new: &Table,
-    out: &mut Vec<u8>,
-) -> Result<(), NoMemory>
-    requires { AllByRecursion (IsSettled stamp) (pairs_of old.now new.now) }
-    ensures sent { OnOk result (out.new.items
-        ≡ out.old.items ++ flat_map (pair_field prefix.now feed.now) (pairs_of old.now new.now)) }
-    ensures short { OnOk result (AllByRecursion (IsShortPair prefix.now feed.now)
-        (pairs_of old.now new.now)) }
-{
-    let mut spare = Vec::new(*out.allocator());
-    for pair in Pairs::of(old, new) {
-        push_pair(feed, prefix, stamp, &pair, &mut spare, out)?;
-    }
-    Ok(())
-}
-
 /// Appends what is sent of an id, of which what is no newer than the stamp was held. `spare` is for the bytes of what was
 /// held.
-#[tactic(auto, using(crate::proofs::SettledLemmas::compared_short))]
-fn push_pair(
+pub(crate) fn push_unless_settled(
     feed: &str,
     prefix: &str,
     stamp: u64,
@@ -58,12 +31,7 @@ fn push_pair(
     if is_no_newer(stamp, pair) {
         return Ok(());
     }
-    match (pair.was, pair.is) {
-        (Some(was), Some(is)) => { push_changed(feed, prefix, &was.entity, &is.entity, spare, out) }
-        (Some(_), None) => push_gone(feed, pair.id, out),
-        (None, Some(is)) => write_under_feed(feed, prefix, &is.entity, out),
-        (None, None) => Ok(()),
-    }
+    push_pair(feed, prefix, pair, spare, out)
 }
 
 /// Whether something was held under the id, and what is held is no newer than the stamp: so it is the same, and its bytes
@@ -74,6 +42,27 @@ fn is_no_newer(stamp: u64, pair: &Pair<'_>) -> bool
     match (pair.was, pair.is) {
         (Some(_), Some(is)) => is.stamp <= stamp,
         _ => false,
+    }
+}
+
+/// Appends what is sent of an id, whatever the stamps are.
+#[tactic(auto, using(crate::proofs::SettledLemmas::compared_short))]
+pub(crate) fn push_pair(
+    feed: &str,
+    prefix: &str,
+    pair: &Pair<'_>,
+    spare: &mut Vec<u8>,
+    out: &mut Vec<u8>,
+) -> Result<(), NoMemory>
+    ensures sent { OnOk result (out.new.items
+        ≡ out.old.items ++ pair_field prefix.now feed.now pair.now) }
+    ensures short { OnOk result (IsShortPair prefix.now feed.now pair.now) }
+{
+    match (pair.was, pair.is) {
+        (Some(was), Some(is)) => { push_changed(feed, prefix, &was.entity, &is.entity, spare, out) }
+        (Some(_), None) => push_gone(feed, pair.id, out),
+        (None, Some(is)) => write_under_feed(feed, prefix, &is.entity, out),
+        (None, None) => Ok(()),
     }
 }
 

@@ -2,7 +2,7 @@
 
 ghost use Rattle.std.specs.Prelude.{◌≡◌, true, slice_get};
 ghost use Rattle.std.specs.Option.{option_copied};
-ghost use Rattle.delta_out.specs.Pairs.{are_rising, by_own_id, first_under, past};
+ghost use Rattle.delta_feed.specs.Pairs.{are_rising, by_own_id, first_under, past};
 
 use entity_table::{Stored, Table, TableIter};
 use std::marker::Model;
@@ -20,7 +20,7 @@ impl<'a> Model for Left<'a> {
     ghost use Rattle.std.specs.List.{cons_option};
     ghost use Rattle.std.specs.Option.{option_copied};
     ghost use Rattle.feed_defs.specs.declared.history.Stored.{Stored};
-    ghost use Rattle.delta_out.specs.Pairs.{is_headed};
+    ghost use Rattle.delta_feed.specs.Pairs.{is_headed};
 
     ghost Value = { List Stored };
 

@@ -1,7 +1,7 @@
 -- What is no newer is what was held, and nothing of it is sent.
 use Rattle.std.proofs.Common.{sym, ◌∙◌}
-use Rattle.delta_out.proofs.SettledLemmas.{passed_over, passed_short}
-use Rattle.delta_out.proofs.sent.push_pair.Goals as goal
+use Rattle.delta_feed.proofs.SettledLemmas.{passed_over, passed_short}
+use Rattle.delta_feed.proofs.sent.push_unless_settled.Goals as goal
 
 pub returns-then-is_no_newer-clause-sent : goal.returns-then-is_no_newer-clause-sent
 returns-then-is_no_newer-clause-sent c =
