@@ -67,18 +67,6 @@ pub(crate) fn ids_before(
     Ok(ids)
 }
 
-/// What becomes of an id, by the table that there is now.
-fn change_of(plan: &Plan, table: &Table, one: IdBefore) -> IdChange
-    ensures { result ≡ id_change plan.now table.now one }
-{
-    let after = about_held(plan, table, one.id.as_str());
-    IdChange {
-        id: one.id,
-        before: one.before,
-        after,
-    }
-}
-
 /// What becomes of some ids, by the table that there is now; or out of memory.
 pub(crate) fn changes_of_ids(
     alloc: Global,
@@ -91,7 +79,12 @@ pub(crate) fn changes_of_ids(
 {
     let mut changes = Vec::with_capacity(alloc, ids.len())?;
     for one in ids {
-        changes.push(change_of(plan, table, one))?;
+        let after = about_held(plan, table, one.id.as_str());
+        changes.push(IdChange {
+            id: one.id,
+            before: one.before,
+            after,
+        })?;
     }
     Ok(changes)
 }

@@ -4,7 +4,6 @@ ghost use Rattle.std.specs.Prelude.{◌≡◌};
 ghost use Rattle.std.specs.Ordering.{ordering_then};
 ghost use Rattle.run_overlay.specs.Keys as rule;
 ghost use Rattle.run_overlay.specs.Live.{slot_cmp};
-ghost use Rattle.run_overlay.specs.Turning.{same_row};
 
 use crate::NoMemory;
 use crate::slot::LiveSlot;
@@ -27,19 +26,6 @@ pub(crate) struct RowKey {
     pub(crate) trip: u32,
     pub(crate) day: u32,
     pub(crate) place: u32,
-}
-
-/// The key of a departure.
-fn key_of(row: &LiveRow) -> RowKey
-    ensures { result ≡ rule.row_key row.now }
-{
-    RowKey {
-        stop: row.stop,
-        at: row.slot.at,
-        trip: row.slot.run.trip,
-        day: row.slot.run.day,
-        place: row.slot.place,
-    }
 }
 
 /// By the one, then by the next, then by the last.
@@ -80,13 +66,6 @@ fn row_order(a: &LiveRow, b: &LiveRow) -> Ordering
     }
 }
 
-/// Whether two departures are the same in all that is known of them.
-pub(crate) fn is_same(a: &LiveRow, b: &LiveRow) -> bool
-    ensures { result ≡ same_row a.now b.now }
-{
-    a == b
-}
-
 impl Copied for LiveRow {
     fn copy(&self) -> Result<Self, NoMemory> {
         Ok(*self)
@@ -123,6 +102,13 @@ impl KeyFor<LiveRow> for RowKey {
     ghost sought = { λ key. key };
 
     fn order_of(&self, row: &LiveRow) -> Ordering {
-        key_of(row).cmp(self)
+        let key = RowKey {
+            stop: row.stop,
+            at: row.slot.at,
+            trip: row.slot.run.trip,
+            day: row.slot.run.day,
+            place: row.slot.place,
+        };
+        key.cmp(self)
     }
 }
