@@ -1,7 +1,6 @@
 //! Departures in the order of their stops.
 
 ghost use Rattle.std.specs.Prelude.{◌≡◌};
-ghost use Rattle.std.specs.Ordering.{ordering_then};
 ghost use Rattle.run_overlay.specs.Keys as rule;
 ghost use Rattle.run_overlay.specs.Live.{slot_cmp};
 
@@ -28,13 +27,6 @@ pub(crate) struct RowKey {
     pub(crate) place: u32,
 }
 
-/// By the one, then by the next, then by the last.
-fn in_turn(first: Ordering, second: Ordering, third: Ordering) -> Ordering
-    ensures { result ≡ ordering_then first (ordering_then second third) }
-{
-    first.then(second.then(third))
-}
-
 /// By the expected instant, the trip, the day and the place. Most departures of a stop differ in the first.
 fn slot_order(a: &LiveSlot, b: &LiveSlot) -> Ordering
     ensures { result ≡ slot_cmp a.now b.now }
@@ -44,11 +36,11 @@ fn slot_order(a: &LiveSlot, b: &LiveSlot) -> Ordering
     } else if b.at < a.at {
         Ordering::Greater
     } else {
-        in_turn(
-            a.run.trip.cmp(&b.run.trip),
-            a.run.day.cmp(&b.run.day),
-            a.place.cmp(&b.place),
-        )
+        let day = a.run.day.cmp(&b.run.day);
+        a.run
+            .trip
+            .cmp(&b.run.trip)
+            .then(day.then(a.place.cmp(&b.place)))
     }
 }
 
