@@ -18,7 +18,7 @@ use crate::candidate::Candidate;
 use crate::first_rows::first_rows;
 use crate::hints::Hints;
 use crate::live_run::{LiveRun, rows_of};
-use crate::row::LiveRow;
+use crate::row::{LiveRow, is_same};
 use crate::turns::{Turn, turns_of};
 use delay_rule::Steps;
 use entity_table::Table;
@@ -99,7 +99,7 @@ fn stands_at(row: &LiveRow, others: &[LiveRow], place: usize) -> bool
     ensures { result ≡ keyed.stands_first same_row row.now (drop place others.now) }
 {
     match others.get(place) {
-        Some(other) => row == other,
+        Some(other) => is_same(row, other),
         None => false,
     }
 }

@@ -3,6 +3,7 @@
 ghost use Rattle.std.specs.Prelude.{◌≡◌};
 ghost use Rattle.run_overlay.specs.Keys as rule;
 ghost use Rattle.run_overlay.specs.Live.{slot_cmp};
+ghost use Rattle.run_overlay.specs.Turning.{same_row};
 
 use crate::NoMemory;
 use crate::slot::LiveSlot;
@@ -56,6 +57,13 @@ fn row_order(a: &LiveRow, b: &LiveRow) -> Ordering
     } else {
         slot_order(&a.slot, &b.slot)
     }
+}
+
+/// Whether two departures are the same in all that is known of them.
+pub(crate) fn is_same(a: &LiveRow, b: &LiveRow) -> bool
+    ensures { result ≡ same_row a.now b.now }
+{
+    a == b
 }
 
 impl Copied for LiveRow {
