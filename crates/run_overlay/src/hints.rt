@@ -30,7 +30,8 @@ fn held_in<'a>(alloc: Global, table: &'a Table) -> Result<Vec<&'a Stored>, NoMem
     Ok(held)
 }
 
-/// The number of a run among some that rise. It is looked for at the given one first.
+/// The number of a run among some that rise, or that at which it would come. It is looked for at
+/// the given one first.
 fn number_of(runs: &[Run], run: Run, near: usize) -> usize {
     match runs.get(near) {
         Some(other) if *other == run => near,
@@ -40,8 +41,9 @@ fn number_of(runs: &[Run], run: Run, near: usize) -> usize {
     }
 }
 
-/// For each run the place of the last change of an id whose update is about it now; or out of memory. The runs rise, and
-/// updates often come in their order: so each run is looked for behind the one before.
+/// For each run the place of the last change of an id whose update is about it now; or out of
+/// memory. The runs rise, and updates often come in their order: so each run is looked for behind
+/// the one before.
 fn places_of(alloc: Global, ids: &[IdChange], runs: &[Run]) -> Result<Vec<usize>, NoMemory> {
     let mut places = vec![in alloc; 0usize; runs.len()]?;
     let mut next: usize = 0;

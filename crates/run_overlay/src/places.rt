@@ -113,8 +113,9 @@ fn place_rows(
     Ok(rows)
 }
 
-/// The departures of a run by an update about it, in order of places; or out of memory. It is one walk, whose states are
-/// written over what the list had, so that runs one after another need no list each.
+/// The departures of a run by an update about it, in order of places; or out of memory. It is one
+/// walk, whose states are written over what the list had, so that runs one after another need no
+/// list each.
 pub(crate) fn rows_of_run<L: Ledger>(
     alloc: Global,
     plan: &Plan,

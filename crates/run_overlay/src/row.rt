@@ -37,11 +37,9 @@ fn slot_order(a: &LiveSlot, b: &LiveSlot) -> Ordering
     } else if b.at < a.at {
         Ordering::Greater
     } else {
+        let trip = a.run.trip.cmp(&b.run.trip);
         let day = a.run.day.cmp(&b.run.day);
-        a.run
-            .trip
-            .cmp(&b.run.trip)
-            .then(day.then(a.place.cmp(&b.place)))
+        trip.then(day.then(a.place.cmp(&b.place)))
     }
 }
 

@@ -67,8 +67,9 @@ pub(crate) fn touched_runs(alloc: Global, ids: &[IdChange]) -> Result<Vec<Run>, 
     Ok(runs)
 }
 
-/// A run with its update that counts, where one does, which is walked then; or out of memory. The candidates are those of
-/// the table, and what is at hand of it may have that update. The states of the walk are written over what their list had.
+/// A run with its update that counts, where one does, which is walked then; or out of memory. The
+/// candidates are those of the table, and what is at hand of it may have that update. The states of
+/// the walk are written over what their list had.
 fn run_now<'a, L: Ledger>(
     alloc: Global,
     plan: &Plan,
