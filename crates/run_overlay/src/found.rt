@@ -5,20 +5,13 @@ ghost use Rattle.std.specs.FinMap.{find};
 ghost use Rattle.std.specs.Option.{option_and_then, option_copied};
 ghost use Rattle.run_overlay.specs.Keys.{id_cmp};
 ghost use Rattle.run_overlay.specs.Sought.{IsHeld};
-ghost use Rattle.run_overlay.specs.Turning.{first_of, is_of_run};
+ghost use Rattle.run_overlay.specs.Turning.{first_of};
 
 use crate::candidate::{Candidate, FirstOf};
 use entity_table::{Stored, Table};
 use rt_types::TripUpdate;
 use sched_types::Run;
 use shared_list::SharedList;
-
-/// Whether an update is about that run.
-fn is_of_run(candidate: &Candidate, run: Run) -> bool
-    ensures { result ≡ is_of_run run candidate.now }
-{
-    candidate.mention.run.trip == run.trip && candidate.mention.run.day == run.day
-}
 
 /// The first of the updates about a run, which is the one that counts; `None` where no update is about it.
 pub(crate) fn first_candidate<'a>(
@@ -29,7 +22,7 @@ pub(crate) fn first_candidate<'a>(
 {
     let mut from = candidates.from(FirstOf { run });
     let first = from.next()?;
-    if is_of_run(first, run) {
+    if first.mention.run == run {
         Some(first)
     } else {
         None

@@ -30,16 +30,30 @@ fn held_in<'a>(alloc: Global, table: &'a Table) -> Result<Vec<&'a Stored>, NoMem
     Ok(held)
 }
 
-/// For each run the place of the last change of an id whose update is about it now; or out of memory. The runs rise.
+/// The number of a run among some that rise, or that at which it would come. It is looked for at
+/// the given one first.
+fn number_of(runs: &[Run], run: Run, near: usize) -> usize {
+    match runs.get(near) {
+        Some(other) if *other == run => near,
+        _ => match runs.binary_search(&run) {
+            Ok(at) | Err(at) => at,
+        },
+    }
+}
+
+/// For each run the place of the last change of an id whose update is about it now; or out of
+/// memory. The runs rise, and updates often come in their order: so each run is looked for behind
+/// the one before.
 fn places_of(alloc: Global, ids: &[IdChange], runs: &[Run]) -> Result<Vec<usize>, NoMemory> {
     let mut places = vec![in alloc; 0usize; runs.len()]?;
+    let mut next: usize = 0;
     for (number, one) in ids.iter().enumerate() {
         if let About::Run(mention) = one.after {
-            if let Ok(at) = runs.binary_search(&mention.run) {
-                if let Some(place) = places.get_mut(at) {
-                    *place = number;
-                }
+            let at = number_of(runs, mention.run, next);
+            if let Some(place) = places.get_mut(at) {
+                *place = number;
             }
+            next = at.wrapping_add(1);
         }
     }
     Ok(places)

@@ -31,23 +31,13 @@ pub(crate) struct IdChange {
     pub(crate) after: About,
 }
 
-/// The run that the update of an entity was about, by the links that are kept.
-fn mention_at(links: &SharedList<Link>, id: &str) -> Option<Mention>
-    ensures { result ≡ option_map (λ link. link.mention) (find id_cmp id.now links.now) }
-{
-    match links.get(id) {
-        Some(link) => Some(link.mention),
-        None => None,
-    }
-}
-
-/// An id with what its update was about; or out of memory.
+/// An id with the run that its update was about, by the links that are kept; or out of memory.
 fn before_of(links: &SharedList<Link>, id: &Text) -> Result<IdBefore, NoMemory>
     ensures { IfOk result (λ one. one ≡ id_before links.now id.now) }
 {
     Ok(IdBefore {
         id: id.copy()?,
-        before: mention_at(links, id.as_str()),
+        before: links.get(id.as_str()).map(|link| link.mention),
     })
 }
 
@@ -67,18 +57,6 @@ pub(crate) fn ids_before(
     Ok(ids)
 }
 
-/// What becomes of an id, by the table that there is now.
-fn change_of(plan: &Plan, table: &Table, one: IdBefore) -> IdChange
-    ensures { result ≡ id_change plan.now table.now one }
-{
-    let after = about_held(plan, table, one.id.as_str());
-    IdChange {
-        id: one.id,
-        before: one.before,
-        after,
-    }
-}
-
 /// What becomes of some ids, by the table that there is now; or out of memory.
 pub(crate) fn changes_of_ids(
     alloc: Global,
@@ -91,7 +69,12 @@ pub(crate) fn changes_of_ids(
 {
     let mut changes = Vec::with_capacity(alloc, ids.len())?;
     for one in ids {
-        changes.push(change_of(plan, table, one))?;
+        let after = about_held(plan, table, one.id.as_str());
+        changes.push(IdChange {
+            id: one.id,
+            before: one.before,
+            after,
+        })?;
     }
     Ok(changes)
 }

@@ -113,20 +113,23 @@ fn place_rows(
     Ok(rows)
 }
 
-/// The departures of a run by an update about it, in order of places; or out of memory. It is one walk.
+/// The departures of a run by an update about it, in order of places; or out of memory. It is one
+/// walk, whose states are written over what the list had, so that runs one after another need no
+/// list each.
 pub(crate) fn rows_of_run<L: Ledger>(
     alloc: Global,
     plan: &Plan,
     run: Run,
     update: &TripUpdate,
+    states: &mut Vec<StopState>,
     steps: &mut Steps<L>,
 ) -> Result<Vec<LiveRow>, NoMemory>
     requires { IsTrue (is_run plan.now run) }
     ensures rows { IfOk result (λ rows. rows.items ≡ rows_with plan.now run update.now) }
     ensures counted { steps.new ≡ steps.old + 1 }
 {
-    let mut states = Vec::new(alloc);
-    walk(plan, run, update, &mut states, steps)?;
+    states.clear();
+    walk(plan, run, update, states, steps)?;
     let relation = update.trip.relation.unwrap_or(TripRelation::Scheduled);
     place_rows(alloc, plan, run, relation, states.as_slice())
 }

@@ -18,7 +18,7 @@ use crate::live_run::LiveRun;
 use crate::mention::{Mention, mention_in};
 use crate::places::rows_of_run;
 use copying::Copied;
-use delay_rule::Steps;
+use delay_rule::{Steps, StopState};
 use entity_table::{Stored, Table};
 use rt_types::{Items, Shared};
 use sched_types::{Plan, Run};
@@ -67,8 +67,9 @@ pub(crate) fn touched_runs(alloc: Global, ids: &[IdChange]) -> Result<Vec<Run>, 
     Ok(runs)
 }
 
-/// A run with its update that counts, where one does, which is walked then; or out of memory. The candidates are those of
-/// the table, and what is at hand of it may have that update.
+/// A run with its update that counts, where one does, which is walked then; or out of memory. The
+/// candidates are those of the table, and what is at hand of it may have that update. The states of
+/// the walk are written over what their list had.
 fn run_now<'a, L: Ledger>(
     alloc: Global,
     plan: &Plan,
@@ -76,6 +77,7 @@ fn run_now<'a, L: Ledger>(
     candidates: &SharedList<Candidate>,
     near: Option<&'a Stored>,
     run: Run,
+    states: &mut Vec<StopState>,
     steps: &mut Steps<L>,
 ) -> Result<Option<LiveRun>, NoMemory>
     requires candidates { candidates.now ≡ (mentions_of plan.now table.now).candidates }
@@ -90,7 +92,7 @@ fn run_now<'a, L: Ledger>(
     let Some(update) = update_near(table, near, candidate.id.as_str()) else {
         return Ok(None);
     };
-    let rows = rows_of_run(alloc, plan, run, update, steps)?;
+    let rows = rows_of_run(alloc, plan, run, update, states, steps)?;
     Ok(Some(LiveRun {
         run,
         id: candidate.id.copy()?,
@@ -117,10 +119,11 @@ pub(crate) fn turns_of<'a, L: Ledger>(
     ensures few { steps.new ≤ steps.old + length runs.now }
 {
     let mut turns = Vec::with_capacity(alloc, runs.len())?;
+    let mut room = Vec::new(alloc);
     for (number, run) in runs.iter().enumerate() {
         let run = *run;
         let near = hints.at(number);
-        let now = run_now(alloc, plan, table, candidates, near, run, steps)?;
+        let now = run_now(alloc, plan, table, candidates, near, run, &mut room, steps)?;
         turns.push(Turn { run, now })?;
     }
     Ok(turns)
