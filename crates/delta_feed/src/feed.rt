@@ -13,9 +13,9 @@ use crate::pairs::{Pair, Pairs};
 use crate::sent::{push_pair, push_unless_settled};
 use entity_table::Table;
 
-/// Appends what changed in the feed of that name, which held the one up to that stamp and holds the other, by id; or as
-/// much as memory allows. The ids of the timetable are behind the prefix. Where nothing is gone, only what has a newer
-/// stamp is looked at, and else all that there was and is.
+/// Appends what changed in the feed of that name, which held the one up to that stamp and holds the
+/// other, by id; or as much as memory allows. The ids of the timetable are behind the prefix. Where
+/// nothing is gone, only what has a newer stamp is looked at, and else all that there was and is.
 pub fn push_feed(
     feed: &str,
     prefix: &str,
@@ -57,8 +57,8 @@ fn has_lost_none(old: &Table, stamp: u64, new: &Table) -> bool
     }
 }
 
-/// Whether just that many of what has a newer stamp are of ids under which nothing was held. It looks no further than to the
-/// first that is one too many.
+/// Whether just that many of what has a newer stamp are of ids under which nothing was held. It
+/// looks no further than to the first that is one too many.
 fn were_added(old: &Table, stamp: u64, new: &Table, many: usize) -> bool
     ensures { result ≡ (added_count stamp old.now new.now == many) }
 {

@@ -31,8 +31,8 @@ impl<'a> Model for Pair<'a> {
     } };
 }
 
-/// All ids of two tables, in byte order, with what each has under them. A contract sees the list of those that are
-/// left.
+/// All ids of two tables, in byte order, with what each has under them. A contract sees the list of
+/// those that are left.
 #[derive(Drop)]
 pub(crate) struct Pairs<'a> {
     old: Left<'a>,

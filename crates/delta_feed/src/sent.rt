@@ -13,8 +13,8 @@ use crate::pairs::Pair;
 use feed_write::write_under_feed;
 use rt_types::{Bytes, Entity, Text};
 
-/// Appends what is sent of an id, of which what is no newer than the stamp was held. `spare` is for the bytes of what was
-/// held.
+/// Appends what is sent of an id, of which what is no newer than the stamp was held. `spare` is for
+/// the bytes of what was held.
 pub(crate) fn push_unless_settled(
     feed: &str,
     prefix: &str,
@@ -34,8 +34,8 @@ pub(crate) fn push_unless_settled(
     push_pair(feed, prefix, pair, spare, out)
 }
 
-/// Whether something was held under the id, and what is held is no newer than the stamp: so it is the same, and its bytes
-/// need not be compared.
+/// Whether something was held under the id, and what is held is no newer than the stamp: so it is
+/// the same, and its bytes need not be compared.
 fn is_no_newer(stamp: u64, pair: &Pair<'_>) -> bool
     ensures { result ≡ rule.is_no_newer stamp pair.now }
 {

@@ -22,11 +22,12 @@ use feed_out::{newest_stamp, push_header};
 use rt_types::Incrementality;
 use std::alloc::Global;
 
-/// The bytes of what changed in the combined feed of the schedule of that number between a kept view, by its number of
-/// messages, and the given one of the same history (GTFS Realtime 2.0, FeedHeader, DIFFERENTIAL); or out of memory. The
-/// stamps of a feed rise, so what has none above the one that its feed had is the same as it was and is passed over.
-/// Where the messages of both were read, who has the combined feed of the kept view and applies the message has that
-/// of the given one.
+/// The bytes of what changed in the combined feed of the schedule of that number between a kept
+/// view, by its number of messages, and the given one of the same history (GTFS Realtime 2.0,
+/// FeedHeader, DIFFERENTIAL); or out of memory. The stamps of a feed rise, so what has none above
+/// the one that its feed had is the same as it was and is passed over. Where the messages of both
+/// were read, who has the combined feed of the kept view and applies the message has that of the
+/// given one.
 pub fn since(
     alloc: Global,
     kept: &Kept,

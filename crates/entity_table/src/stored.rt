@@ -13,8 +13,8 @@ use std::alloc::Global;
 use std::cmp::Ordering;
 use std::marker::Model;
 
-/// A share of an entity with its stamp, which are on the heap once for all tables that hold them: a copy is a further
-/// share, and takes no memory. A contract sees the entity and the stamp.
+/// A share of an entity with its stamp, which are on the heap once for all tables that hold them: a
+/// copy is a further share, and takes no memory. A contract sees the entity and the stamp.
 #[derive(Drop)]
 pub struct SharedStored {
     inner: Shared<Stored>,

@@ -17,8 +17,8 @@ use shared_list::{Iter, Newer, SharedList};
 use std::alloc::Global;
 use std::marker::Model;
 
-/// What a feed holds: under each id one entity, and the time of the message that brought it. A contract sees
-/// the list of pairs of id and stored entity, in byte order of the ids.
+/// What a feed holds: under each id one entity, and the time of the message that brought it. A
+/// contract sees the list of pairs of id and stored entity, in byte order of the ids.
 #[derive(Drop)]
 pub struct Table {
     pub(crate) list: SharedList<SharedStored>,
@@ -61,7 +61,8 @@ impl Table {
         stored_in(&self.list, id)
     }
 
-    /// All that the feed holds, one entity for each id, in byte order of the ids, which strictly rise.
+    /// All that the feed holds, one entity for each id, in byte order of the ids, which strictly
+    /// rise.
     pub fn iter(&self) -> TableIter<'_>
         ensures items { result ≡ map (λ change. change.1) self.entry.now }
         ensures rising { IsSo (is_sorted (slice_cmp nat_cmp) self.entry.now) }
@@ -74,8 +75,9 @@ impl Table {
         }
     }
 
-    /// What came with a message whose stamp is above the given one, in byte order of the ids. What the table shares with
-    /// an earlier one is passed over by parts, so it hardly costs more than what it gives.
+    /// What came with a message whose stamp is above the given one, in byte order of the ids. What
+    /// the table shares with an earlier one is passed over by parts, so it hardly costs more than
+    /// what it gives.
     pub fn newer(&self, than: u64) -> NewerEntities<'_>
         ensures { result ≡ newer (λ stored. stored.stamp) than
             (map (λ change. change.1) self.entry.now) }
@@ -135,7 +137,8 @@ impl<'a> Iterator for TableIter<'a> {
     }
 }
 
-/// What a table holds that is newer than a stamp, in byte order of the ids. A contract sees the list of what is left.
+/// What a table holds that is newer than a stamp, in byte order of the ids. A contract sees the
+/// list of what is left.
 #[derive(Drop)]
 pub struct NewerEntities<'a> {
     inner: Newer<'a, SharedStored>,

@@ -14,10 +14,10 @@ use hub_outside::{Clock, Door, DoorAnswer, Gate, GatePoint, Sink, Source};
 use std::alloc::Global;
 use std::sync::Wait;
 
-/// Serves the links of a door, up to its first end or fault. Each is served between two points of the
-/// gate, which have the number of this reader, and then given back. Where memory is wanting for a
-/// link, it is given back all the same, and the next one is served. Router and buffers are made once
-/// for all links, and the views that are kept of the last looks go on from link to link.
+/// Serves the links of a door, up to its first end or fault. Each is served between two points of
+/// the gate, which have the number of this reader, and then given back. Where memory is wanting for
+/// a link, it is given back all the same, and the next one is served. Router and buffers are made
+/// once for all links, and the views that are kept of the last looks go on from link to link.
 pub fn serve_door<D: Door, O: Oracle, C: Clock, G: Gate, R: Wait>(
     rt: &R,
     alloc: Global,

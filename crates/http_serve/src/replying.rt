@@ -30,9 +30,10 @@ pub(crate) enum Unwritten {
 }
 
 /// Answers the item at a place of its connection: a look, a reading of the clock, and then the
-/// response, which is made whole before it is written, and noted once it is. What all feeds said at the
-/// look is kept first. The view itself is let go before the first byte is written, so that a client that
-/// reads slowly, or never, keeps none in memory. The views that are kept are of the oracle's history.
+/// response, which is made whole before it is written, and noted once it is. What all feeds said at
+/// the look is kept first. The view itself is let go before the first byte is written, so that a
+/// client that reads slowly, or never, keeps none in memory. The views that are kept are of the
+/// oracle's history.
 pub(crate) fn reply<K: Sink, O: Oracle, C: Clock>(
     place: u16,
     item: &Item,
@@ -82,8 +83,8 @@ pub(crate) fn reply<K: Sink, O: Oracle, C: Clock>(
     Ok(())
 }
 
-/// Keeps what all feeds said at a look, and makes the response of the views that are kept then; or runs
-/// out of memory for either.
+/// Keeps what all feeds said at a look, and makes the response of the views that are kept then; or
+/// runs out of memory for either.
 fn respond(
     responder: &mut Responder,
     kept: &mut Kept,

@@ -44,10 +44,10 @@ impl Responder {
         })
     }
 
-    /// Makes the response to an item, which may be the thousandth of its connection, of the messages
-    /// that the view holds and of the views that are kept of the same history, at a moment up to the end of the year 9999; or
-    /// runs out of memory. Answers where in `bytes` it begins: the body is written where it is sent from,
-    /// and then its head is put before it.
+    /// Makes the response to an item, which may be the thousandth of its connection, of the
+    /// messages that the view holds and of the views that are kept of the same history, at a moment
+    /// up to the end of the year 9999; or runs out of memory. Answers where in `bytes` it begins:
+    /// the body is written where it is sent from, and then its head is put before it.
     #[tactic(auto, unfolding(http_serve_defs::specs::Answers::answer))]
     pub(crate) fn respond(
         &mut self,
@@ -111,8 +111,8 @@ fn answer_item(
     }
 }
 
-/// Appends the body of the answer to a query: of a feed since a view that is kept what changed, and of
-/// all else the whole.
+/// Appends the body of the answer to a query: of a feed since a view that is kept what changed, and
+/// of all else the whole.
 fn answer_query(
     alloc: Global,
     view: &HubView,

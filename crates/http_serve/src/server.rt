@@ -19,9 +19,9 @@ use std::marker::Model;
 
 /// Serves a connection, from the first byte that its source has left to its end, with up to a
 /// thousand responses. Each has the number and the timetables of a look at the oracle, and a moment
-/// of the clock that was read behind that look. A response is written whole before more is read. The
-/// views of its last 64 looks are kept while it goes on, so a client may ask what changed since them. The
-/// oracle holds no view at its end, where it held none before.
+/// of the clock that was read behind that look. A response is written whole before more is read.
+/// The views of its last 64 looks are kept while it goes on, so a client may ask what changed since
+/// them. The oracle holds no view at its end, where it held none before.
 pub fn serve_connection<S: Source, K: Sink, O: Oracle, C: Clock>(
     alloc: Global,
     source: &mut S,
@@ -42,9 +42,9 @@ pub fn serve_connection<S: Source, K: Sink, O: Oracle, C: Clock>(
     server.serve(source, sink, oracle, clock)
 }
 
-/// Serves a connection as [`serve_connection`] does, where those views were kept of looks before it; at
-/// its end the views of the last 64 looks are kept, its own among them. Each view has to be of the
-/// oracle's history.
+/// Serves a connection as [`serve_connection`] does, where those views were kept of looks before
+/// it; at its end the views of the last 64 looks are kept, its own among them. Each view has to be
+/// of the oracle's history.
 pub fn serve_since<S: Source, K: Sink, O: Oracle, C: Clock>(
     alloc: Global,
     source: &mut S,
@@ -72,7 +72,8 @@ pub fn serve_since<S: Source, K: Sink, O: Oracle, C: Clock>(
 
 /// Serves connections, one after another, with the same router and buffers. They are made for the
 /// first connection for which there is memory, and stay for those that follow. No connection leaves
-/// anything to the next but the views that the caller lends, so a contract sees nothing of a server.
+/// anything to the next but the views that the caller lends, so a contract sees nothing of a
+/// server.
 #[derive(Drop)]
 pub struct ConnectionServer {
     alloc: Global,
@@ -94,9 +95,9 @@ impl ConnectionServer {
         }
     }
 
-    /// Serves a connection as [`serve_connection`] does, whatever was served before. Where memory is
-    /// wanting for router, buffers or the views of its looks, it ends so, and the next connection may find
-    /// it.
+    /// Serves a connection as [`serve_connection`] does, whatever was served before. Where memory
+    /// is wanting for router, buffers or the views of its looks, it ends so, and the next
+    /// connection may find it.
     pub fn serve<S: Source, K: Sink, O: Oracle, C: Clock>(
         &mut self,
         source: &mut S,
@@ -121,8 +122,8 @@ impl ConnectionServer {
         self.serve_since(source, sink, oracle, clock, &mut kept)
     }
 
-    /// Serves a connection as [`crate::serve_since`] does, whatever was served before. Where memory is wanting
-    /// for router and buffers, it ends so, and the next connection may find it.
+    /// Serves a connection as [`crate::serve_since`] does, whatever was served before. Where memory
+    /// is wanting for router and buffers, it ends so, and the next connection may find it.
     pub fn serve_since<S: Source, K: Sink, O: Oracle, C: Clock>(
         &mut self,
         source: &mut S,
@@ -153,8 +154,8 @@ impl ConnectionServer {
         service.serve(source, sink, oracle, clock, kept)
     }
 
-    /// Serves the connection whose input is these bytes as [`crate::serve_bytes`] does, whatever was served
-    /// before.
+    /// Serves the connection whose input is these bytes as [`crate::serve_bytes`] does, whatever
+    /// was served before.
     pub fn serve_bytes<O: Oracle>(
         &mut self,
         oracle: &mut O,

@@ -43,8 +43,8 @@ impl Service {
         })
     }
 
-    /// Serves a connection; each look's view is added to those that are kept, which are of the oracle's history. What the reader holds of the
-    /// connection before it is dropped.
+    /// Serves a connection; each look's view is added to those that are kept, which are of the
+    /// oracle's history. What the reader holds of the connection before it is dropped.
     pub(crate) fn serve<S: Source, K: Sink, O: Oracle, C: Clock>(
         &mut self,
         source: &mut S,

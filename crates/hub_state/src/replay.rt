@@ -39,7 +39,8 @@ impl Model for ReplayHub {
 }
 
 impl ReplayHub {
-    /// A hub with those timetables and feeds that accepted nothing and was never looked at; or want of memory.
+    /// A hub with those timetables and feeds that accepted nothing and was never looked at; or want
+    /// of memory.
     pub fn new(alloc: Global, plans: Arc<Plans>) -> Result<ReplayHub, NoMemory>
         ensures { IfOk result (λ hub. hub
             ≡ record { history = []; shown = hub_first (arc_value plans); reads = 0 }) }
@@ -51,8 +52,8 @@ impl ReplayHub {
         })
     }
 
-    /// Takes the message of the bytes for the feed of that number, and answers how many messages the hub
-    /// has accepted with it; or refuses it, and stays as it was.
+    /// Takes the message of the bytes for the feed of that number, and answers how many messages
+    /// the hub has accepted with it; or refuses it, and stays as it was.
     pub fn offer(&mut self, feed: u32, bytes: &[u8]) -> Result<u64, Refusal>
         requires { feed < length self.old.shown.plans.feeds }
         ensures offered { Offers feed bytes.now self.old self.new result }
@@ -120,7 +121,8 @@ impl Oracle for ReplayHub {
     fn release(&mut self) {}
 }
 
-/// The stamp of the last message of the feed of that number, in seconds since 1970; 0 if it sent none.
+/// The stamp of the last message of the feed of that number, in seconds since 1970; 0 if it sent
+/// none.
 fn last_stamp(view: &HubView, feed: u32) -> u64
     requires { feed < length view.now.plans.feeds }
     ensures { result ≡ (feed_at view.now feed).fold.stamp }

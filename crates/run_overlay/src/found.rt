@@ -13,7 +13,8 @@ use rt_types::TripUpdate;
 use sched_types::Run;
 use shared_list::SharedList;
 
-/// The first of the updates about a run, which is the one that counts; `None` where no update is about it.
+/// The first of the updates about a run, which is the one that counts; `None` where no update is
+/// about it.
 pub(crate) fn first_candidate<'a>(
     candidates: &'a SharedList<Candidate>,
     run: Run,
@@ -51,7 +52,8 @@ pub(crate) fn update_at<'a>(table: &'a Table, id: &str) -> Option<&'a TripUpdate
     }
 }
 
-/// The same, where something is at hand that the table has and that may be the entity: then nothing is searched for.
+/// The same, where something is at hand that the table has and that may be the entity: then nothing
+/// is searched for.
 pub(crate) fn update_near<'a>(
     table: &'a Table,
     near: Option<&'a Stored>,

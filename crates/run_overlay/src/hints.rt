@@ -11,8 +11,9 @@ use entity_table::{Stored, Table};
 use sched_types::Run;
 use std::alloc::Global;
 
-/// All that a table holds, in order of the ids, and for each of some runs the place of an entity whose update may be the
-/// one that counts for it. A place is a guess: what stands there is compared with what is looked for.
+/// All that a table holds, in order of the ids, and for each of some runs the place of an entity
+/// whose update may be the one that counts for it. A place is a guess: what stands there is
+/// compared with what is looked for.
 #[derive(Drop)]
 pub(crate) struct Hints<'a> {
     held: Vec<&'a Stored>,
@@ -60,8 +61,8 @@ fn places_of(alloc: Global, ids: &[IdChange], runs: &[Run]) -> Result<Vec<usize>
 }
 
 impl<'a> Hints<'a> {
-    /// Those of the runs that updates are about after changes of ids; or out of memory. They are worth what they cost
-    /// where the changes are those of all ids that the table has, in order.
+    /// Those of the runs that updates are about after changes of ids; or out of memory. They are
+    /// worth what they cost where the changes are those of all ids that the table has, in order.
     pub(crate) fn of(
         alloc: Global,
         table: &'a Table,

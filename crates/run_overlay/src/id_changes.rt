@@ -16,7 +16,8 @@ use sched_types::Plan;
 use shared_list::SharedList;
 use std::alloc::Global;
 
-/// The id of an entity of a message, and the run that the update under it was about before, if it was about one.
+/// The id of an entity of a message, and the run that the update under it was about before, if it
+/// was about one.
 #[derive(Drop)]
 pub(crate) struct IdBefore {
     pub(crate) id: Text,
@@ -41,7 +42,8 @@ fn before_of(links: &SharedList<Link>, id: &Text) -> Result<IdBefore, NoMemory>
     })
 }
 
-/// The ids of some entities, with what their updates were about, by the links that are kept; or out of memory.
+/// The ids of some entities, with what their updates were about, by the links that are kept; or out
+/// of memory.
 pub(crate) fn ids_before(
     alloc: Global,
     links: &SharedList<Link>,
@@ -79,7 +81,8 @@ pub(crate) fn changes_of_ids(
     Ok(changes)
 }
 
-/// What becomes of an id that had nothing; or out of memory. The trip is looked for near the given one first.
+/// What becomes of an id that had nothing; or out of memory. The trip is looked for near the given
+/// one first.
 fn change_of_stored(plan: &Plan, stored: &Stored, near: Option<u32>) -> Result<IdChange, NoMemory>
     ensures { IfOk result (λ one. one ≡ id_change_new plan.now stored.now) }
 {
@@ -98,8 +101,8 @@ fn trip_after(after: About, before: Option<u32>) -> Option<u32> {
     }
 }
 
-/// What becomes of all ids of a table, where there was nothing before; or out of memory. Updates often come in the order of
-/// their trips: so each trip is looked for near the one before.
+/// What becomes of all ids of a table, where there was nothing before; or out of memory. Updates
+/// often come in the order of their trips: so each trip is looked for near the one before.
 pub(crate) fn changes_of_table(
     alloc: Global,
     plan: &Plan,

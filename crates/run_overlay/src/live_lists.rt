@@ -55,8 +55,9 @@ impl LiveLists {
         }
     }
 
-    /// The lists where those runs are as the table says, whose candidates and hints are given; or out of memory. A run is walked at
-    /// most once, and each list is changed once; these stay as they are.
+    /// The lists where those runs are as the table says, whose candidates and hints are given; or
+    /// out of memory. A run is walked at most once, and each list is changed once; these stay as
+    /// they are.
     pub(crate) fn after<'a, L: Ledger>(
         &self,
         alloc: Global,
@@ -140,8 +141,8 @@ fn push_coming<'a>(
     Ok(())
 }
 
-/// Appends what a turn changes of the departures: those that the run had go, and then those come that it has now. One that
-/// stays as it was is left out of both.
+/// Appends what a turn changes of the departures: those that the run had go, and then those come
+/// that it has now. One that stays as it was is left out of both.
 fn push_turn<'a>(
     runs: &'a SharedList<LiveRun>,
     turn: &Turn,
@@ -172,7 +173,8 @@ fn row_changes<'a>(
     Ok(changes)
 }
 
-/// The departures after turns; or out of memory. Where there was no run before, they are sorted at once.
+/// The departures after turns; or out of memory. Where there was no run before, they are sorted at
+/// once.
 fn rows_after(
     alloc: Global,
     runs: &SharedList<LiveRun>,

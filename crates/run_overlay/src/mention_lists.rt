@@ -55,8 +55,8 @@ impl MentionLists {
         }
     }
 
-    /// The lists after those changes of ids, of a feed that holds now what the table has; or out of memory. Each list is
-    /// changed once, and these stay as they are.
+    /// The lists after those changes of ids, of a feed that holds now what the table has; or out of
+    /// memory. Each list is changed once, and these stay as they are.
     pub(crate) fn after(
         &self,
         alloc: Global,

@@ -28,7 +28,8 @@ pub(crate) struct RowKey {
     pub(crate) place: u32,
 }
 
-/// By the expected instant, the trip, the day and the place. Most departures of a stop differ in the first.
+/// By the expected instant, the trip, the day and the place. Most departures of a stop differ in
+/// the first.
 fn slot_order(a: &LiveSlot, b: &LiveSlot) -> Ordering
     ensures { result ≡ slot_cmp a.now b.now }
 {
@@ -43,8 +44,8 @@ fn slot_order(a: &LiveSlot, b: &LiveSlot) -> Ordering
     }
 }
 
-/// By the stop, and then as `slot_order` says. No key is made for it, since lists compare departures more often than they
-/// do anything else.
+/// By the stop, and then as `slot_order` says. No key is made for it, since lists compare
+/// departures more often than they do anything else.
 fn row_order(a: &LiveRow, b: &LiveRow) -> Ordering
     ensures { result ≡ rule.row_cmp (rule.row_key a.now) (rule.row_key b.now) }
 {

@@ -43,7 +43,8 @@ fn push_run(mention: Option<Mention>, runs: &mut Vec<Run>) -> Result<(), NoMemor
     Ok(())
 }
 
-/// The runs that updates were about before the changes and those that they are about now, id by id; or out of memory.
+/// The runs that updates were about before the changes and those that they are about now, id by id;
+/// or out of memory.
 fn all_runs(alloc: Global, ids: &[IdChange]) -> Result<Vec<Run>, NoMemory>
     ensures { IfOk result (λ runs. runs.items ≡ changing.touched_runs ids.now) }
 {
@@ -101,8 +102,8 @@ fn run_now<'a, L: Ledger>(
     }))
 }
 
-/// What becomes of runs, each of which is walked at most once; or out of memory. The candidates and the hints are those of
-/// the table.
+/// What becomes of runs, each of which is walked at most once; or out of memory. The candidates and
+/// the hints are those of the table.
 pub(crate) fn turns_of<'a, L: Ledger>(
     alloc: Global,
     plan: &Plan,

@@ -17,8 +17,8 @@ use std::alloc::Global;
 use std::marker::Model;
 use std::sync::Arc;
 
-/// A reader's pass. A contract sees what it knows of the history, how often it looked, the view that
-/// it shows, and whether that is one that a look found.
+/// A reader's pass. A contract sees what it knows of the history, how often it looked, the view
+/// that it shows, and whether that is one that a look found.
 #[derive(Drop)]
 pub struct Pass {
     pub(crate) reader: Option<SnapReader>,
@@ -63,8 +63,8 @@ impl Pass {
         self.line.learn(&receipt.line);
     }
 
-    /// Knows the whole of the ended history, which begins with all that it knew. It takes no memory,
-    /// and the view stays.
+    /// Knows the whole of the ended history, which begins with all that it knew. It takes no
+    /// memory, and the view stays.
     pub fn finish(&mut self, ending: &Ending)
         requires { AreOne ending.now self.old.line }
         ensures whole { self.new.line ≡ ending.now }

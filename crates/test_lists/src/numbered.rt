@@ -192,8 +192,8 @@ fn found_in(alloc: Global, list: &SharedList<Numbered>) -> Result<u32, NoMemory>
     Ok(count)
 }
 
-/// Whether a list of so many items that it has several nodes keeps them in order, as they come and go, while
-/// a version of it stays.
+/// Whether a list of so many items that it has several nodes keeps them in order, as they come and
+/// go, while a version of it stays.
 fn many(alloc: Global) -> Result<bool, NoMemory> {
     let old = with_places(alloc, SharedList::empty(alloc), 0, NUMBERS)?;
     let back = without_numbers(alloc, old.share()?, 0, 2000)?;
@@ -239,8 +239,9 @@ fn list_of(alloc: Global, items: Vec<Numbered>) -> Result<SharedList<Numbered>, 
     changed(&SharedList::empty(alloc), changes)
 }
 
-/// Whether a list that is made at once, of items in whatever order, is the one that has them put in: of so many
-/// that it has several nodes, of one leaf, and of none; and with two items of one key, of which the last stays.
+/// Whether a list that is made at once, of items in whatever order, is the one that has them put
+/// in: of so many that it has several nodes, of one leaf, and of none; and with two items of one
+/// key, of which the last stays.
 fn at_once(alloc: Global) -> Result<bool, NoMemory> {
     let all = list_of(alloc, items_at(alloc, NUMBERS)?)?;
     let back = without_numbers(alloc, all.share()?, 0, 2000)?;
@@ -277,8 +278,8 @@ fn newer_weighed(list: &SharedList<Numbered>, than: u64) -> u32 {
     sum
 }
 
-/// What is newer in a list of several nodes: nothing, its end, and all but its first item; when one in its middle is
-/// newer, and one more at its end; and when the one in its middle is gone again.
+/// What is newer in a list of several nodes: nothing, its end, and all but its first item; when one
+/// in its middle is newer, and one more at its end; and when the one in its middle is gone again.
 fn newer_ones(alloc: Global) -> Result<[u32; 6], NoMemory> {
     let old = with_places(alloc, SharedList::empty(alloc), 0, NUMBERS)?;
     let middle = key_of(alloc, 500)?;

@@ -84,7 +84,8 @@ fn weight_of(list: &SharedList<Weight>) -> u32 {
     sum
 }
 
-/// The list after changes of every 16th of so many numbers: the weight of one becomes 3, the next one goes.
+/// The list after changes of every 16th of so many numbers: the weight of one becomes 3, the next
+/// one goes.
 fn changed(
     alloc: Global,
     list: &SharedList<Weight>,

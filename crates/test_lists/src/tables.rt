@@ -264,8 +264,8 @@ fn newer_are(table: &Table, than: u64, ids: &[&str]) -> bool {
     place == ids.len()
 }
 
-/// Whether what is newer is found: none, some and all of few ids, and of hundreds those that a message changed, and what
-/// is left of them.
+/// Whether what is newer is found: none, some and all of few ids, and of hundreds those that a
+/// message changed, and what is left of them.
 fn newer_ones(alloc: Global) -> Result<bool, NoMemory> {
     let few = after_all(alloc, &["~ +a +b +c", "~ +b +d", "~ -a +c"])?;
     let old = first_table(alloc, message(alloc, None, 1, many(alloc, 997, None)?)?)?;

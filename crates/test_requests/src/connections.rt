@@ -255,8 +255,8 @@ fn a_write_fails_after_a_whole_response(rt: HostRuntime) -> Result<(), Fail> {
     Ok(())
 }
 
-/// A source that compares, at each read, how many bytes its sink has got with those of all responses
-/// so far.
+/// A source that compares, at each read, how many bytes its sink has got with those of all
+/// responses so far.
 #[derive(Drop)]
 struct Watching<'a> {
     source: MemorySource,

@@ -24,8 +24,8 @@ use feed_out::push_combined;
 use rt_types::Text;
 use std::alloc::Global;
 
-/// Appends the answer to the question, of what the feeds of the view hold: true, or false where there is no such
-/// schedule or stop. Then, and at want of memory, `out` is as it was.
+/// Appends the answer to the question, of what the feeds of the view hold: true, or false where
+/// there is no such schedule or stop. Then, and at want of memory, `out` is as it was.
 pub fn answer(
     alloc: Global,
     view: &HubView,
