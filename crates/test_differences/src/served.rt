@@ -49,9 +49,16 @@ fn answer(
 
 /// The response with this body, whose length is given in digits, of a hub that accepted so many
 /// messages.
-fn response(alloc: Global, length: &[u8], accepted: &[u8], body: &[u8]) -> Result<Vec<u8>, NoMemory> {
-    let mut bytes = b"HTTP/1.1 200 OK\r\nContent-Type: application/x-protobuf\r\nContent-Length: "
-        .to_vec(alloc)?;
+fn response(
+    alloc: Global,
+    length: &[u8],
+    accepted: &[u8],
+    body: &[u8],
+) -> Result<Vec<u8>, NoMemory> {
+    let mut bytes =
+        b"HTTP/1.1 200 OK\r\nContent-Type: application/x-protobuf\r\nContent-Length: ".to_vec(
+            alloc,
+        )?;
     bytes.extend_from_slice(length)?;
     bytes.extend_from_slice(b"\r\nX-Hub-Sequence: ".as_slice())?;
     bytes.extend_from_slice(accepted)?;
