@@ -15,6 +15,10 @@ use std::test::Fail;
 const BAD_REQUEST: &[u8] =
     b"HTTP/1.1 400 Bad Request\r\nContent-Type: text/plain; charset=utf-8\r\nContent-Length: 12\r\nX-Hub-Sequence: 65\r\nX-Hub-Moment: 7\r\nConnection: keep-alive\r\n\r\nbad request\n";
 
+/// How the head of a response with a feed begins.
+const FEED_HEAD: &[u8] =
+    b"HTTP/1.1 200 OK\r\nContent-Type: application/x-protobuf\r\nContent-Length: ";
+
 /// Offers a message of the feed, of which the views that are kept know nothing.
 fn take_in(hub: &mut ReplayHub, kept: &Kept, message: &[u8]) -> Result<(), Fail>
     requires feed { 0 < length hub.old.shown.plans.feeds }
@@ -55,10 +59,7 @@ fn response(
     accepted: &[u8],
     body: &[u8],
 ) -> Result<Vec<u8>, NoMemory> {
-    let mut bytes =
-        b"HTTP/1.1 200 OK\r\nContent-Type: application/x-protobuf\r\nContent-Length: ".to_vec(
-            alloc,
-        )?;
+    let mut bytes = FEED_HEAD.to_vec(alloc)?;
     bytes.extend_from_slice(length)?;
     bytes.extend_from_slice(b"\r\nX-Hub-Sequence: ".as_slice())?;
     bytes.extend_from_slice(accepted)?;
