@@ -12,13 +12,17 @@ top=$(cd "$(dirname "$0")/../.." && pwd)
 needs curl python3
 cd "$top"
 seconds=${1:-60}
-pause=$(awk -v rate="${2:-5}" 'BEGIN { print 1 / rate }')
+rate=${2:-5}
 build_hub
 
-# change_scenes: from scene to scene, so that trams come, go and change. With each a message is sent.
+# change_scenes: from scene to scene, so that trams come, go and change. With each a message is sent, and the next one when
+# it is due, however long this one took.
 change_scenes() {
   local scenes=("late" "late added" "late skipped" "calm" "late canceled unmatched" "skipped added") count=0
-  while sleep "$pause"; do
+  local begin=${EPOCHREALTIME/[.,]/} ahead
+  while true; do
+    ahead=$((begin + count * 1000000 / rate - ${EPOCHREALTIME/[.,]/}))
+    [ "$ahead" -le 0 ] || sleep "$(printf '%d.%06d' "$((ahead / 1000000))" "$((ahead % 1000000))")"
     show_scene "${scenes[count % ${#scenes[@]}]}"
     count=$((count + 1))
   done
