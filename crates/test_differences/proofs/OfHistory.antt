@@ -1,12 +1,12 @@
 -- What a reader keeps of a hub's views is of the hub's history.
-use Rattle.std.proofs.Common.{◌≡◌, ℕ, List, [], ◌∷◌, ◌++◌, length, Result, Ok, Err, sym, ap, subst}
+use Rattle.std.proofs.Common.{◌≡◌, ℕ, List, [], ◌∷◌, ◌++◌, Result, Ok, Err, sym, ap, subst}
 use Rattle.rt_types.specs.declared.message.FeedMessage.{FeedMessage}
 use Rattle.feed_defs.specs.declared.history.Entry.{Entry}
-use Rattle.feed_defs.specs.History.{IsLegal, Refusal, judgement_of, last_stamp, outcome_of_judgement}
+use Rattle.feed_defs.specs.History.{Refusal, judgement_of, last_stamp, outcome_of_judgement}
 use Rattle.sched_types.specs.Schedules.{Schedules}
 use Rattle.board_defs.specs.Views.{HubKept, StandsFor}
 use Rattle.delta_defs.specs.Kept.{KeptView, view_of, views_with}
-use Rattle.delta_defs.specs.OneHistory.{AreOfHistory, AreOfOneHistory}
+use Rattle.delta_defs.specs.OneHistory.{AreOfHistory}
 use Rattle.delta_defs.proofs.OneHistory.{of_longer, of_history_with, view_of_history}
 use Rattle.hub_state.specs.Replay.{Replayed, Offers}
 
@@ -26,8 +26,3 @@ of_offered feed bytes old new count kept offered plans are =
     let longer = grown feed old.history new.history count (judgement_of (last_stamp feed old.history) bytes) offered in
     subst (λ (p : Schedules). AreOfHistory p new.history kept) (sym plans)
     (subst (λ (h : List Entry). AreOfHistory old.shown.plans h kept) longer.1 (of_longer old.shown.plans old.history longer.0 kept are))
-
--- the view of the hub and those that are kept
-pub one_history : (h : List Entry) (shown view : HubKept) (kept : List KeptView) → view ≡ shown → IsLegal (length shown.plans.feeds) h → StandsFor h shown → AreOfHistory shown.plans h kept → AreOfOneHistory kept view
-one_history h shown view kept same legal stands are =
-    subst (AreOfOneHistory kept) (sym same) (record { history = h; rising = legal.rising; stands = stands; are = are })
