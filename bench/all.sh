@@ -61,6 +61,7 @@ else
   run replays_large replays "a whole data set of 30,000 entities" full 1 30000
   run boards bench/boards.sh
   run combined bench/combined.sh
+  run since bench/since.sh
   run gen bench/gen.sh
   run serve bench/serve.sh
   run ingest bench/running.sh ingest
@@ -218,6 +219,12 @@ rows("`combined.sh`",
       + joined(found("combined", r"([\d,]+) MB a second")) + " MB a second"),
      ("times a copy of its bytes within memory", joined(found("combined", r"([\d,]+) times less"))),
      ("an entity of it", joined(found("combined", r"([\d,]+) instructions an entity")) + " instructions"))
+rows("`since.sh`",
+     ("what changed in a combined feed of 3,000 entities and of 30,000 since an earlier answer, 20 entities; the whole feeds",
+      joined(found("since", r"^20 .*?: ([\d,]+) instructions, ")) + "; "
+      + joined(found("since", r"feed ([\d,]+) instructions, ")) + " instructions"),
+     ("next to the whole feed; of the larger next to the smaller", joined(found("since", r"([\d.]+) of its"), ".3f") + " of the instructions; "
+      + joined(found("since", r"([\d.]+) times the instructions"), ".2f") + " times as many"))
 boards = [number(board) / 1e6 for board in re.findall(r"boards: .*?([\d,]+) a board", text("gen"))]
 rows("`gen.sh`",
      ("`hub gen` of 1,000 trips and 1,000 messages; 5,000 and 1,000; 20,000 and 200; 20,000 and 2,000",

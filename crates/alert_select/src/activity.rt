@@ -6,8 +6,8 @@ ghost use Rattle.alert_defs.specs.Alerts as rule;
 
 use rt_types::{Alert, Period};
 
-/// Whether the alert is active at a moment, in seconds since 1970: in one of its periods, and always
-/// where it has none (GTFS Realtime 2.0, Alert, `active_period`).
+/// Whether the alert is active at a moment, in seconds since 1970: in one of its periods, and
+/// always where it has none (GTFS Realtime 2.0, Alert, `active_period`).
 #[tactic(auto, unfolding(alert_defs::specs::Alerts::is_active))]
 pub fn active(alert: &Alert, at: u64) -> bool
     ensures { result ≡ rule.is_active alert.now at }

@@ -12,8 +12,8 @@ use rt_types::{Selector, Text, TripRef};
 use sched_types::Plan;
 use trip_match::{Found, find};
 
-/// A selector with the numbers of what it names. A number is absent where nothing is given, and where
-/// the timetable has no such row.
+/// A selector with the numbers of what it names. A number is absent where nothing is given, and
+/// where the timetable has no such row.
 #[derive(Drop)]
 pub(crate) struct Aim<'a> {
     /// The selector.

@@ -15,8 +15,8 @@ use rt_types::{Copied, FeedMessage, Text};
 use std::alloc::Global;
 use std::marker::Model;
 
-/// What a feed holds that has an alert, kept beside the table of all that it holds. A contract sees the list of
-/// pairs of id and stored entity, in byte order of the ids.
+/// What a feed holds that has an alert, kept beside the table of all that it holds. A contract sees
+/// the list of pairs of id and stored entity, in byte order of the ids.
 #[derive(Drop)]
 pub struct AlertIndex {
     alerts: Table,
@@ -52,8 +52,8 @@ impl AlertIndex {
         Ok(AlertIndex { alerts })
     }
 
-    /// What a message goes on from: nothing, where it is a whole data set, and else an index that shares with this
-    /// one all that it holds; or want of memory.
+    /// What a message goes on from: nothing, where it is a whole data set, and else an index that
+    /// shares with this one all that it holds; or want of memory.
     pub fn start(&self, alloc: Global, message: &FeedMessage) -> Result<AlertIndex, NoMemory>
         ensures { IfOk result (λ start. start ≡ (if is_full message.now then [] else self.now)) }
     {
@@ -62,9 +62,10 @@ impl AlertIndex {
         })
     }
 
-    /// The index of what the feed holds after one entity of a message, where this is the index of what it held
-    /// before and `before` is what it held under the entity's id; or out of memory. An entity with an alert is
-    /// held in a further share. Where neither it nor what it replaces has one, nothing is searched.
+    /// The index of what the feed holds after one entity of a message, where this is the index of
+    /// what it held before and `before` is what it held under the entity's id; or out of memory. An
+    /// entity with an alert is held in a further share. Where neither it nor what it replaces has
+    /// one, nothing is searched.
     pub fn with(
         self,
         stored: &SharedStored,

@@ -18,10 +18,10 @@ use crate::subject::{AddedKey, Subject};
 use rt_types::{Alert, Selector};
 use sched_types::{Plan, Run};
 
-/// Whether the selector of an alert touches the subject: a stop where it gives a stop_id alone, of the
-/// stop, its parent or one of its children; a row where each field that it gives holds, and it gives
-/// one (GTFS Realtime 2.0, EntitySelector). A trip is taken as it is meant at the stamp of the alert's
-/// message, in seconds since 1970. It takes no memory.
+/// Whether the selector of an alert touches the subject: a stop where it gives a stop_id alone, of
+/// the stop, its parent or one of its children; a row where each field that it gives holds, and it
+/// gives one (GTFS Realtime 2.0, EntitySelector). A trip is taken as it is meant at the stamp of
+/// the alert's message, in seconds since 1970. It takes no memory.
 pub fn touches(plan: &Plan, selector: &Selector, stamp: u64, subject: Subject<'_>) -> bool
     requires { IsWithin plan.now subject }
     ensures { result ≡ rule.touches plan.now selector.now stamp (touched_by subject.entry) }

@@ -1,16 +1,20 @@
-//! The program `bench_rates`: how fast passes look at a hub, and how fast a hub takes messages in, for scripts to time.
+//! The program `bench_rates`: how fast passes look at a hub, and how fast a hub takes messages in,
+//! for scripts to time.
 //!
-//! `bench_rates cell THREADS LOOKS MESSAGES` opens a hub of one feed with so many passes. Each looks so often, in a
-//! thread of its own, while the main thread ingests so many small messages. `bench_rates mutex ..` does the same with a
-//! lock round a view, under which each look takes a share of it, and the main thread puts the view anew so often.
-//! `bench_rates offer ..` offers the messages to a hub on one thread. `bench_rates none ..` starts threads that do
-//! nothing, so that a script can take the start away. Then one line tells how many looks answered and how many
+//! `bench_rates cell THREADS LOOKS MESSAGES` opens a hub of one feed with so many passes. Each
+//! looks so often, in a thread of its own, while the main thread ingests so many small messages.
+//! `bench_rates mutex ..` does the same with a lock round a view, under which each look takes a
+//! share of it, and the main thread puts the view anew so often. `bench_rates offer ..` offers the
+//! messages to a hub on one thread. `bench_rates none ..` starts threads that do nothing, so that a
+//! script can take the start away. Then one line tells how many looks answered and how many
 //! messages were accepted, whatever the schedule was.
 //!
-//! `bench_rates departures CONFIG START SPAN TIMES` makes the index of the configuration's first timetable, and goes so
-//! often over the departures at all stops from that instant on, for so many seconds. The line tells how many these were.
+//! `bench_rates departures CONFIG START SPAN TIMES` makes the index of the configuration's first
+//! timetable, and goes so often over the departures at all stops from that instant on, for so many
+//! seconds. The line tells how many these were.
 //!
-//! `words` reads the words, `messages` makes the messages, and `looks`, `intake` and `departures` do what is timed.
+//! `words` reads the words, `messages` makes the messages, and `looks`, `intake` and `departures`
+//! do what is timed.
 #![tactic(auto)]
 
 ghost use Rattle.std.specs.Prelude.{◌≡◌, ◌≤◌, ◌++◌, codes, IfOk};

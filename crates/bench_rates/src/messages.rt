@@ -35,8 +35,8 @@ fn feed(alloc: Global, name: &str) -> Result<NamedFeed, NoMemory>
     })
 }
 
-/// The message of that place: a whole data set with a delay of 300 seconds for one trip. Each is made a second
-/// behind the one before it, and the stamp of each is below 2^35.
+/// The message of that place: a whole data set with a delay of 300 seconds for one trip. Each is
+/// made a second behind the one before it, and the stamp of each is below 2^35.
 pub fn message(place: u64) -> [u8; 47] {
     let stamp = FIRST.saturating_add(place);
     let mut bytes =

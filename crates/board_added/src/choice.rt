@@ -47,8 +47,8 @@ pub(crate) fn in_order<'a>(alloc: Global, all: &[Update<'a>]) -> Result<Vec<Upda
     Ok(sorted)
 }
 
-/// Whether another update of the same trip counts more, of updates in order: the last one that goes up to this
-/// trip tells, for where it isn't of this trip, it goes before.
+/// Whether another update of the same trip counts more, of updates in order: the last one that goes
+/// up to this trip tells, for where it isn't of this trip, it goes before.
 pub(crate) fn is_outdone(sorted: &[Update<'_>], update: &Update<'_>) -> bool
     requires { IsSorted full_cmp sorted.now }
     ensures { result ≡ choosing.is_outdone sorted.now update.now }

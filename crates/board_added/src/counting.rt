@@ -97,8 +97,9 @@ fn push_unless<'a>(
     push_trip(alloc, plan, query, stop, update.trip_update(), out)
 }
 
-/// The rows of added trips on the board of a stop, by its number, of the updates of added trips, in their order:
-/// for each added trip those of the update that counts. The texts are those of the updates; or want of memory.
+/// The rows of added trips on the board of a stop, by its number, of the updates of added trips, in
+/// their order: for each added trip those of the update that counts. The texts are those of the
+/// updates; or want of memory.
 pub fn added_rows<'a>(
     alloc: Global,
     plan: &Plan,

@@ -29,8 +29,8 @@ fn push_update<'a>(
     Ok(())
 }
 
-/// Appends the updates of added trips in a feed that count at that moment, by the ids of their entities. The feed's
-/// overlay must be kept for the timetable.
+/// Appends the updates of added trips in a feed that count at that moment, by the ids of their
+/// entities. The feed's overlay must be kept for the timetable.
 fn push_added<'a>(
     plan: &Plan,
     at: u64,
@@ -52,9 +52,9 @@ fn push_added<'a>(
     Ok(())
 }
 
-/// The updates of added trips in the feeds of a schedule that count at a moment, in seconds since 1970, by feed and then
-/// by the id of their entity (GTFS Realtime, TripDescriptor, `ADDED`); or out of memory. The overlays of the feeds must
-/// be kept for the timetable.
+/// The updates of added trips in the feeds of a schedule that count at a moment, in seconds since
+/// 1970, by feed and then by the id of their entity (GTFS Realtime, TripDescriptor, `ADDED`); or
+/// out of memory. The overlays of the feeds must be kept for the timetable.
 pub(crate) fn added_updates<'a>(
     alloc: Global,
     plan: &Plan,

@@ -27,7 +27,8 @@ use run_departures::{Asked, RunDepartures, departures};
 use sched_types::Plan;
 use std::alloc::Global;
 
-/// The first lines of a board, of departures of runs, which are in order, and of rows of added trips; or out of memory.
+/// The first lines of a board, of departures of runs, which are in order, and of rows of added
+/// trips; or out of memory.
 fn first_of_both<'a>(
     alloc: Global,
     plan: &Plan,
@@ -125,15 +126,16 @@ fn subjects_at<'a>(
     subjects_of(alloc, first.as_slice())
 }
 
-/// The rows of the asked board, of what the hub's feeds hold: the places, but the last of a trip, at which
-/// passengers may board at the stop or at a stop that names it as `parent_station`, of all runs of the
-/// timetable, and the calls there, but the last of a trip, of added trips, by the expected instant, the trip_id,
-/// the date, runs before added trips, and the place. A place is at the stop that its run's update assigns to it, and
-/// else at that of the timetable.
+/// The rows of the asked board, of what the hub's feeds hold: the places, but the last of a trip,
+/// at which passengers may board at the stop or at a stop that names it as `parent_station`, of all
+/// runs of the timetable, and the calls there, but the last of a trip, of added trips, by the
+/// expected instant, the trip_id, the date, runs before added trips, and the place. A place is at
+/// the stop that its run's update assigns to it, and else at that of the timetable.
 ///
-/// Departures come one after another, out of the index of the timetable and the overlays of the feeds, and no more than
-/// the limit are taken: so a board costs the rows that it shows, and neither its window nor the timetable. Updates of
-/// added trips are gone over all. Texts are made for the rows that are shown.
+/// Departures come one after another, out of the index of the timetable and the overlays of the
+/// feeds, and no more than the limit are taken: so a board costs the rows that it shows, and
+/// neither its window nor the timetable. Updates of added trips are gone over all. Texts are made
+/// for the rows that are shown.
 pub fn rows(alloc: Global, view: &HubView, query: &BoardQuery) -> Result<Vec<Row>, RowsFault>
     requires plan { query.now.plan < length view.now.plans.plans }
     requires moment { query.now.at ≤ last_moment }
@@ -151,7 +153,8 @@ pub fn rows(alloc: Global, view: &HubView, query: &BoardQuery) -> Result<Vec<Row
     }
 }
 
-/// What the rows of the asked board are about, in their order: the same rows that [`rows`] gives. No text is made.
+/// What the rows of the asked board are about, in their order: the same rows that [`rows`] gives.
+/// No text is made.
 pub fn subjects<'a>(
     alloc: Global,
     view: &'a HubView,

@@ -23,7 +23,8 @@ pub(crate) struct ScheduleFeed<'a> {
     pub(crate) view: &'a FeedView,
 }
 
-/// The feeds of a schedule, by their numbers; or out of memory. What their updates come to is kept for its timetable.
+/// The feeds of a schedule, by their numbers; or out of memory. What their updates come to is kept
+/// for its timetable.
 pub(crate) fn feeds_of<'a>(
     alloc: Global,
     view: &'a HubView,

@@ -22,10 +22,11 @@ use board_defs::BoardQuery;
 use sched_types::Plan;
 use std::alloc::Global;
 
-/// The alerts of the schedule's feeds that count and are active at the query's moment and touch its stop or one of the
-/// rows of its board, by feed and then by id.
+/// The alerts of the schedule's feeds that count and are active at the query's moment and touch its
+/// stop or one of the rows of its board, by feed and then by id.
 ///
-/// It looks at the alerts alone, and asks for the rows of the board only where one of them is active.
+/// It looks at the alerts alone, and asks for the rows of the board only where one of them is
+/// active.
 pub fn alerts(alloc: Global, view: &HubView, query: &BoardQuery) -> Result<Vec<AlertRow>, RowsFault>
     requires plan { query.now.plan < length view.now.plans.plans }
     requires moment { query.now.at ≤ last_moment }

@@ -25,8 +25,8 @@ pub(crate) fn row_of(alloc: Global, active: &ActiveAlert<'_>) -> Result<AlertRow
     })
 }
 
-/// The heading: the first translation that tells no language, else the first, else nothing (GTFS Realtime 2.0,
-/// TranslatedString).
+/// The heading: the first translation that tells no language, else the first, else nothing (GTFS
+/// Realtime 2.0, TranslatedString).
 fn header_of(header: &Option<Translated>) -> &str
     ensures { result.now ≡ rule.header_of header.now }
 {

@@ -16,9 +16,10 @@ use std::alloc::Global;
 use trip_match::find;
 use trip_match_defs::Found;
 
-/// The trip updates and vehicles, in the feeds of the schedule of that number, whose trip is no run of its
-/// timetable and no added trip, and why, by feed and then by id, a trip update before its vehicle; or want of
-/// memory. A trip is taken as it is meant at its own stamp, where that is a moment, else at its message's.
+/// The trip updates and vehicles, in the feeds of the schedule of that number, whose trip is no run
+/// of its timetable and no added trip, and why, by feed and then by id, a trip update before its
+/// vehicle; or want of memory. A trip is taken as it is meant at its own stamp, where that is a
+/// moment, else at its message's.
 pub fn unmatched(alloc: Global, view: &HubView, plan: u32) -> Result<Vec<Unmatched>, NoMemory>
     requires { plan < length view.now.plans.plans }
     ensures listed { IfOk result (λ all. all.items

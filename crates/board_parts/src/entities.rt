@@ -10,7 +10,8 @@ use feed_view::FeedView;
 use sched_types::NamedFeed;
 use std::marker::Model;
 
-/// An entity that a feed holds, with the number of the feed. A contract sees it as `HeldEntity` of `board_defs`.
+/// An entity that a feed holds, with the number of the feed. A contract sees it as `HeldEntity` of
+/// `board_defs`.
 #[derive(Drop)]
 pub struct HeldEntity<'a> {
     number: u32,
@@ -65,7 +66,8 @@ impl<'a> HeldEntity<'a> {
     }
 }
 
-/// What one feed holds, or what of it has an alert, by id. A contract sees the list of what is left.
+/// What one feed holds, or what of it has an alert, by id. A contract sees the list of what is
+/// left.
 #[derive(Drop)]
 struct FeedEntities<'a> {
     number: u32,
@@ -124,8 +126,8 @@ impl<'a> Iterator for FeedEntities<'a> {
     }
 }
 
-/// What the feeds of a schedule hold, or what of it has an alert, by feed and then by id. A contract sees the list of
-/// what is left.
+/// What the feeds of a schedule hold, or what of it has an alert, by feed and then by id. A
+/// contract sees the list of what is left.
 #[derive(Drop)]
 pub struct HeldEntities<'a> {
     // Whether what has no alert is left out.

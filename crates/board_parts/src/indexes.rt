@@ -9,7 +9,8 @@ use std::alloc::Global;
 use std::marker::Model;
 use stop_index::StopIndex;
 
-/// For each timetable of a hub, by its number, its departures by their stops. A contract sees the list.
+/// For each timetable of a hub, by its number, its departures by their stops. A contract sees the
+/// list.
 #[derive(Drop)]
 pub struct Indexes {
     indexes: Vec<StopIndex>,
@@ -25,7 +26,8 @@ impl Model for Indexes {
 }
 
 impl Indexes {
-    /// Those of these timetables; or out of memory. A stop time takes 12 bytes and a stop 4, whatever the window.
+    /// Those of these timetables; or out of memory. A stop time takes 12 bytes and a stop 4,
+    /// whatever the window.
     pub fn build(alloc: Global, plans: &Plans) -> Result<Indexes, NoMemory>
         ensures { IfOk result (λ all. all ≡ indexes_of plans.now) }
     {

@@ -11,8 +11,8 @@ use run_overlay::stamp_of;
 use std::cmp::Ordering;
 use std::marker::Model;
 
-/// A trip update, with the number of its feed, the id of its entity, and its stamp. A contract sees it as `Update` of
-/// `board_defs`.
+/// A trip update, with the number of its feed, the id of its entity, and its stamp. A contract sees
+/// it as `Update` of `board_defs`.
 #[derive(Drop)]
 pub struct Update<'a> {
     stamp: u64,
@@ -80,8 +80,8 @@ impl<'a> Update<'a> {
         self.update
     }
 
-    /// How it counts against another: the later one more, then that of the lower feed number, then that of the
-    /// greater id.
+    /// How it counts against another: the later one more, then that of the lower feed number, then
+    /// that of the greater id.
     pub fn order(&self, other: &Update<'a>) -> Ordering
         ensures { result ≡ choosing.choice_cmp self.entry.now other.entry.now }
     {

@@ -62,8 +62,8 @@ impl Model for HubView {
 }
 
 impl HubView {
-    /// The view of a hub with those timetables and feeds that accepted nothing; or out of memory. The departures of the
-    /// timetables are put in order by their stops.
+    /// The view of a hub with those timetables and feeds that accepted nothing; or out of memory.
+    /// The departures of the timetables are put in order by their stops.
     pub fn first(alloc: Global, plans: Arc<Plans>) -> Result<HubView, NoMemory>
         ensures { IfOk result (λ view. view ≡ hub_first (arc_value plans)) }
     {
@@ -77,8 +77,9 @@ impl HubView {
         })
     }
 
-    /// The view after one message more of the feed of that number, whose stamp is a moment after that feed's last one; or
-    /// out of memory. The message's entities are taken out of it, and all that it doesn't touch is shared with this view.
+    /// The view after one message more of the feed of that number, whose stamp is a moment after
+    /// that feed's last one; or out of memory. The message's entities are taken out of it, and all
+    /// that it doesn't touch is shared with this view.
     pub fn after(&self, alloc: Global, feed: u32, message: FeedMessage) -> Result<HubView, NoMemory>
         requires feed { feed < length self.now.plans.feeds }
         requires moment { IsTrue (is_stamp (stamp_of message)) }
@@ -91,8 +92,9 @@ impl HubView {
         self.with_feed(alloc, feed, next)
     }
 
-    /// The view after one message more of the feed of that number, whose view with it is given; or out of memory. What the
-    /// feed's updates come to must be kept for its timetable. All else is shared with this view.
+    /// The view after one message more of the feed of that number, whose view with it is given; or
+    /// out of memory. What the feed's updates come to must be kept for its timetable. All else is
+    /// shared with this view.
     pub fn with_feed(&self, alloc: Global, feed: u32, view: FeedView) -> Result<HubView, NoMemory>
         requires feed { feed < length self.now.feeds }
         requires more { view.fold.count ≡ (feed_at self.now feed).fold.count + 1 }

@@ -14,8 +14,8 @@ use board_parts::HubView;
 use itoa::Buffer;
 use sched_types::NamedFeed;
 
-/// Appends the list of alerts of a view's feeds: a line with the names of the columns, and a line for each row,
-/// with the name of its feed. Want of memory leaves `out` as it was.
+/// Appends the list of alerts of a view's feeds: a line with the names of the columns, and a line
+/// for each row, with the name of its feed. Want of memory leaves `out` as it was.
 pub fn alerts_text(view: &HubView, rows: &[AlertRow], out: &mut Vec<u8>) -> Result<(), NoMemory>
     ensures written { OnOk result
         (out.new.items ≡ out.old.items ++ alerts_text view.now.plans.feeds rows.now) }

@@ -14,8 +14,9 @@ use json::Writer;
 use sched_types::NamedFeed;
 use std::mem;
 
-/// Appends the list of alerts of a view's feeds beside the board of the stop of that id, as one JSON value
-/// (RFC 8259) with no spaces, the keys of each object in byte order. Want of memory leaves `out` as it was.
+/// Appends the list of alerts of a view's feeds beside the board of the stop of that id, as one
+/// JSON value (RFC 8259) with no spaces, the keys of each object in byte order. Want of memory
+/// leaves `out` as it was.
 pub fn alerts_json(
     view: &HubView,
     stop: &str,

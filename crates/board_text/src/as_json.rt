@@ -11,8 +11,8 @@ use board_defs::Row;
 use json::Writer;
 use std::mem;
 
-/// Appends the board of the stop of that id and name as one JSON value (RFC 8259) with no spaces, the keys of each
-/// object in byte order. Want of memory leaves `out` as it was.
+/// Appends the board of the stop of that id and name as one JSON value (RFC 8259) with no spaces,
+/// the keys of each object in byte order. Want of memory leaves `out` as it was.
 #[tactic(auto, unfolding(board_text_defs::specs::BoardJson::board_json))]
 pub fn board_json(stop: &str, name: &str, rows: &[Row], out: &mut Vec<u8>) -> Result<(), NoMemory>
     ensures written { OnOk result

@@ -14,8 +14,8 @@ use crate::words::word_of;
 use board_defs::Row;
 use itoa::Buffer;
 
-/// Appends the board of the stop of that id and name: a line with both, a line with the names of the columns, and
-/// a line for each row. Want of memory leaves `out` as it was.
+/// Appends the board of the stop of that id and name: a line with both, a line with the names of
+/// the columns, and a line for each row. Want of memory leaves `out` as it was.
 pub fn board_text(stop: &str, name: &str, rows: &[Row], out: &mut Vec<u8>) -> Result<(), NoMemory>
     ensures written { OnOk result
         (out.new.items ≡ out.old.items ++ board_text stop.now name.now rows.now) }
@@ -97,8 +97,8 @@ fn push_row(row: &Row, out: &mut Vec<u8>) -> Result<(), NoMemory>
     )
 }
 
-/// Appends the line of a row, whose numbers are spelled already. Words of our own and numbers have no control
-/// characters and are not looked through.
+/// Appends the line of a row, whose numbers are spelled already. Words of our own and numbers have
+/// no control characters and are not looked through.
 fn push_cells<'a>(
     expected: &'a str,
     scheduled: &'a str,

@@ -11,8 +11,8 @@ ghost use Rattle.board_text.specs.Fields.{after_tab, before_tab};
 use crate::NoMemory;
 use texts::push_cleaned;
 
-/// Appends a line: the fields with a tab between any two, each with a space in place of a control character, and
-/// a line feed; or as much of it as memory allows.
+/// Appends a line: the fields with a tab between any two, each with a space in place of a control
+/// character, and a line feed; or as much of it as memory allows.
 pub(crate) fn push_line(fields: &[&str], out: &mut Vec<u8>) -> Result<(), NoMemory>
     ensures written { OnOk result
         (out.new.items ≡ out.old.items ++ line_of_fields (map (λ field. field.now) fields.now)) }

@@ -13,9 +13,10 @@ use crate::lines::push_line;
 use board_parts::{HubFeed, HubFeeds, HubView};
 use itoa::Buffer;
 
-/// Appends the status of a hub: a line with how many messages it accepted, a line with the names of the columns,
-/// and a line for each feed with its name, how many of its messages were accepted, the stamp of the last, in
-/// seconds since 1970, and how many entities it holds. Want of memory leaves `out` as it was.
+/// Appends the status of a hub: a line with how many messages it accepted, a line with the names of
+/// the columns, and a line for each feed with its name, how many of its messages were accepted, the
+/// stamp of the last, in seconds since 1970, and how many entities it holds. Want of memory leaves
+/// `out` as it was.
 pub fn status_text(view: &HubView, out: &mut Vec<u8>) -> Result<(), NoMemory>
     ensures written { OnOk result
         (out.new.items ≡ out.old.items ++ status_text view.now.plans.feeds (folds_of view.now)) }

@@ -14,8 +14,8 @@ use board_parts::HubView;
 use sched_types::NamedFeed;
 use trip_match_defs::Why;
 
-/// Appends the list of unmatched trips of a view's feeds: a line with the names of the columns, and a line for
-/// each row, with the name of its feed. Want of memory leaves `out` as it was.
+/// Appends the list of unmatched trips of a view's feeds: a line with the names of the columns, and
+/// a line for each row, with the name of its feed. Want of memory leaves `out` as it was.
 pub fn unmatched_text(view: &HubView, rows: &[Unmatched], out: &mut Vec<u8>) -> Result<(), NoMemory>
     ensures written { OnOk result
         (out.new.items ≡ out.old.items ++ unmatched_text view.now.plans.feeds rows.now) }

@@ -1,7 +1,6 @@
 -- Delays that the pass writes are near.
-use Rattle.std.proofs.Common.{◌≡◌, ℕ, ◌<◌, ◌≤◌, true, Option, Some, None, List, [], ◌∷◌, ◌++◌, replicate, IfSome, ℤ, pos, negsuc, ◌+ℤ◌, ◌-ℤ◌, sym, ap, ◌∙◌, append_assoc, append-nil, arith, ◌^◌}
+use Rattle.std.proofs.Common.{◌≡◌, ℕ, ◌<◌, ◌≤◌, true, Option, List, [], ◌∷◌, ◌++◌, replicate, IfSome, ℤ, pos, negsuc, ◌+ℤ◌, ◌-ℤ◌, sym, ap, ◌∙◌, append_assoc, append-nil, arith, ◌^◌}
 use Rattle.std.specs.List.{All}
-use Rattle.std.specs.Option.{option_or}
 use Rattle.std.proofs.lemmas.Bool.Decides.{nat_tests}
 use Rattle.std.proofs.lemmas.Int.{ints}
 use Rattle.std.proofs.lemmas.List.Elements.{All-nil, All-append, All-push, All-replicate, All-same}
@@ -23,11 +22,6 @@ near_behind (pos n) base seconds counts small few =
       below = omega (arith, ints, small.above, small.below);
     }
 near_behind (negsuc n) base seconds counts small few = cc
-
--- the one or the other
-pub near_or : (a b : Option ℤ) → IfSome a IsNear → IfSome b IsNear → IfSome (option_or a b) IsNear
-near_or None b near other = other
-near_or (Some x) b near other = near
 
 pub near_plain : (carry : Option ℤ) → IfSome carry IsNear → IsNearState (plain carry)
 near_plain carry near = record { arrival = near; departure = near }

@@ -1,12 +1,11 @@
 -- The difference brings a combined feed from what it was to what it is.
-use Rattle.std.proofs.Common.{◌≡◌, ◌≢◌, ℕ, zero, suc, ◌+◌, List, [], ◌∷◌, ◌++◌, map, length, Bool, true, false, cond, nat_eq, Option, Some, None, refl, sym, ap, ◌∙◌, subst, append_assoc, length-append, codes, arith}
+use Rattle.std.proofs.Common.{◌≡◌, ℕ, zero, suc, ◌+◌, List, [], ◌∷◌, ◌++◌, map, length, Bool, true, false, cond, nat_eq, Option, Some, None, refl, sym, ap, ◌∙◌, subst, append_assoc, length-append, codes, arith}
 use Rattle.std.specs.Prelude.{◌&&◌, T, filter, slice_get, slice_index_or, nat_le, if◌then◌else◌, IsTrue}
 use Rattle.std.specs.List.{flat_map, filter_map, cons_option, list_all, AllByRecursion}
 use Rattle.std.specs.Option.{option_map, option_and_then, option_map_or}
 use Rattle.std.specs.Str.{bytes_eq}
-use Rattle.std.specs.Ordering.{is_eq, eq_by_cmp}
+use Rattle.std.specs.Ordering.{eq_by_cmp}
 use Rattle.std.specs.FinMap.{find, is_sorted}
-use Rattle.std.specs.FinMap.Entries.{below_all}
 use Rattle.std.proofs.lemmas.Bool.{eqb-true, and_parts}
 use Rattle.std.proofs.lemmas.List.{map-append}
 use Rattle.std.proofs.lemmas.Map.Text.{is_eq-slice_cmp}
@@ -24,8 +23,8 @@ use Rattle.board_defs.specs.Feeds.{HubFeed, feeds_from, is_of_schedule, schedule
 use Rattle.board_defs.specs.Fold.{FeedFold}
 use Rattle.board_defs.specs.Views.{no_fold}
 use Rattle.delta_defs.specs.Applied.{BringsTo, combined_message}
-use Rattle.delta_defs.specs.Changes.{gone, is_same, combined_of, change_sent, held_under, ids_of_both, feed_changes, held_before, changes}
-use Rattle.delta_defs.proofs.IdOrder.{same_id, equal, tied, find_below, or_else, found_alone, found_either}
+use Rattle.delta_defs.specs.Changes.{gone, is_same, combined_of, change_sent, held_under, feed_changes, held_before, changes}
+use Rattle.delta_defs.proofs.IdOrder.{same_id, equal, find_below, or_else, found_alone, found_either}
 use Rattle.delta_defs.proofs.Told.{if_under, told, standing, or_else-none, told-append, got_one, got_two, got_same}
 
 -- ---- ids under a feed's name

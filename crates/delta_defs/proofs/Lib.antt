@@ -3,3 +3,4 @@ pub mod IdOrder
 pub mod Told
 pub mod Applying
 pub mod Tables
+pub mod OneHistory

@@ -1,5 +1,5 @@
 -- What a history says of each feed is in order, each entity under its own id.
-use Rattle.std.proofs.Common.{◌≡◌, ℕ, zero, suc, ◌+◌, List, [], ◌∷◌, ◌++◌, map, reverse, length, refl, sym, ap, ◌∙◌, subst, Less, Equal, Greater}
+use Rattle.std.proofs.Common.{◌≡◌, ℕ, zero, suc, ◌+◌, List, [], ◌∷◌, map, reverse, length, refl, sym, ◌∙◌, subst, Less, Equal, Greater}
 use Rattle.std.specs.Prelude.{T}
 use Rattle.std.specs.List.{flat_map, range_with_len, AllByRecursion}
 use Rattle.std.specs.declared.cmp.Ordering.{Ordering}
@@ -15,7 +15,7 @@ use Rattle.feed_defs.specs.History.{Change, stamp_of, since_full, changes_in, ch
 use Rattle.feed_defs.proofs.Applied.{sorted_filter}
 use Rattle.feed_defs.proofs.Kept.{id_cmp, listed_sorted}
 use Rattle.feed_defs.proofs.Sifted.{each_append}
-use Rattle.board_defs.specs.Fold.{FeedFold, feed_fold, fold_of}
+use Rattle.board_defs.specs.Fold.{feed_fold, fold_of}
 use Rattle.delta_defs.proofs.Applying.{IsKeyed, IsTable}
 use Rattle.delta_defs.proofs.IdOrder.{same_id}
 

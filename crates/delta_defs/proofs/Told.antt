@@ -1,17 +1,16 @@
 -- What a reader has under each id, of messages that it got: what the last entity of that id says.
 use Rattle.std.proofs.Common.{◌≡◌, ℕ, List, [], ◌∷◌, ◌++◌, map, Bool, true, false, cond, not, Option, Some, None, refl, sym, ap, ◌∙◌, append-nil}
-use Rattle.std.specs.Prelude.{◌&&◌, ◌||◌, T, filter, reverse, unwrap_or, if◌then◌else◌}
+use Rattle.std.specs.Prelude.{◌||◌, T, reverse, unwrap_or, if◌then◌else◌}
 use Rattle.std.specs.List.{flat_map, filter_map, cons_option, last_or}
 use Rattle.std.specs.Option.{option_map}
 use Rattle.std.specs.Str.{bytes_eq}
-use Rattle.std.specs.Ordering.{is_lt, eq_by_cmp}
+use Rattle.std.specs.Ordering.{eq_by_cmp}
 use Rattle.std.specs.FinMap.{find, is_sorted}
 use Rattle.std.specs.FinMap.Entries.{below_all, same_entries}
 use Rattle.std.proofs.lemmas.Cmp.{nat_list_cmp_total}
 use Rattle.rt_types.specs.declared.message.Entity.{Entity}
 use Rattle.rt_types.specs.declared.message.FeedMessage.{FeedMessage}
-use Rattle.feed_defs.specs.declared.history.Stored.{Stored}
-use Rattle.feed_defs.specs.History.{Change, stamp_of, is_full, is_kept, last_said, kept_of, entity_at, changes_in, changes_of, changes_by_id, since_full, entities_of}
+use Rattle.feed_defs.specs.History.{Change, stamp_of, is_full, is_kept, last_said, kept_of, changes_in, changes_of, changes_by_id, since_full, entities_of}
 use Rattle.feed_defs.proofs.Applied.{sorted_filter}
 use Rattle.feed_defs.proofs.Kept.{id_cmp, left, right, listed_sorted, held_is}
 use Rattle.delta_defs.specs.Applied.{entities_got}

@@ -1,5 +1,5 @@
 -- Where the messages were read, the difference brings a reader from one combined feed to the other.
-use Rattle.std.proofs.Common.{◌≡◌, ℕ, ◌^◌, ◌<◌, List, [], ◌∷◌, ◌++◌, map, length, Bool, true, false, cond, Some, Ok, IsTrue, slice_get, sym, ap, ◌∙◌, subst, refl, codes}
+use Rattle.std.proofs.Common.{◌≡◌, inl, inr, ℕ, ◌^◌, ◌<◌, List, [], ◌∷◌, ◌++◌, map, length, Bool, true, false, cond, Some, Ok, IsTrue, slice_get, sym, ap, ◌∙◌, subst, refl, codes}
 use Rattle.std.specs.List.{AllByRecursion}
 use Rattle.std.specs.Str.{is_utf8}
 use Rattle.std.specs.Ordering.{eq_by_cmp}
@@ -27,8 +27,9 @@ use Rattle.delta_defs.specs.Changes.{held_under, held_before, changes}
 use Rattle.delta_defs.proofs.Applying.{AreTold, IsTable, named_one, at_number, each_feed, each_fold, changes_bring}
 use Rattle.delta_defs.proofs.IdOrder.{same_id, equal, or_else, found_alone, found_either}
 use Rattle.delta_defs.proofs.Tables.{folds_tables, folds_count}
-use Rattle.delta_out.specs.Pairs.{IdPair, pair_under, pairs_of}
-use Rattle.delta_out.specs.Sent.{IsShort, AreShort, IsShortPair, IsShortFeed}
+use Rattle.delta_feed.specs.Pairs.{IdPair, pair_under, pairs_of}
+use Rattle.delta_feed.specs.Sent.{IsShort, AreShort, IsShortPair}
+use Rattle.delta_out.specs.Feeds.{IsShortFeed}
 
 -- what is found under an id has what each has
 found_has : (P : Stored → Type 0) (id : List ℕ) (s : Stored) (es : List Change) → AllByRecursion (λ c. P c.1) es → find id_cmp id es ≡ Some s → P s
@@ -53,6 +54,7 @@ module _ (prefix : List ℕ) (text : is_utf8 prefix ≡ true) where
   back : (one : HubFeed) → IsNameText one.feed → (s : Stored) → WasSaid s.entity → IsShort (named_one prefix one s) → value entity (message_bytes entity (named_one prefix one s) ∷ []) ≡ Ok (named_one prefix one s)
   back one named s said short = entity_under prefix text one.feed.name named (said.payload ∷ []) s.entity (said.are_bytes, tt) said.is short
 
+  -- what a feed held and holds under an id is the same, or both are short
   both_short : (name : List ℕ) (was is : List Change) → AllByRecursion (IsShortPair prefix name) (pairs_of was is) → (id : List ℕ) (w s : Stored) → held_under id was ≡ Some w → held_under id is ≡ Some s → AreShort prefix name (Some w) (Some s)
   both_short name was is each id w s at now =
       subst (AreShort prefix name (Some w)) now (subst (λ o. AreShort prefix name o (held_under id is)) at
@@ -61,14 +63,21 @@ module _ (prefix : List ℕ) (text : is_utf8 prefix ≡ true) where
   -- so two that are written alike are one
   one_alike : (old : List FeedFold) (one : HubFeed) → IsNameText one.feed → AllByRecursion (λ c. WasSaid c.1.entity) (held_before old one) → AllByRecursion (λ c. WasSaid c.1.entity) one.fold.entities → IsShortFeed prefix old one
       → AreTold prefix one (held_before old one) one.fold.entities
-  one_alike old one named before after each id w s at now same =
-      let short = both_short one.feed.name (held_before old one) one.fold.entities each id w s at now in
-      let a = named_one prefix one w in
-      let b = named_one prefix one s in
-      ok_is a b
-      (sym (back one named w (found_has (λ x. WasSaid x.entity) id w (held_before old one) before at) short.0)
-      ∙ ap (λ bytes. value entity (bytes ∷ [])) ((bytes_eq-Decides (message_bytes entity a) (message_bytes entity b)).0 same)
-      ∙ back one named s (found_has (λ x. WasSaid x.entity) id s one.fold.entities after now) short.1)
+  one_alike old one named before after each id w s at now same = by_case (both_short one.feed.name (held_before old one) one.fold.entities each id w s at now)
+    where
+      a : Entity
+      a = named_one prefix one w
+
+      b : Entity
+      b = named_one prefix one s
+
+      by_case : AreShort prefix one.feed.name (Some w) (Some s) → a ≡ b
+      by_case (inl stays) = ap (named_one prefix one) stays
+      by_case (inr short) =
+          ok_is a b
+          (sym (back one named w (found_has (λ x. WasSaid x.entity) id w (held_before old one) before at) short.0)
+          ∙ ap (λ bytes. value entity (bytes ∷ [])) ((bytes_eq-Decides (message_bytes entity a) (message_bytes entity b)).0 same)
+          ∙ back one named s (found_has (λ x. WasSaid x.entity) id s one.fold.entities after now) short.1)
 
   all_alike : (old : List FeedFold) → AllByRecursion IsSaid old → (feeds : List HubFeed) → AllByRecursion (λ one. IsNameText one.feed) feeds → AllByRecursion (λ one. IsSaid one.fold) feeds → AllByRecursion (IsShortFeed prefix old) feeds
       → AllByRecursion (λ one. AreTold prefix one (held_before old one) one.fold.entities) feeds

@@ -1,5 +1,3 @@
-pub mod PairLemmas
-pub mod SentLemmas
 pub mod MessageLemmas
 pub mod LawLemmas
 pub mod KeptLemmas

@@ -21,8 +21,9 @@ use Rattle.board_defs.specs.Feeds.{HubFeed, schedule_feeds}
 use Rattle.board_defs.specs.Fold.{FeedFold}
 use Rattle.board_defs.specs.Views.{HubKept, folds_of}
 use Rattle.delta_defs.specs.Changes.{is_same, combined_of, change_sent, held_under, ids_of_both, feed_changes, held_before, changes, changes_bytes}
-use Rattle.delta_out.specs.Pairs.{IdPair, pair_under, pairs_of}
-use Rattle.delta_out.specs.Sent.{entity_sent, field_of, pair_field, feed_field}
+use Rattle.delta_feed.specs.Pairs.{IdPair, pair_under, pairs_of}
+use Rattle.delta_feed.specs.Sent.{entity_sent, field_of, pair_field}
+use Rattle.delta_out.specs.Feeds.{feed_field}
 
 sent_is : (prefix : List ℕ) (one : HubFeed) (id : List ℕ) (was is : Option Stored) → change_sent prefix one id was is ≡ entity_sent prefix one.feed.name id was is
 sent_is prefix one id None None = refl

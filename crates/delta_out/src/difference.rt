@@ -1,6 +1,6 @@
 //! What changed in the combined feed of a schedule since an earlier view.
 
-ghost use Rattle.std.specs.Prelude.{◌≡◌, ◌<◌, ◌++◌, [], List, Some, length, true, slice_index_or, IfOk, OnOk, IsSome};
+ghost use Rattle.std.specs.Prelude.{◌≡◌, ◌<◌, ◌++◌, [], ◌∷◌, List, Some, length, true, slice_index_or, IfOk, OnOk, IsSome};
 ghost use Rattle.std.specs.List.{flat_map, AllByRecursion};
 ghost use Rattle.std.specs.Str.{is_utf8};
 ghost use Rattle.feed_defs.specs.declared.history.Entry.{Entry};
@@ -10,20 +10,24 @@ ghost use Rattle.board_defs.specs.Views.{StandsFor, folds_of, no_fold};
 ghost use Rattle.delta_defs.specs.Applied.{BringsTo};
 ghost use Rattle.delta_defs.specs.Changes.{changes, changes_bytes};
 ghost use Rattle.delta_defs.specs.Kept.{folds_at};
-ghost use Rattle.delta_out.specs.Sent.{feed_field, IsShortFeed};
+ghost use Rattle.delta_defs.specs.OneHistory.{AreOfOneHistory, FeedHoldsSince};
+ghost use Rattle.delta_out.specs.Feeds.{feed_field, IsShortFeed};
 
 use crate::NoMemory;
 use crate::kept::{Kept, KeptFeed, KeptView};
-use crate::sent::push_feed;
 use board_parts::{HubView, ScheduleFeeds};
+use delta_feed::push_feed;
 use entity_table::Table;
 use feed_out::{newest_stamp, push_header};
 use rt_types::Incrementality;
 use std::alloc::Global;
 
-/// The bytes of what changed in the combined feed of the schedule of that number between a kept view, by its number of
-/// messages, and the given one (GTFS Realtime 2.0, FeedHeader, DIFFERENTIAL); or out of memory. Where the messages of
-/// both were read, who has the combined feed of the kept view and applies the message has that of the given one.
+/// The bytes of what changed in the combined feed of the schedule of that number between a kept
+/// view, by its number of messages, and the given one of the same history (GTFS Realtime 2.0,
+/// FeedHeader, DIFFERENTIAL); or out of memory. The stamps of a feed rise, so what has none above
+/// the one that its feed had is the same as it was and is passed over. Where the messages of both
+/// were read, who has the combined feed of the kept view and applies the message has that of the
+/// given one.
 pub fn since(
     alloc: Global,
     kept: &Kept,
@@ -32,6 +36,7 @@ pub fn since(
     number: u64,
 ) -> Result<Vec<u8>, NoMemory>
     requires kept { IsSome (folds_at number kept.now) }
+    requires one_history { AreOfOneHistory kept.now view.now }
     requires plan { plan < length view.now.plans.plans }
     ensures changes { (old : List FeedFold) → folds_at number kept.now ≡ Some old
         → IfOk result (λ bytes. bytes.items
@@ -55,7 +60,8 @@ fn changed_since(
     view: &HubView,
     plan: u32,
 ) -> Result<Vec<u8>, NoMemory>
-    requires { plan < length view.now.plans.plans }
+    requires one_history { AreOfOneHistory (old.now ∷ []) view.now }
+    requires plan { plan < length view.now.plans.plans }
     ensures changes { IfOk result (λ bytes. bytes.items
         ≡ changes_bytes view.now.plans plan old.now.folds (folds_of view.now)) }
     ensures brings { (g h : List Entry) → WereRead g → WereRead h
@@ -75,7 +81,8 @@ fn push_changes(
     plan: u32,
     out: &mut Vec<u8>,
 ) -> Result<(), NoMemory>
-    requires { plan < length view.now.plans.plans }
+    requires one_history { AreOfOneHistory (old.now ∷ []) view.now }
+    requires plan { plan < length view.now.plans.plans }
     ensures sent { OnOk result (out.new.items ≡ out.old.items
         ++ changes_bytes view.now.plans plan old.now.folds (folds_of view.now)) }
     ensures brings { (g h : List Entry) → WereRead g → WereRead h
@@ -103,6 +110,7 @@ fn push_feeds(
     feeds: ScheduleFeeds<'_>,
     out: &mut Vec<u8>,
 ) -> Result<(), NoMemory>
+    requires { AllByRecursion (FeedHoldsSince old.now) feeds }
     ensures sent { OnOk result (out.new.items
         ≡ out.old.items ++ flat_map (feed_field prefix.now old.now) feeds.entry) }
     ensures short { OnOk result (AllByRecursion (IsShortFeed prefix.now old.now) feeds.entry) }
@@ -114,6 +122,7 @@ fn push_feeds(
             one.feed().name.as_str(),
             prefix,
             before,
+            stamp_at(old, one.number()),
             one.view().table(),
             out,
         )?;
@@ -129,5 +138,15 @@ fn table_at<'a>(feeds: &'a [KeptFeed], number: u32, other: &'a Table) -> &'a Tab
     match feeds.get(number as usize) {
         Some(feed) => feed.table(),
         None => other,
+    }
+}
+
+/// The stamp of the last message of the feed of that number; 0 where it had none.
+fn stamp_at(feeds: &[KeptFeed], number: u32) -> u64
+    ensures { result ≡ (slice_index_or feeds.now number no_fold).stamp }
+{
+    match feeds.get(number as usize) {
+        Some(feed) => feed.stamp(),
+        None => 0,
     }
 }

@@ -19,8 +19,8 @@ use std::sync::Arc;
 /// How many views are kept at most.
 const MOST_KEPT: usize = 64;
 
-/// What a reader keeps of its last looks at a hub, up to 64 of them: of each how many messages there were, and what each
-/// feed said. A contract sees the list of them, the oldest first.
+/// What a reader keeps of its last looks at a hub, up to 64 of them: of each how many messages
+/// there were, and what each feed said. A contract sees the list of them, the oldest first.
 #[derive(Drop)]
 pub struct Kept {
     views: HeapCircularBuffer<KeptView>,
@@ -47,8 +47,8 @@ impl Kept {
         })
     }
 
-    /// Adds a view at the end, unless the newest has its number; of 64 the oldest goes. Out of memory leaves all as it
-    /// was.
+    /// Adds a view at the end, unless the newest has its number; of 64 the oldest goes. Out of
+    /// memory leaves all as it was.
     pub fn put(&mut self, view: &HubView) -> Result<(), NoMemory>
         ensures with { OnOk result (self.new ≡ views_with (view_of view.now) self.old) }
         ensures kept { OnErr result (self.new ≡ self.old) }
@@ -135,7 +135,8 @@ fn feeds_of(alloc: Global, views: &[Arc<FeedView>]) -> Result<Vec<KeptFeed>, NoM
     Ok(feeds)
 }
 
-/// What is kept of a feed, without what its updates come to. A contract sees it as `FeedFold` of `board_defs`.
+/// What is kept of a feed, without what its updates come to. A contract sees it as `FeedFold` of
+/// `board_defs`.
 #[derive(Drop)]
 pub(crate) struct KeptFeed {
     table: Table,
@@ -172,5 +173,12 @@ impl KeptFeed {
         ensures { result.now ≡ self.now.entities }
     {
         &self.table
+    }
+
+    /// The stamp of its last message, 0 if it had none.
+    pub(crate) fn stamp(&self) -> u64
+        ensures { result ≡ self.now.stamp }
+    {
+        self.stamp
     }
 }

@@ -21,9 +21,10 @@ use rt_types::{Copied, Entity, FeedMessage, Incrementality};
 use shared_list::Changed;
 use std::alloc::Global;
 
-/// The table after the message (GTFS Realtime 2.0, FeedHeader, `incrementality`). A whole data set starts from
-/// nothing, a differential message from the given table. Then, entity by entity, one that says that it is
-/// deleted takes its id away, and any other takes the place of what its id had, whole, with the message's stamp.
+/// The table after the message (GTFS Realtime 2.0, FeedHeader, `incrementality`). A whole data set
+/// starts from nothing, a differential message from the given table. Then, entity by entity, one
+/// that says that it is deleted takes its id away, and any other takes the place of what its id
+/// had, whole, with the message's stamp.
 pub fn apply(alloc: Global, table: &Table, message: &FeedMessage) -> Result<Table, NoMemory>
     ensures applied { IfOk result (λ next. next ≡ entities_after message.now table.now) }
     ensures stands { (ms : List FeedMessage) → table.now
@@ -51,8 +52,8 @@ pub struct ChangedTable {
 }
 
 impl Table {
-    /// What the message goes on from: nothing, where it is a whole data set, and else a share of this table; or
-    /// want of memory.
+    /// What the message goes on from: nothing, where it is a whole data set, and else a share of
+    /// this table; or want of memory.
     pub fn start(&self, alloc: Global, message: &FeedMessage) -> Result<Table, NoMemory>
         ensures { IfOk result (λ start. start ≡ (if is_full message.now then [] else self.now)) }
     {
@@ -62,8 +63,8 @@ impl Table {
         }
     }
 
-    /// The table, changed by one entity of a message. One that says that it is deleted takes its id away; any other
-    /// takes the place of what its id had. Or want of memory.
+    /// The table, changed by one entity of a message. One that says that it is deleted takes its id
+    /// away; any other takes the place of what its id had. Or want of memory.
     pub fn with(self, stored: SharedStored) -> Result<ChangedTable, NoMemory>
         ensures table { IfOk result (λ changed. changed.table
             ≡ changes_with self (stored.entity.id, stored)) }
@@ -78,8 +79,8 @@ impl Table {
         }
     }
 
-    /// The table with the entity in the place of what its id had, whatever the entity says of itself; or want of
-    /// memory.
+    /// The table with the entity in the place of what its id had, whatever the entity says of
+    /// itself; or want of memory.
     pub fn put(self, stored: SharedStored) -> Result<ChangedTable, NoMemory>
         ensures table { IfOk result (λ changed. changed.table
             ≡ put (slice_cmp nat_cmp) stored.entity.id stored self) }

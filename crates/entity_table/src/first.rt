@@ -68,9 +68,10 @@ fn table_of(alloc: Global, all: Vec<SharedStored>) -> Result<Table, NoMemory>
     }
 }
 
-/// The table after a message, where nothing was held before or the message is a whole data set; or out of memory. It is what
-/// `apply` makes of an empty table, but takes the entities out of the message. Ids that rise, as they mostly do, are compared
-/// once with their neighbours, and the table is made of them in one pass.
+/// The table after a message, where nothing was held before or the message is a whole data set; or
+/// out of memory. It is what `apply` makes of an empty table, but takes the entities out of the
+/// message. Ids that rise, as they mostly do, are compared once with their neighbours, and the
+/// table is made of them in one pass.
 pub fn first_table(alloc: Global, message: FeedMessage) -> Result<Table, NoMemory>
     ensures { IfOk result (λ table. table ≡ entities_after message []) }
 {

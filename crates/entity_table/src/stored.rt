@@ -13,8 +13,8 @@ use std::alloc::Global;
 use std::cmp::Ordering;
 use std::marker::Model;
 
-/// A share of an entity with its stamp, which are on the heap once for all tables that hold them: a copy is a further
-/// share, and takes no memory. A contract sees the entity and the stamp.
+/// A share of an entity with its stamp, which are on the heap once for all tables that hold them: a
+/// copy is a further share, and takes no memory. A contract sees the entity and the stamp.
 #[derive(Drop)]
 pub struct SharedStored {
     inner: Shared<Stored>,
@@ -60,6 +60,12 @@ impl Keyed for SharedStored {
     ghost key_of = { λ stored. stored.entity.id };
 
     ghost key_cmp = { slice_cmp nat_cmp };
+
+    ghost stamp_of = { λ stored. stored.stamp };
+
+    fn stamp(&self) -> u64 {
+        self.get().stamp
+    }
 
     fn order(&self, other: &Self) -> Ordering {
         self.get().entity.id.order(other.get().entity.id.as_str())

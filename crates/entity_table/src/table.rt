@@ -8,16 +8,17 @@ ghost use Rattle.std.specs.Option.{option_copied};
 ghost use Rattle.std.specs.Ordering.{nat_cmp};
 ghost use Rattle.rt_types.specs.declared.message.FeedMessage.{FeedMessage};
 ghost use Rattle.feed_defs.specs.History.{entities_of, entity_at};
+ghost use Rattle.shared_list.specs.Stamps.{newer};
 
 use crate::NoMemory;
 use crate::stored::SharedStored;
 use feed_defs::Stored;
-use shared_list::{Iter, SharedList};
+use shared_list::{Iter, Newer, SharedList};
 use std::alloc::Global;
 use std::marker::Model;
 
-/// What a feed holds: under each id one entity, and the time of the message that brought it. A contract sees
-/// the list of pairs of id and stored entity, in byte order of the ids.
+/// What a feed holds: under each id one entity, and the time of the message that brought it. A
+/// contract sees the list of pairs of id and stored entity, in byte order of the ids.
 #[derive(Drop)]
 pub struct Table {
     pub(crate) list: SharedList<SharedStored>,
@@ -60,7 +61,8 @@ impl Table {
         stored_in(&self.list, id)
     }
 
-    /// All that the feed holds, one entity for each id, in byte order of the ids, which strictly rise.
+    /// All that the feed holds, one entity for each id, in byte order of the ids, which strictly
+    /// rise.
     pub fn iter(&self) -> TableIter<'_>
         ensures items { result ≡ map (λ change. change.1) self.entry.now }
         ensures rising { IsSo (is_sorted (slice_cmp nat_cmp) self.entry.now) }
@@ -70,6 +72,18 @@ impl Table {
     {
         TableIter {
             inner: self.list.iter(),
+        }
+    }
+
+    /// What came with a message whose stamp is above the given one, in byte order of the ids. What
+    /// the table shares with an earlier one is passed over by parts, so it hardly costs more than
+    /// what it gives.
+    pub fn newer(&self, than: u64) -> NewerEntities<'_>
+        ensures { result ≡ newer (λ stored. stored.stamp) than
+            (map (λ change. change.1) self.entry.now) }
+    {
+        NewerEntities {
+            inner: self.list.newer(than),
         }
     }
 
@@ -111,6 +125,35 @@ impl<'a> Model for TableIter<'a> {
 }
 
 impl<'a> Iterator for TableIter<'a> {
+    type Item = &'a Stored;
+
+    ghost next_gives = { YieldsFirstRef (λ left. left) };
+
+    ghost remaining = { item_count (λ left. left) };
+
+    fn next(&mut self) -> Option<&'a Stored> {
+        let shared = self.inner.next()?;
+        Some(shared.get())
+    }
+}
+
+/// What a table holds that is newer than a stamp, in byte order of the ids. A contract sees the
+/// list of what is left.
+#[derive(Drop)]
+pub struct NewerEntities<'a> {
+    inner: Newer<'a, SharedStored>,
+}
+
+impl<'a> Model for NewerEntities<'a> {
+    ghost use Rattle.std.specs.Prelude.{List};
+    ghost use Rattle.feed_defs.specs.declared.history.Stored.{Stored};
+
+    ghost Value = { List Stored };
+
+    ghost view = { λ left. left.inner };
+}
+
+impl<'a> Iterator for NewerEntities<'a> {
     type Item = &'a Stored;
 
     ghost next_gives = { YieldsFirstRef (λ left. left) };

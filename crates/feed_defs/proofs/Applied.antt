@@ -1,6 +1,6 @@
 -- What is held after a message more is what was held before, changed by that message.
-use Rattle.std.proofs.Common.{◌≡◌, ℕ, List, [], ◌∷◌, ◌++◌, reverse, Bool, true, false, cond, Option, Some, None, refl, sym, ap, ◌∙◌, append_assoc, append-nil}
-use Rattle.std.specs.Prelude.{◌&&◌, T, filter, fold, not, if◌then◌else◌}
+use Rattle.std.proofs.Common.{◌≡◌, ℕ, List, [], ◌∷◌, ◌++◌, reverse, Bool, true, false, cond, None, refl, sym, ap, ◌∙◌, append_assoc, append-nil, arith}
+use Rattle.std.specs.Prelude.{T, filter, fold, not, if◌then◌else◌}
 use Rattle.std.specs.Str.{bytes_eq}
 use Rattle.std.specs.Ordering.{eq_by_cmp}
 use Rattle.std.specs.FinMap.{find, put, is_sorted, slice_cmp-IsAntisymmetric, nat_cmp-IsAntisymmetric}
@@ -9,27 +9,18 @@ use Rattle.std.specs.Cmp.{eq_by_cmp_equiv}
 use Rattle.std.proofs.lemmas.Cmp.{nat_list_cmp_total}
 use Rattle.std.proofs.lemmas.Map.Text.{is_eq-slice_cmp}
 use Rattle.rt_types.specs.declared.message.FeedMessage.{FeedMessage}
-use Rattle.feed_defs.specs.declared.history.Stored.{Stored}
 use Rattle.feed_defs.specs.History.{Change, is_full, is_kept, since_full, changes_in, changes_of, changes_by_id, entities_of, changes_without, changes_with, entities_after}
 use Rattle.feed_defs.proofs.Held.{changes_of-append, listed-append}
-use Rattle.feed_defs.proofs.Kept.{id_cmp, kept_stored, find_kept, listed_sorted, left, right}
-
-both : (a b : Bool) → T a → T b → T (a && b)
-both true b p q = q
-both false b p q = p
+use Rattle.feed_defs.proofs.Kept.{id_cmp, find_kept, listed_sorted}
 
 below_filter : (p : Change → Bool) (id : List ℕ) (es : List Change) → T (below_all id_cmp id es) → T (below_all id_cmp id (filter p es))
 below_filter p id [] h = tt
-below_filter p id (e ∷ es) h =
-    let rest = below_filter p id es (right _ _ h) in
-    elim (p e) as (λ b. T (below_all id_cmp id (cond b (e ∷ filter p es) (filter p es)))) [ true ↦ both _ _ (left _ _ h) rest | false ↦ rest ]
+below_filter p id (e ∷ es) h = grind (arith, below_filter p id es)
 
 -- a part of a list in order is in order
 pub sorted_filter : (p : Change → Bool) (es : List Change) → T (is_sorted id_cmp es) → T (is_sorted id_cmp (filter p es))
 sorted_filter p [] h = tt
-sorted_filter p (e ∷ es) h =
-    let rest = sorted_filter p es (right _ _ h) in
-    elim (p e) as (λ b. T (is_sorted id_cmp (cond b (e ∷ filter p es) (filter p es)))) [ true ↦ both _ _ (below_filter p e.0 es (left _ _ h)) rest | false ↦ rest ]
+sorted_filter p (e ∷ es) h = grind (arith, below_filter p e.0 es, sorted_filter p es)
 
 -- a change keeps the order
 pub sorted_changed : (es : List Change) (c : Change) → T (is_sorted id_cmp es) → T (is_sorted id_cmp (changes_with es c))
@@ -44,41 +35,19 @@ turned q k = (eq_by_cmp_equiv nat_list_cmp_total).symm q k ∙ is_eq-slice_cmp k
 -- what is found where an id is taken away
 pub find-without : (q id : List ℕ) (es : List Change) → find id_cmp q (changes_without id es) ≡ cond (eq_by_cmp id_cmp q id) None (find id_cmp q es)
 find-without q id es =
-    find-where_key id_cmp (λ x. not (bytes_eq id x)) q (λ x tie. ap (λ y. not (bytes_eq id y)) (sym (slice_cmp-IsAntisymmetric nat_cmp-IsAntisymmetric q x tie))) es
-    ∙ other_way (bytes_eq id q)
-    ∙ ap (λ b. cond b None (find id_cmp q es)) (sym (turned q id))
-  where
-    other_way : (b : Bool) → cond (not b) (find id_cmp q es) None ≡ cond b None (find id_cmp q es)
-    other_way true = refl
-    other_way false = refl
+    let found = find-where_key id_cmp (λ x. not (bytes_eq id x)) q (λ x tie. ap (λ y. not (bytes_eq id y)) (sym (slice_cmp-IsAntisymmetric nat_cmp-IsAntisymmetric q x tie))) es in
+    grind (arith, found, turned q id)
 
 -- a change of what is kept is what is kept of the change
 kept_changed : (es : List Change) (c : Change) → T (is_sorted id_cmp es) → filter is_kept (put id_cmp c.0 c.1 es) ≡ changes_with (filter is_kept es) c
 kept_changed es c h =
+    let sorted = is_sorted-put id_cmp nat_list_cmp_total c.0 c.1 es h in
     same_entries id_cmp nat_list_cmp_total (slice_cmp-IsAntisymmetric nat_cmp-IsAntisymmetric) _ _
-    (sorted_filter is_kept (put id_cmp c.0 c.1 es) (is_sorted-put id_cmp nat_list_cmp_total c.0 c.1 es h))
+    (sorted_filter is_kept (put id_cmp c.0 c.1 es) sorted)
     (sorted_changed (filter is_kept es) c (sorted_filter is_kept es h))
-    (λ q. find_kept q (put id_cmp c.0 c.1 es) (is_sorted-put id_cmp nat_list_cmp_total c.0 c.1 es h)
-    ∙ ap kept_stored (find-put id_cmp nat_list_cmp_total q c.0 c.1 es)
-    ∙ by_kind q (is_kept c) refl)
-  where
-    by_tie : (o : Option Stored) (t : Bool) → is_kept c ≡ true → kept_stored (cond t (Some c.1) o) ≡ cond t (Some c.1) (kept_stored o)
-    by_tie o true k = ap (λ b. if b then Some c.1 else None) k
-    by_tie o false k = refl
-
-    by_gone : (o : Option Stored) (t : Bool) → is_kept c ≡ false → kept_stored (cond t (Some c.1) o) ≡ cond t None (kept_stored o)
-    by_gone o true k = ap (λ b. if b then Some c.1 else None) k
-    by_gone o false k = refl
-
-    by_kind : (q : List ℕ) (b : Bool) → is_kept c ≡ b → kept_stored (cond (eq_by_cmp id_cmp q c.0) (Some c.1) (find id_cmp q es)) ≡ find id_cmp q (if b then put id_cmp c.0 c.1 (filter is_kept es) else changes_without c.0 (filter is_kept es))
-    by_kind q true k =
-        by_tie (find id_cmp q es) (eq_by_cmp id_cmp q c.0) k
-        ∙ ap (cond (eq_by_cmp id_cmp q c.0) (Some c.1)) (sym (find_kept q es h))
-        ∙ sym (find-put id_cmp nat_list_cmp_total q c.0 c.1 (filter is_kept es))
-    by_kind q false k =
-        by_gone (find id_cmp q es) (eq_by_cmp id_cmp q c.0) k
-        ∙ ap (cond (eq_by_cmp id_cmp q c.0) None) (sym (find_kept q es h))
-        ∙ sym (find-without q c.0 (filter is_kept es))
+    (λ q.
+    let put_in = find-put id_cmp nat_list_cmp_total q c.0 c.1 in
+    grind (arith, find_kept q (put id_cmp c.0 c.1 es) sorted, put_in es, find_kept q es h, put_in (filter is_kept es), find-without q c.0 (filter is_kept es)))
 
 -- so it is for changes one after another
 kept_more : (before cs : List Change) → filter is_kept (changes_by_id (reverse (before ++ cs))) ≡ fold changes_with (filter is_kept (changes_by_id (reverse before))) cs
@@ -94,26 +63,9 @@ unfolding entities_of entities_after changes_by_id
 held_more ms m =
     ap (λ xs. filter is_kept (changes_by_id (reverse xs))) (changes_of-append ms m)
     ∙ kept_more (if is_full m then [] else changes_of ms) (changes_in m)
-    ∙ ap (λ xs. fold changes_with xs (changes_in m)) (by_kind (is_full m))
-  where
-    by_kind : (b : Bool) → filter is_kept (changes_by_id (reverse (if b then [] else changes_of ms))) ≡ (if b then [] else filter is_kept (changes_by_id (reverse (changes_of ms))))
-    by_kind true = refl
-    by_kind false = refl
+    ∙ ap (λ xs. fold changes_with xs (changes_in m)) (grind arith)
 
 -- at first a feed holds nothing
 pub held_none : entities_of [] ≡ []
 unfolding entities_of changes_by_id since_full
 held_none = refl
-
-sorted_fold : (cs es : List Change) → T (is_sorted id_cmp es) → T (is_sorted id_cmp (fold changes_with es cs))
-sorted_fold [] es h = h
-sorted_fold (c ∷ cs) es h = sorted_fold cs (changes_with es c) (sorted_changed es c h)
-
--- a message keeps the order
-pub sorted_applied : (m : FeedMessage) (es : List Change) → T (is_sorted id_cmp es) → T (is_sorted id_cmp (entities_after m es))
-unfolding entities_after
-sorted_applied m es h = sorted_fold (changes_in m) _ (by_kind (is_full m))
-  where
-    by_kind : (b : Bool) → T (is_sorted id_cmp (if b then [] else es))
-    by_kind true = tt
-    by_kind false = h

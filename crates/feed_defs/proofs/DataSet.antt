@@ -15,12 +15,11 @@ use Rattle.pb_wire_defs.specs.Field.Payload.{Span}
 use Rattle.pb_wire_defs.specs.Writing.{field_bytes}
 use Rattle.pb_wire_defs.proofs.Bytes.{AreBytes}
 use Rattle.pb_wire_defs.proofs.Again.{as_field}
-use Rattle.feed_defs.specs.Enums.{incrementality}
-use Rattle.feed_defs.specs.Rows.{span_in, occurrences_of, last_of, unknown_bytes_of, fields_of_all, value, message_bytes, numbered_values, with_entity_number, text, u64, embedded, optional, required, numbered, write_all, ◌⊕◌}
+use Rattle.feed_defs.specs.Rows.{span_in, occurrences_of, last_of, unknown_bytes_of, fields_of_all, value, message_bytes, numbered_values, with_entity_number, embedded, required, numbered, write_all}
 use Rattle.feed_defs.specs.Table.{header_shape, header, entity, feed_shape, feed, read, write}
-use Rattle.feed_defs.proofs.FieldKinds.{text_lawful, u64_lawful, embedded_lawful, span_fits, occurring_own, occurring_none, occurring_bytes, merged_again}
-use Rattle.feed_defs.proofs.RowLaws.{IsLawful, short_payload, list_is, both_is, joined_back, placed_is, write_all_fits, write_all_occurring, optional_lawful, required_lawful, numbered_lawful, joined_lawful}
-use Rattle.feed_defs.proofs.Rereading.{made_again, joined_were_read, incrementality_lawful, header_rereads, entity_rereads}
+use Rattle.feed_defs.proofs.FieldKinds.{embedded_lawful, span_fits, occurring_own, occurring_none, occurring_bytes, merged_again}
+use Rattle.feed_defs.proofs.RowLaws.{IsLawful, short_payload, list_is, both_is, joined_back, placed_is, write_all_fits, write_all_occurring, required_lawful, numbered_lawful, joined_lawful}
+use Rattle.feed_defs.proofs.Rereading.{made_again, joined_were_read, header_law, header_rereads, entity_rereads}
 
 -- ---- entities
 
@@ -43,14 +42,6 @@ full_header stamp = record { version = codes "2.0"; incrementality = Some FullDa
 abbrev pub data_set : ℕ → List Entity → FeedMessage
 data_set stamp es = record { header = full_header stamp; entity = es; unknown = [] }
 
-header_law : IsLawful 1 3 header_shape.rows
-header_law =
-    joined_lawful (required 1 text) (optional 2 incrementality ⊕ optional 3 u64) 1 1 2 3
-    (required_lawful 1 text (text_lawful 1))
-    (joined_lawful (optional 2 incrementality) (optional 3 u64) 2 2 3 3
-    (optional_lawful 2 incrementality (incrementality_lawful 2))
-    (optional_lawful 3 u64 (u64_lawful 3)) (lit< tt)) (lit< tt)
-
 header_again : (stamp : ℕ) → stamp < 2 ^ 64 → length (message_bytes header (full_header stamp)) < 2 ^ 64 → value header (message_bytes header (full_header stamp) ∷ []) ≡ Ok (full_header stamp)
 unfolding unknown_bytes_of last_of is_utf8 chars encode
 header_again stamp low small =
@@ -58,7 +49,7 @@ header_again stamp low small =
     (λ short. (lit< tt, (lit< tt, (low, tt)))) (λ short. refl) small
 
 feed_first : IsLawful 1 1 (required 1 (embedded header))
-feed_first = required_lawful 1 (embedded header) (embedded_lawful 1 header header_rereads)
+feed_first = required_lawful (embedded_lawful 1 header header_rereads)
 
 feed_second : IsLawful 2 2 (numbered 2 entity)
 feed_second = numbered_lawful 2 entity entity_rereads
@@ -73,7 +64,7 @@ entities_alone name es each small = rw (write_all_occurring 2 entity es, numbere
 pub data_set_again : (stamp : ℕ) (es : List Entity) → stamp < 2 ^ 64 → AllByRecursion ReadsAgain es → length (write (data_set stamp es)) < 2 ^ 64 → read (write (data_set stamp es)) ≡ Ok (data_set stamp es)
 unfolding read write unknown_bytes_of
 data_set_again stamp es low each small =
-    made_again feed_shape 1 2 (joined_lawful (required 1 (embedded header)) (numbered 2 entity) 1 1 2 2 feed_first feed_second (lit< tt)) (lit≤ tt) (lit≤ tt) (λ v unknown. (refl, refl)) [] (full_header stamp, es) tt
+    made_again feed_shape 1 2 (joined_lawful feed_first feed_second (lit< tt)) (lit≤ tt) (lit≤ tt) (λ v unknown. (refl, refl)) [] (full_header stamp, es) tt
     (λ short.
     let parts = short_payload (record { number = 1; payload = Span (message_bytes header (full_header stamp)) }) (write_all 2 entity es) short in
     (span_fits (message_bytes header (full_header stamp)) parts.0, write_all_fits 2 entity es parts.1))

@@ -1,6 +1,6 @@
 -- The kinds of fields: what each reads depends only on the fields that it takes, and reading gives back what was written.
-use Rattle.std.proofs.Common.{◌≡◌, ℕ, negsuc, suc, ◌-◌, ◌%◌, ◌^◌, ◌<◌, Bool, true, false, cond, List, [], ◌∷◌, length, refl, ◌∙◌, ap, subst, arith, inl, inr}
-use Rattle.std.specs.Prelude.{Option, Some, None, is_some, Result, Ok, filter, ◌==◌}
+use Rattle.std.proofs.Common.{◌≡◌, ℕ, negsuc, suc, ◌-◌, ◌%◌, ◌^◌, ◌<◌, true, List, [], ◌∷◌, length, refl, ◌∙◌, ap, subst, arith, inl, inr}
+use Rattle.std.specs.Prelude.{Option, Some, None, is_some, Result, Ok, filter}
 use Rattle.std.specs.List.{filter_map, last_or, AllByRecursion}
 use Rattle.std.specs.Option.{option_and_then}
 use Rattle.std.specs.Str.{is_utf8}
@@ -11,9 +11,8 @@ use Rattle.std.proofs.Math.Facts.{to_z-neg}
 use Rattle.std.proofs.lemmas.Bool.{eqb-true, eq-eqb, cases_lt}
 use Rattle.std.proofs.lemmas.List.{length-append}
 use Rattle.rt_types.specs.declared.fault.Kind.{Kind}
-use Rattle.rt_types.specs.declared.vehicle.Degrees.{Degrees}
 use Rattle.pb_wire_defs.specs.Field.{Payload, Field}
-use Rattle.pb_wire_defs.specs.Field.Payload.{Varint, Eight, Span, Four, Group}
+use Rattle.pb_wire_defs.specs.Field.Payload.{Varint, Span}
 use Rattle.pb_wire_defs.specs.Writing.{varint, payload_bytes}
 use Rattle.pb_wire_defs.proofs.Bytes.{AreBytes}
 use Rattle.answer_defs.proofs.Steps.{bind_ok}
@@ -48,19 +47,11 @@ pub record IsLawfulKind {A : Type 0} (n : ℕ) (kind : FieldKind A) : Type 0 whe
 pub at_own : {A : Type 0} (says : Payload → Option A) (n : ℕ) (payload : Payload) (raw : List ℕ) → value_under says n (carrying n payload raw) ≡ says payload
 at_own says n payload raw = rw (eq-eqb n n refl) refl
 
-number_of : {A : Type 0} (n number : ℕ) (o : Option A) (b : Bool) → (number == n) ≡ b → is_some (cond b o None) ≡ true → number ≡ n
-number_of n number o true e h = eqb-true number n e
-number_of n number o false e h = absurd cc
-
 pub at_number : {A : Type 0} (says : Payload → Option A) (n : ℕ) (field : Field) → is_some (value_under says n field) ≡ true → field.number ≡ n
-at_number says n field h = number_of n field.number (says field.payload) (field.number == n) refl h
-
-said_of : {A : Type 0} (o : Option A) (b : Bool) (x : A) → cond b o None ≡ Some x → o ≡ Some x
-said_of o true x e = e
-said_of o false x e = absurd cc
+at_number says n field h = grind (arith, eqb-true)
 
 at_says : {A : Type 0} (says : Payload → Option A) (n : ℕ) (field : Field) (x : A) → value_under says n field ≡ Some x → says field.payload ≡ Some x
-at_says says n field x e = said_of (says field.payload) (field.number == n) x e
+at_says says n field x e = grind arith
 
 -- ---- scalars
 
@@ -110,32 +101,12 @@ scalar_lawful {A} n says write fits taken again =
 
 -- a number that is read of a varint by a rule, if its own varint gives it by that rule
 pub varint_lawful : {A : Type 0} (n : ℕ) (named : ℕ → Option A) (number : A → ℕ) → ((m : ℕ) (x : A) → m < 2 ^ 64 → named m ≡ Some x → number x < 2 ^ 64) → ((x : A) → is_some (named (number x)) ≡ true) → ((m : ℕ) (x : A) → m < 2 ^ 64 → named m ≡ Some x → named (number x) ≡ Some x) → IsLawfulKind n (scalar (λ payload. option_and_then named (varint_in payload)) (λ x. Varint (number x)))
-varint_lawful {A} n named number small taken again =
-    scalar_lawful n (λ payload. option_and_then named (varint_in payload)) (λ x. Varint (number x)) fits taken back
-  where
-    fits : (payload : Payload) (x : A) → WasInRange payload → option_and_then named (varint_in payload) ≡ Some x → number x < 2 ^ 64
-    fits (Varint m) x h e = small m x h e
-    fits (Eight m) x h e = absurd (cc)
-    fits (Span bytes) x h e = absurd (cc)
-    fits (Four m) x h e = absurd (cc)
-    fits Group x h e = absurd (cc)
-
-    back : (payload : Payload) (x : A) → WasInRange payload → option_and_then named (varint_in payload) ≡ Some x → named (number x) ≡ Some x
-    back (Varint m) x h e = again m x h e
-    back (Eight m) x h e = absurd (cc)
-    back (Span bytes) x h e = absurd (cc)
-    back (Four m) x h e = absurd (cc)
-    back Group x h e = absurd (cc)
+varint_lawful n named number small taken again =
+    scalar_lawful n (λ payload. option_and_then named (varint_in payload)) (λ x. Varint (number x))
+    (λ payload x h e. grind (arith, λ (m : ℕ). small m x)) taken (λ payload x h e. grind (arith, λ (m : ℕ). again m x))
 
 pub u64_lawful : (n : ℕ) → IsLawfulKind n u64
-u64_lawful n = scalar_lawful n varint_in Varint is_small (λ x. refl) (λ payload x fits e. refl)
-  where
-    is_small : (payload : Payload) (x : ℕ) → WasInRange payload → varint_in payload ≡ Some x → x < 2 ^ 64
-    is_small (Varint m) x fits e = let k : m ≡ x = cc in rw (← k) fits
-    is_small (Eight m) x fits e = absurd (cc)
-    is_small (Span bytes) x fits e = absurd (cc)
-    is_small (Four m) x fits e = absurd (cc)
-    is_small Group x fits e = absurd (cc)
+u64_lawful n = scalar_lawful n varint_in Varint (λ payload x fits e. grind arith) (λ x. refl) (λ payload x fits e. refl)
 
 -- a value that is given by a function is its value
 given_by : {A B : Type 0} (f : A → B) (x : A) (y : B) → (let told : Option B = Some (f x) in told) ≡ Some y → f x ≡ y
@@ -174,34 +145,11 @@ i64_lawful n =
     (λ z. refl)
     (λ m z fits e. let is = given_by (λ k. cast_signed w64 k) m z e in rw (← is, of_z-to_z w64 m fits) refl)
 
-abbrev bits_of : Option Degrees → Option ℕ
-bits_of None = None
-bits_of (Some x) = Some x.bits
-
 pub degrees_lawful : (n : ℕ) → IsLawfulKind n degrees
-degrees_lawful n = scalar_lawful n degrees_in degrees_payload fits (λ x. refl) (λ payload x h e. refl)
-  where
-    fits : (payload : Payload) (x : Degrees) → WasInRange payload → degrees_in payload ≡ Some x → x.bits < 2 ^ 32
-    fits (Varint m) x h e = absurd (cc)
-    fits (Eight m) x h e = absurd (cc)
-    fits (Span bytes) x h e = absurd (cc)
-    fits (Four m) x h e = let k : m ≡ x.bits = given_by (λ (r : Degrees). r.bits) (record { bits = m }) x.bits (ap bits_of e) in rw (← k) h
-    fits Group x h e = absurd (cc)
+degrees_lawful n = scalar_lawful n degrees_in degrees_payload (λ payload x h e. grind arith) (λ x. refl) (λ payload x h e. refl)
 
 pub bool_lawful : (n : ℕ) → IsLawfulKind n bool
-bool_lawful n = scalar_lawful n bool_in bool_payload (λ payload b fits e. bool_fits b) taken (λ payload b fits e. bool_again b)
-  where
-    bool_fits : (b : Bool) → IsInRange (bool_payload b)
-    bool_fits true = omega arith
-    bool_fits false = omega arith
-
-    bool_again : (b : Bool) → bool_in (bool_payload b) ≡ Some b
-    bool_again true = refl
-    bool_again false = refl
-
-    taken : (b : Bool) → is_some (bool_in (bool_payload b)) ≡ true
-    taken true = refl
-    taken false = refl
+bool_lawful n = scalar_lawful n bool_in bool_payload (λ payload b fits e. grind arith) (λ b. grind arith) (λ payload b fits e. grind arith)
 
 -- an enum, if the number of each value names it
 pub choice_lawful : {A : Type 0} (n : ℕ) (named : ℕ → Option A) (number : A → ℕ) → ((x : A) → number x < 2 ^ 32) → ((x : A) → named (number x) ≡ Some x) → IsLawfulKind n (choice named number)
@@ -218,12 +166,7 @@ unfolding payload_bytes
 span_fits bytes small = omega (arith, length-append (varint (length bytes)) bytes)
 
 pub text_is : (name : Kind) (n : ℕ) (told : Option (List ℕ)) (x : List ℕ) → as_text name n told ≡ Ok (Some x) → is_utf8 x ≡ true
-text_is name n None x e = absurd (cc)
-text_is name n (Some bytes) x e = tested (is_utf8 bytes) refl e
-  where
-    tested : (b : Bool) → is_utf8 bytes ≡ b → as_text name n (Some bytes) ≡ Ok (Some x) → is_utf8 x ≡ true
-    tested true is e = let f = rw is at e in let same : bytes ≡ x = cc in rw (← same) is
-    tested false is e = let f = rw is at e in absurd (cc)
+text_is name n told x e = grind arith
 
 pub text_again : (name : Kind) (n : ℕ) (x : List ℕ) → is_utf8 x ≡ true → as_text name n (Some x) ≡ Ok (Some x)
 text_again name n x e = rw e refl
@@ -252,21 +195,13 @@ unfolding occurrences_of
 occurring_own says n payload raw x fields e = rw (at_own says n payload raw, e) refl
 
 span_carries : (payload : Payload) (bytes : List ℕ) → CarriesBytes payload → span_in payload ≡ Some bytes → AreBytes bytes
-span_carries (Varint n) bytes h e = absurd (cc)
-span_carries (Eight n) bytes h e = absurd (cc)
-span_carries (Span content) bytes h e = let same : content ≡ bytes = cc in subst AreBytes same h
-span_carries (Four n) bytes h e = absurd (cc)
-span_carries Group bytes h e = absurd (cc)
+span_carries payload bytes h e = grind arith
 
 -- the runs of bytes that were read are bytes
 pub occurring_bytes : (n : ℕ) (fields : List Field) → AllByRecursion WasRead fields → AllByRecursion AreBytes (occurrences_of span_in n fields)
 unfolding occurrences_of
 occurring_bytes n [] each = tt
-occurring_bytes n (field ∷ fields) each = step (value_under span_in n field) refl (occurring_bytes n fields each.1)
-  where
-    step : (o : Option (List ℕ)) → value_under span_in n field ≡ o → AllByRecursion AreBytes (filter_map (value_under span_in n) fields) → AllByRecursion AreBytes (filter_map (value_under span_in n) (field ∷ fields))
-    step None is rest = rw is rest
-    step (Some bytes) is rest = rw is (span_carries field.payload bytes each.0.carried (at_says span_in n field bytes is), rest)
+occurring_bytes n (field ∷ fields) each = grind (arith, λ (bytes : List ℕ). span_carries field.payload bytes each.0.carried, occurring_bytes n fields each.1)
 
 merged_none : {M : Type 0} (m : Message M) → merged_message m [] ≡ Ok None
 unfolding merged_message

@@ -1,7 +1,6 @@
 -- What a feed holds, message by message.
-use Rattle.std.proofs.Common.{◌≡◌, List, [], ◌∷◌, ◌++◌, reverse, Bool, true, false, refl, ap, ◌∙◌, append-nil}
-use Rattle.std.specs.Prelude.{◌||◌, if◌then◌else◌}
-use Rattle.std.specs.List.{list_any, flat_map}
+use Rattle.std.proofs.Common.{◌≡◌, List, [], ◌∷◌, ◌++◌, reverse, ap, append-nil, arith}
+use Rattle.std.specs.Prelude.{if◌then◌else◌}
 use Rattle.std.specs.Ordering.{nat_cmp}
 use Rattle.std.specs.Cmp.Lexicographic.{slice_cmp}
 use Rattle.std.specs.FinMap.{put}
@@ -14,29 +13,12 @@ use Rattle.feed_defs.specs.History.{Change, is_full, since_full, changes_in, cha
 -- a whole data set begins anew, and any other message goes on
 pub since_full-append : (ms : List FeedMessage) (m : FeedMessage) → since_full (ms ++ m ∷ []) ≡ (if is_full m then m ∷ [] else since_full ms ++ m ∷ [])
 unfolding since_full
-since_full-append [] m = by_kind (is_full m)
-  where
-    by_kind : (b : Bool) → m ∷ [] ≡ (if b then m ∷ [] else m ∷ [])
-    by_kind true = refl
-    by_kind false = refl
-since_full-append (x ∷ ms) m =
-    ap (λ b. if b then since_full (ms ++ m ∷ []) else x ∷ (ms ++ m ∷ [])) (list_any-append is_full ms (m ∷ []))
-    ∙ by_kinds (list_any is_full ms) (is_full m) (since_full-append ms m)
-  where
-    by_kinds : (b c : Bool) → since_full (ms ++ m ∷ []) ≡ (if c then m ∷ [] else since_full ms ++ m ∷ []) →
-        (if b || (c || false) then since_full (ms ++ m ∷ []) else x ∷ (ms ++ m ∷ [])) ≡ (if c then m ∷ [] else (if b then since_full ms else x ∷ ms) ++ m ∷ [])
-    by_kinds true true e = e
-    by_kinds true false e = e
-    by_kinds false true e = e
-    by_kinds false false e = refl
+since_full-append [] m = grind arith
+since_full-append (x ∷ ms) m = grind (arith, list_any-append is_full ms (m ∷ []), since_full-append ms m)
 
 -- what is said since the last whole data set, with one message more
 pub changes_of-append : (ms : List FeedMessage) (m : FeedMessage) → changes_of (ms ++ m ∷ []) ≡ (if is_full m then [] else changes_of ms) ++ changes_in m
-changes_of-append ms m = ap (flat_map changes_in) (since_full-append ms m) ∙ by_kind (is_full m)
-  where
-    by_kind : (b : Bool) → flat_map changes_in (if b then m ∷ [] else since_full ms ++ m ∷ []) ≡ (if b then [] else changes_of ms) ++ changes_in m
-    by_kind true = append-nil (changes_in m)
-    by_kind false = flat_map-append changes_in (since_full ms) (m ∷ []) ∙ ap (λ xs. changes_of ms ++ xs) (append-nil (changes_in m))
+changes_of-append ms m = grind (arith, since_full-append ms m, flat_map-append changes_in (since_full ms) (m ∷ []), append-nil (changes_in m))
 
 -- the last change of each id, with one change more
 pub listed-append : (changes : List Change) (c : Change) → changes_by_id (reverse (changes ++ c ∷ [])) ≡ put (slice_cmp nat_cmp) c.0 c.1 (changes_by_id (reverse changes))

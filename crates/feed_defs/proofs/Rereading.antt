@@ -1,32 +1,20 @@
 -- A message that was read is read again from the bytes that are written of it.
 use Rattle.std.proofs.Common.{◌≡◌, ℕ, ◌^◌, ◌<◌, ◌≤◌, Bool, true, List, [], ◌∷◌, ◌++◌, length, refl, ◌∙◌, ap, subst, arith, append-nil, lit<, lit≤}
-use Rattle.std.specs.Prelude.{Some, Result, Ok, Err, not, filter, map}
+use Rattle.std.specs.Prelude.{Ok, not, filter, map}
 use Rattle.std.specs.List.{flat_map, AllByRecursion}
 use Rattle.std.proofs.lemmas.List.{length-append}
 use Rattle.std.proofs.lemmas.List.Elements.{filter-append}
 use Rattle.rt_types.specs.declared.fault.Kind.{Kind}
-use Rattle.rt_types.specs.declared.enums.Incrementality.{Incrementality}
-use Rattle.rt_types.specs.declared.enums.Incrementality.TheVariants as incrementality_value
-use Rattle.rt_types.specs.declared.enums.StopRelation.{StopRelation}
-use Rattle.rt_types.specs.declared.enums.StopRelation.TheVariants as stop_relation_value
-use Rattle.rt_types.specs.declared.enums.TripRelation.{TripRelation}
-use Rattle.rt_types.specs.declared.enums.TripRelation.TheVariants as trip_relation_value
-use Rattle.rt_types.specs.declared.enums.StopStatus.{StopStatus}
-use Rattle.rt_types.specs.declared.enums.StopStatus.TheVariants as stop_status_value
-use Rattle.rt_types.specs.declared.enums.Cause.{Cause}
-use Rattle.rt_types.specs.declared.enums.Cause.TheVariants as cause_value
-use Rattle.rt_types.specs.declared.enums.Effect.{Effect}
-use Rattle.rt_types.specs.declared.enums.Effect.TheVariants as effect_value
 use Rattle.rt_types.specs.declared.message.FeedMessage.{FeedMessage}
 use Rattle.answer_defs.specs.Steps.{◌>>=◌}
-use Rattle.pb_wire_defs.specs.Field.{Field, Fault as WireFault}
+use Rattle.pb_wire_defs.specs.Field.{Field}
 use Rattle.pb_wire_defs.specs.Spelling.{IsField}
 use Rattle.pb_wire_defs.specs.Reading.{fields_of}
 use Rattle.pb_wire_defs.specs.Writing.{Written, field_bytes}
 use Rattle.pb_wire_defs.proofs.Bytes.{AreBytes}
 use Rattle.answer_defs.proofs.Steps.{bind_ok, ok_is}
 use Rattle.pb_wire_defs.proofs.Again.{IsInRange, IsSpellable, WasRead, as_field, found_again, were_read, AllByRecursion-filter}
-use Rattle.feed_defs.specs.Rows.{Fault, fault, wire_what, Message, Shape, Rows, fields_in, unknown_bytes_of, fields_of_all, value, message_bytes, message, text, u32, u64, i32, i64, degrees, bool, embedded, optional, required, repeated, numbered, ◌⊕◌}
+use Rattle.feed_defs.specs.Rows.{Message, Shape, Rows, fields_in, unknown_bytes_of, fields_of_all, value, message_bytes, message}
 use Rattle.feed_defs.specs.Enums.{incrementality_named, incrementality_number, incrementality, stop_relation_named, stop_relation_number, stop_relation, trip_relation_named, trip_relation_number, trip_relation, stop_status_named, stop_status_number, stop_status, cause_named, cause_number, cause, effect_named, effect_number, effect}
 use Rattle.feed_defs.specs.Table.{trip_descriptor_shape, trip_descriptor, vehicle_descriptor_shape, vehicle_descriptor, stop_time_event_shape, stop_time_event, stop_time_properties_shape, stop_time_properties, stop_time_update_shape, stop_time_update, trip_update_shape, trip_update, position_shape, position, vehicle_position_shape, vehicle_position, time_range_shape, time_range, entity_selector_shape, entity_selector, translation_shape, translation, translated_string_shape, translated_string, alert_shape, alert, header_shape, header, entity_shape, entity, feed_shape, feed, read, write}
 use Rattle.feed_defs.proofs.Sifted.{each_then, each_append, filter_none, filter_failing, filter_passing}
@@ -35,19 +23,11 @@ use Rattle.feed_defs.proofs.RowLaws.{IsLawful, optional_lawful, required_lawful,
 
 -- ---- the fields of bytes
 
-abbrev named_fault : Kind → Result (List Field) WireFault → Result (List Field) Fault
-named_fault kind (Ok fields) = Ok fields
-named_fault kind (Err w) = Err (fault (wire_what w) kind 0)
-
-told_fields : (kind : Kind) (r : Result (List Field) WireFault) (fields : List Field) → named_fault kind r ≡ Ok fields → r ≡ Ok fields
-told_fields kind (Ok found) fields e = cc
-told_fields kind (Err w) fields e = absurd (cc)
-
 fields_are : (kind : Kind) (bytes : List ℕ) (fields : List Field) → fields_in kind bytes ≡ Ok fields → fields_of bytes ≡ Ok fields
-fields_are kind bytes fields e = told_fields kind (fields_of bytes) fields e
+fields_are kind bytes fields e = grind arith
 
 fields_again : (kind : Kind) (bytes : List ℕ) (fields : List Field) → fields_of bytes ≡ Ok fields → fields_in kind bytes ≡ Ok fields
-fields_again kind bytes fields e = ap (λ r. named_fault kind r) e
+fields_again kind bytes fields e = grind arith
 
 pub joined_were_read : (kind : Kind) (payloads : List (List ℕ)) (fields : List Field) → AllByRecursion AreBytes payloads → fields_of_all kind payloads ≡ Ok fields → AllByRecursion WasRead fields
 unfolding fields_of_all
@@ -111,9 +91,9 @@ made_again shape low high law l h holds fields v were fits back small =
     rw (is, value_single (message shape) _ _ found, again, keeps_others shape.rows.is_known (shape.rows.write v) fields known) refl
 
 -- a message whose rows are lawful is read again
-pub message_rereads : {M V : Type 0} (shape : Shape M V) (low high : ℕ) → IsLawful low high shape.rows → 1 ≤ low → high ≤ 536870911 → Holds shape → Rereads (message shape)
+pub message_rereads : {M V : Type 0} (shape : Shape M V) (low high : ℕ) → 1 ≤ low → high ≤ 536870911 → Holds shape → IsLawful low high shape.rows → Rereads (message shape)
 unfolding value
-message_rereads {M} {V} shape low high law l h holds payloads x each e small =
+message_rereads {M} {V} shape low high l h holds law payloads x each e small =
     let found = bind_ok (fields_of_all shape.kind payloads) (message shape).of_fields x e in
     let told = bind_ok (shape.rows.read shape.kind found.0) (λ told. told >>= λ v. Ok (shape.make v (unknown_bytes_of shape.rows.is_known found.0))) x found.2 in
     let made = bind_ok told.0 (λ v. Ok (shape.make v (unknown_bytes_of shape.rows.is_known found.0))) x told.2 in
@@ -125,309 +105,149 @@ message_rereads {M} {V} shape low high law l h holds payloads x each e small =
 
 -- ---- the messages of the table
 
-incrementality_small : (x : Incrementality) → incrementality_number x < 2 ^ 32
-incrementality_small incrementality_value.FullDataset = omega arith
-incrementality_small incrementality_value.Differential = omega arith
-
-incrementality_again : (x : Incrementality) → incrementality_named (incrementality_number x) ≡ Some x
-incrementality_again incrementality_value.FullDataset = refl
-incrementality_again incrementality_value.Differential = refl
-
 pub incrementality_lawful : (n : ℕ) → IsLawfulKind n incrementality
-incrementality_lawful n = choice_lawful n incrementality_named incrementality_number incrementality_small incrementality_again
-
-stop_relation_small : (x : StopRelation) → stop_relation_number x < 2 ^ 32
-stop_relation_small stop_relation_value.Scheduled = omega arith
-stop_relation_small stop_relation_value.Skipped = omega arith
-stop_relation_small stop_relation_value.NoData = omega arith
-stop_relation_small stop_relation_value.Unscheduled = omega arith
-
-stop_relation_again : (x : StopRelation) → stop_relation_named (stop_relation_number x) ≡ Some x
-stop_relation_again stop_relation_value.Scheduled = refl
-stop_relation_again stop_relation_value.Skipped = refl
-stop_relation_again stop_relation_value.NoData = refl
-stop_relation_again stop_relation_value.Unscheduled = refl
+incrementality_lawful n = choice_lawful n incrementality_named incrementality_number (λ x. grind arith) (λ x. grind arith)
 
 pub stop_relation_lawful : (n : ℕ) → IsLawfulKind n stop_relation
-stop_relation_lawful n = choice_lawful n stop_relation_named stop_relation_number stop_relation_small stop_relation_again
-
-trip_relation_small : (x : TripRelation) → trip_relation_number x < 2 ^ 32
-trip_relation_small trip_relation_value.Scheduled = omega arith
-trip_relation_small trip_relation_value.Added = omega arith
-trip_relation_small trip_relation_value.Unscheduled = omega arith
-trip_relation_small trip_relation_value.Canceled = omega arith
-trip_relation_small trip_relation_value.Replacement = omega arith
-trip_relation_small trip_relation_value.Duplicated = omega arith
-trip_relation_small trip_relation_value.Deleted = omega arith
-
-trip_relation_again : (x : TripRelation) → trip_relation_named (trip_relation_number x) ≡ Some x
-trip_relation_again trip_relation_value.Scheduled = refl
-trip_relation_again trip_relation_value.Added = refl
-trip_relation_again trip_relation_value.Unscheduled = refl
-trip_relation_again trip_relation_value.Canceled = refl
-trip_relation_again trip_relation_value.Replacement = refl
-trip_relation_again trip_relation_value.Duplicated = refl
-trip_relation_again trip_relation_value.Deleted = refl
+stop_relation_lawful n = choice_lawful n stop_relation_named stop_relation_number (λ x. grind arith) (λ x. grind arith)
 
 pub trip_relation_lawful : (n : ℕ) → IsLawfulKind n trip_relation
-trip_relation_lawful n = choice_lawful n trip_relation_named trip_relation_number trip_relation_small trip_relation_again
-
-stop_status_small : (x : StopStatus) → stop_status_number x < 2 ^ 32
-stop_status_small stop_status_value.IncomingAt = omega arith
-stop_status_small stop_status_value.StoppedAt = omega arith
-stop_status_small stop_status_value.InTransitTo = omega arith
-
-stop_status_again : (x : StopStatus) → stop_status_named (stop_status_number x) ≡ Some x
-stop_status_again stop_status_value.IncomingAt = refl
-stop_status_again stop_status_value.StoppedAt = refl
-stop_status_again stop_status_value.InTransitTo = refl
+trip_relation_lawful n = choice_lawful n trip_relation_named trip_relation_number (λ x. grind arith) (λ x. grind arith)
 
 pub stop_status_lawful : (n : ℕ) → IsLawfulKind n stop_status
-stop_status_lawful n = choice_lawful n stop_status_named stop_status_number stop_status_small stop_status_again
-
-cause_small : (x : Cause) → cause_number x < 2 ^ 32
-cause_small cause_value.UnknownCause = omega arith
-cause_small cause_value.OtherCause = omega arith
-cause_small cause_value.TechnicalProblem = omega arith
-cause_small cause_value.Strike = omega arith
-cause_small cause_value.Demonstration = omega arith
-cause_small cause_value.Accident = omega arith
-cause_small cause_value.Holiday = omega arith
-cause_small cause_value.Weather = omega arith
-cause_small cause_value.Maintenance = omega arith
-cause_small cause_value.Construction = omega arith
-cause_small cause_value.PoliceActivity = omega arith
-cause_small cause_value.MedicalEmergency = omega arith
-
-cause_again : (x : Cause) → cause_named (cause_number x) ≡ Some x
-cause_again cause_value.UnknownCause = refl
-cause_again cause_value.OtherCause = refl
-cause_again cause_value.TechnicalProblem = refl
-cause_again cause_value.Strike = refl
-cause_again cause_value.Demonstration = refl
-cause_again cause_value.Accident = refl
-cause_again cause_value.Holiday = refl
-cause_again cause_value.Weather = refl
-cause_again cause_value.Maintenance = refl
-cause_again cause_value.Construction = refl
-cause_again cause_value.PoliceActivity = refl
-cause_again cause_value.MedicalEmergency = refl
+stop_status_lawful n = choice_lawful n stop_status_named stop_status_number (λ x. grind arith) (λ x. grind arith)
 
 pub cause_lawful : (n : ℕ) → IsLawfulKind n cause
-cause_lawful n = choice_lawful n cause_named cause_number cause_small cause_again
-
-effect_small : (x : Effect) → effect_number x < 2 ^ 32
-effect_small effect_value.NoService = omega arith
-effect_small effect_value.ReducedService = omega arith
-effect_small effect_value.SignificantDelays = omega arith
-effect_small effect_value.Detour = omega arith
-effect_small effect_value.AdditionalService = omega arith
-effect_small effect_value.ModifiedService = omega arith
-effect_small effect_value.OtherEffect = omega arith
-effect_small effect_value.UnknownEffect = omega arith
-effect_small effect_value.StopMoved = omega arith
-effect_small effect_value.NoEffect = omega arith
-effect_small effect_value.AccessibilityIssue = omega arith
-
-effect_again : (x : Effect) → effect_named (effect_number x) ≡ Some x
-effect_again effect_value.NoService = refl
-effect_again effect_value.ReducedService = refl
-effect_again effect_value.SignificantDelays = refl
-effect_again effect_value.Detour = refl
-effect_again effect_value.AdditionalService = refl
-effect_again effect_value.ModifiedService = refl
-effect_again effect_value.OtherEffect = refl
-effect_again effect_value.UnknownEffect = refl
-effect_again effect_value.StopMoved = refl
-effect_again effect_value.NoEffect = refl
-effect_again effect_value.AccessibilityIssue = refl
+cause_lawful n = choice_lawful n cause_named cause_number (λ x. grind arith) (λ x. grind arith)
 
 pub effect_lawful : (n : ℕ) → IsLawfulKind n effect
-effect_lawful n = choice_lawful n effect_named effect_number effect_small effect_again
+effect_lawful n = choice_lawful n effect_named effect_number (λ x. grind arith) (λ x. grind arith)
 
 pub trip_descriptor_rereads : Rereads trip_descriptor
 trip_descriptor_rereads =
-    message_rereads trip_descriptor_shape 1 6
-    (joined_lawful (optional 1 text) (optional 2 text ⊕ optional 3 text ⊕ optional 4 trip_relation ⊕ optional 5 text ⊕ optional 6 u32) 1 1 2 6
-    (optional_lawful 1 text (text_lawful 1))
-    (joined_lawful (optional 2 text) (optional 3 text ⊕ optional 4 trip_relation ⊕ optional 5 text ⊕ optional 6 u32) 2 2 3 6
-    (optional_lawful 2 text (text_lawful 2))
-    (joined_lawful (optional 3 text) (optional 4 trip_relation ⊕ optional 5 text ⊕ optional 6 u32) 3 3 4 6
-    (optional_lawful 3 text (text_lawful 3))
-    (joined_lawful (optional 4 trip_relation) (optional 5 text ⊕ optional 6 u32) 4 4 5 6
-    (optional_lawful 4 trip_relation (trip_relation_lawful 4))
-    (joined_lawful (optional 5 text) (optional 6 u32) 5 5 6 6
-    (optional_lawful 5 text (text_lawful 5))
-    (optional_lawful 6 u32 (u32_lawful 6)) (lit< tt)) (lit< tt)) (lit< tt)) (lit< tt)) (lit< tt))
-    (lit≤ tt) (lit≤ tt) (λ v unknown. (refl, refl))
+    message_rereads trip_descriptor_shape 1 6 (lit≤ tt) (lit≤ tt) (λ v unknown. (refl, refl))
+    (joined_lawful (optional_lawful (text_lawful 1))
+    (joined_lawful (optional_lawful (text_lawful 2))
+    (joined_lawful (optional_lawful (text_lawful 3))
+    (joined_lawful (optional_lawful (trip_relation_lawful 4))
+    (joined_lawful (optional_lawful (text_lawful 5))
+    (optional_lawful (u32_lawful 6)) (lit< tt)) (lit< tt)) (lit< tt)) (lit< tt)) (lit< tt))
 
 pub vehicle_descriptor_rereads : Rereads vehicle_descriptor
 vehicle_descriptor_rereads =
-    message_rereads vehicle_descriptor_shape 1 3
-    (joined_lawful (optional 1 text) (optional 2 text ⊕ optional 3 text) 1 1 2 3
-    (optional_lawful 1 text (text_lawful 1))
-    (joined_lawful (optional 2 text) (optional 3 text) 2 2 3 3
-    (optional_lawful 2 text (text_lawful 2))
-    (optional_lawful 3 text (text_lawful 3)) (lit< tt)) (lit< tt))
-    (lit≤ tt) (lit≤ tt) (λ v unknown. (refl, refl))
+    message_rereads vehicle_descriptor_shape 1 3 (lit≤ tt) (lit≤ tt) (λ v unknown. (refl, refl))
+    (joined_lawful (optional_lawful (text_lawful 1))
+    (joined_lawful (optional_lawful (text_lawful 2))
+    (optional_lawful (text_lawful 3)) (lit< tt)) (lit< tt))
 
 pub stop_time_event_rereads : Rereads stop_time_event
 stop_time_event_rereads =
-    message_rereads stop_time_event_shape 1 3
-    (joined_lawful (optional 1 i32) (optional 2 i64 ⊕ optional 3 i32) 1 1 2 3
-    (optional_lawful 1 i32 (i32_lawful 1))
-    (joined_lawful (optional 2 i64) (optional 3 i32) 2 2 3 3
-    (optional_lawful 2 i64 (i64_lawful 2))
-    (optional_lawful 3 i32 (i32_lawful 3)) (lit< tt)) (lit< tt))
-    (lit≤ tt) (lit≤ tt) (λ v unknown. (refl, refl))
+    message_rereads stop_time_event_shape 1 3 (lit≤ tt) (lit≤ tt) (λ v unknown. (refl, refl))
+    (joined_lawful (optional_lawful (i32_lawful 1))
+    (joined_lawful (optional_lawful (i64_lawful 2))
+    (optional_lawful (i32_lawful 3)) (lit< tt)) (lit< tt))
 
 pub stop_time_properties_rereads : Rereads stop_time_properties
 stop_time_properties_rereads =
-    message_rereads stop_time_properties_shape 1 1
-    (optional_lawful 1 text (text_lawful 1))
-    (lit≤ tt) (lit≤ tt) (λ v unknown. (refl, refl))
+    message_rereads stop_time_properties_shape 1 1 (lit≤ tt) (lit≤ tt) (λ v unknown. (refl, refl))
+    (optional_lawful (text_lawful 1))
 
 pub stop_time_update_rereads : Rereads stop_time_update
 stop_time_update_rereads =
-    message_rereads stop_time_update_shape 1 6
-    (joined_lawful (optional 1 u32) (optional 2 (embedded stop_time_event) ⊕ optional 3 (embedded stop_time_event) ⊕ optional 4 text ⊕ optional 5 stop_relation ⊕ optional 6 (embedded stop_time_properties)) 1 1 2 6
-    (optional_lawful 1 u32 (u32_lawful 1))
-    (joined_lawful (optional 2 (embedded stop_time_event)) (optional 3 (embedded stop_time_event) ⊕ optional 4 text ⊕ optional 5 stop_relation ⊕ optional 6 (embedded stop_time_properties)) 2 2 3 6
-    (optional_lawful 2 (embedded stop_time_event) (embedded_lawful 2 stop_time_event stop_time_event_rereads))
-    (joined_lawful (optional 3 (embedded stop_time_event)) (optional 4 text ⊕ optional 5 stop_relation ⊕ optional 6 (embedded stop_time_properties)) 3 3 4 6
-    (optional_lawful 3 (embedded stop_time_event) (embedded_lawful 3 stop_time_event stop_time_event_rereads))
-    (joined_lawful (optional 4 text) (optional 5 stop_relation ⊕ optional 6 (embedded stop_time_properties)) 4 4 5 6
-    (optional_lawful 4 text (text_lawful 4))
-    (joined_lawful (optional 5 stop_relation) (optional 6 (embedded stop_time_properties)) 5 5 6 6
-    (optional_lawful 5 stop_relation (stop_relation_lawful 5))
-    (optional_lawful 6 (embedded stop_time_properties) (embedded_lawful 6 stop_time_properties stop_time_properties_rereads)) (lit< tt)) (lit< tt)) (lit< tt)) (lit< tt)) (lit< tt))
-    (lit≤ tt) (lit≤ tt) (λ v unknown. (refl, refl))
+    message_rereads stop_time_update_shape 1 6 (lit≤ tt) (lit≤ tt) (λ v unknown. (refl, refl))
+    (joined_lawful (optional_lawful (u32_lawful 1))
+    (joined_lawful (optional_lawful (embedded_lawful 2 stop_time_event stop_time_event_rereads))
+    (joined_lawful (optional_lawful (embedded_lawful 3 stop_time_event stop_time_event_rereads))
+    (joined_lawful (optional_lawful (text_lawful 4))
+    (joined_lawful (optional_lawful (stop_relation_lawful 5))
+    (optional_lawful (embedded_lawful 6 stop_time_properties stop_time_properties_rereads)) (lit< tt)) (lit< tt)) (lit< tt)) (lit< tt)) (lit< tt))
 
 pub trip_update_rereads : Rereads trip_update
 trip_update_rereads =
-    message_rereads trip_update_shape 1 5
-    (joined_lawful (required 1 (embedded trip_descriptor)) (repeated 2 stop_time_update ⊕ optional 3 (embedded vehicle_descriptor) ⊕ optional 4 u64 ⊕ optional 5 i32) 1 1 2 5
-    (required_lawful 1 (embedded trip_descriptor) (embedded_lawful 1 trip_descriptor trip_descriptor_rereads))
-    (joined_lawful (repeated 2 stop_time_update) (optional 3 (embedded vehicle_descriptor) ⊕ optional 4 u64 ⊕ optional 5 i32) 2 2 3 5
-    (repeated_lawful 2 stop_time_update stop_time_update_rereads)
-    (joined_lawful (optional 3 (embedded vehicle_descriptor)) (optional 4 u64 ⊕ optional 5 i32) 3 3 4 5
-    (optional_lawful 3 (embedded vehicle_descriptor) (embedded_lawful 3 vehicle_descriptor vehicle_descriptor_rereads))
-    (joined_lawful (optional 4 u64) (optional 5 i32) 4 4 5 5
-    (optional_lawful 4 u64 (u64_lawful 4))
-    (optional_lawful 5 i32 (i32_lawful 5)) (lit< tt)) (lit< tt)) (lit< tt)) (lit< tt))
-    (lit≤ tt) (lit≤ tt) (λ v unknown. (refl, refl))
+    message_rereads trip_update_shape 1 5 (lit≤ tt) (lit≤ tt) (λ v unknown. (refl, refl))
+    (joined_lawful (required_lawful (embedded_lawful 1 trip_descriptor trip_descriptor_rereads))
+    (joined_lawful (repeated_lawful 2 stop_time_update stop_time_update_rereads)
+    (joined_lawful (optional_lawful (embedded_lawful 3 vehicle_descriptor vehicle_descriptor_rereads))
+    (joined_lawful (optional_lawful (u64_lawful 4))
+    (optional_lawful (i32_lawful 5)) (lit< tt)) (lit< tt)) (lit< tt)) (lit< tt))
 
 pub position_rereads : Rereads position
 position_rereads =
-    message_rereads position_shape 1 2
-    (joined_lawful (required 1 degrees) (required 2 degrees) 1 1 2 2
-    (required_lawful 1 degrees (degrees_lawful 1))
-    (required_lawful 2 degrees (degrees_lawful 2)) (lit< tt))
-    (lit≤ tt) (lit≤ tt) (λ v unknown. (refl, refl))
+    message_rereads position_shape 1 2 (lit≤ tt) (lit≤ tt) (λ v unknown. (refl, refl))
+    (joined_lawful (required_lawful (degrees_lawful 1))
+    (required_lawful (degrees_lawful 2)) (lit< tt))
 
 pub vehicle_position_rereads : Rereads vehicle_position
 vehicle_position_rereads =
-    message_rereads vehicle_position_shape 1 8
-    (joined_lawful (optional 1 (embedded trip_descriptor)) (optional 2 (embedded position) ⊕ optional 3 u32 ⊕ optional 4 stop_status ⊕ optional 5 u64 ⊕ optional 7 text ⊕ optional 8 (embedded vehicle_descriptor)) 1 1 2 8
-    (optional_lawful 1 (embedded trip_descriptor) (embedded_lawful 1 trip_descriptor trip_descriptor_rereads))
-    (joined_lawful (optional 2 (embedded position)) (optional 3 u32 ⊕ optional 4 stop_status ⊕ optional 5 u64 ⊕ optional 7 text ⊕ optional 8 (embedded vehicle_descriptor)) 2 2 3 8
-    (optional_lawful 2 (embedded position) (embedded_lawful 2 position position_rereads))
-    (joined_lawful (optional 3 u32) (optional 4 stop_status ⊕ optional 5 u64 ⊕ optional 7 text ⊕ optional 8 (embedded vehicle_descriptor)) 3 3 4 8
-    (optional_lawful 3 u32 (u32_lawful 3))
-    (joined_lawful (optional 4 stop_status) (optional 5 u64 ⊕ optional 7 text ⊕ optional 8 (embedded vehicle_descriptor)) 4 4 5 8
-    (optional_lawful 4 stop_status (stop_status_lawful 4))
-    (joined_lawful (optional 5 u64) (optional 7 text ⊕ optional 8 (embedded vehicle_descriptor)) 5 5 7 8
-    (optional_lawful 5 u64 (u64_lawful 5))
-    (joined_lawful (optional 7 text) (optional 8 (embedded vehicle_descriptor)) 7 7 8 8
-    (optional_lawful 7 text (text_lawful 7))
-    (optional_lawful 8 (embedded vehicle_descriptor) (embedded_lawful 8 vehicle_descriptor vehicle_descriptor_rereads)) (lit< tt)) (lit< tt)) (lit< tt)) (lit< tt)) (lit< tt)) (lit< tt))
-    (lit≤ tt) (lit≤ tt) (λ v unknown. (refl, refl))
+    message_rereads vehicle_position_shape 1 8 (lit≤ tt) (lit≤ tt) (λ v unknown. (refl, refl))
+    (joined_lawful (optional_lawful (embedded_lawful 1 trip_descriptor trip_descriptor_rereads))
+    (joined_lawful (optional_lawful (embedded_lawful 2 position position_rereads))
+    (joined_lawful (optional_lawful (u32_lawful 3))
+    (joined_lawful (optional_lawful (stop_status_lawful 4))
+    (joined_lawful (optional_lawful (u64_lawful 5))
+    (joined_lawful (optional_lawful (text_lawful 7))
+    (optional_lawful (embedded_lawful 8 vehicle_descriptor vehicle_descriptor_rereads)) (lit< tt)) (lit< tt)) (lit< tt)) (lit< tt)) (lit< tt)) (lit< tt))
 
 pub time_range_rereads : Rereads time_range
 time_range_rereads =
-    message_rereads time_range_shape 1 2
-    (joined_lawful (optional 1 u64) (optional 2 u64) 1 1 2 2
-    (optional_lawful 1 u64 (u64_lawful 1))
-    (optional_lawful 2 u64 (u64_lawful 2)) (lit< tt))
-    (lit≤ tt) (lit≤ tt) (λ v unknown. (refl, refl))
+    message_rereads time_range_shape 1 2 (lit≤ tt) (lit≤ tt) (λ v unknown. (refl, refl))
+    (joined_lawful (optional_lawful (u64_lawful 1))
+    (optional_lawful (u64_lawful 2)) (lit< tt))
 
 pub entity_selector_rereads : Rereads entity_selector
 entity_selector_rereads =
-    message_rereads entity_selector_shape 1 6
-    (joined_lawful (optional 1 text) (optional 2 text ⊕ optional 3 i32 ⊕ optional 4 (embedded trip_descriptor) ⊕ optional 5 text ⊕ optional 6 u32) 1 1 2 6
-    (optional_lawful 1 text (text_lawful 1))
-    (joined_lawful (optional 2 text) (optional 3 i32 ⊕ optional 4 (embedded trip_descriptor) ⊕ optional 5 text ⊕ optional 6 u32) 2 2 3 6
-    (optional_lawful 2 text (text_lawful 2))
-    (joined_lawful (optional 3 i32) (optional 4 (embedded trip_descriptor) ⊕ optional 5 text ⊕ optional 6 u32) 3 3 4 6
-    (optional_lawful 3 i32 (i32_lawful 3))
-    (joined_lawful (optional 4 (embedded trip_descriptor)) (optional 5 text ⊕ optional 6 u32) 4 4 5 6
-    (optional_lawful 4 (embedded trip_descriptor) (embedded_lawful 4 trip_descriptor trip_descriptor_rereads))
-    (joined_lawful (optional 5 text) (optional 6 u32) 5 5 6 6
-    (optional_lawful 5 text (text_lawful 5))
-    (optional_lawful 6 u32 (u32_lawful 6)) (lit< tt)) (lit< tt)) (lit< tt)) (lit< tt)) (lit< tt))
-    (lit≤ tt) (lit≤ tt) (λ v unknown. (refl, refl))
+    message_rereads entity_selector_shape 1 6 (lit≤ tt) (lit≤ tt) (λ v unknown. (refl, refl))
+    (joined_lawful (optional_lawful (text_lawful 1))
+    (joined_lawful (optional_lawful (text_lawful 2))
+    (joined_lawful (optional_lawful (i32_lawful 3))
+    (joined_lawful (optional_lawful (embedded_lawful 4 trip_descriptor trip_descriptor_rereads))
+    (joined_lawful (optional_lawful (text_lawful 5))
+    (optional_lawful (u32_lawful 6)) (lit< tt)) (lit< tt)) (lit< tt)) (lit< tt)) (lit< tt))
 
 pub translation_rereads : Rereads translation
 translation_rereads =
-    message_rereads translation_shape 1 2
-    (joined_lawful (required 1 text) (optional 2 text) 1 1 2 2
-    (required_lawful 1 text (text_lawful 1))
-    (optional_lawful 2 text (text_lawful 2)) (lit< tt))
-    (lit≤ tt) (lit≤ tt) (λ v unknown. (refl, refl))
+    message_rereads translation_shape 1 2 (lit≤ tt) (lit≤ tt) (λ v unknown. (refl, refl))
+    (joined_lawful (required_lawful (text_lawful 1))
+    (optional_lawful (text_lawful 2)) (lit< tt))
 
 pub translated_string_rereads : Rereads translated_string
 translated_string_rereads =
-    message_rereads translated_string_shape 1 1
+    message_rereads translated_string_shape 1 1 (lit≤ tt) (lit≤ tt) (λ v unknown. (refl, refl))
     (repeated_lawful 1 translation translation_rereads)
-    (lit≤ tt) (lit≤ tt) (λ v unknown. (refl, refl))
 
 pub alert_rereads : Rereads alert
 alert_rereads =
-    message_rereads alert_shape 1 11
-    (joined_lawful (repeated 1 time_range) (repeated 5 entity_selector ⊕ optional 6 cause ⊕ optional 7 effect ⊕ optional 10 (embedded translated_string) ⊕ optional 11 (embedded translated_string)) 1 1 5 11
-    (repeated_lawful 1 time_range time_range_rereads)
-    (joined_lawful (repeated 5 entity_selector) (optional 6 cause ⊕ optional 7 effect ⊕ optional 10 (embedded translated_string) ⊕ optional 11 (embedded translated_string)) 5 5 6 11
-    (repeated_lawful 5 entity_selector entity_selector_rereads)
-    (joined_lawful (optional 6 cause) (optional 7 effect ⊕ optional 10 (embedded translated_string) ⊕ optional 11 (embedded translated_string)) 6 6 7 11
-    (optional_lawful 6 cause (cause_lawful 6))
-    (joined_lawful (optional 7 effect) (optional 10 (embedded translated_string) ⊕ optional 11 (embedded translated_string)) 7 7 10 11
-    (optional_lawful 7 effect (effect_lawful 7))
-    (joined_lawful (optional 10 (embedded translated_string)) (optional 11 (embedded translated_string)) 10 10 11 11
-    (optional_lawful 10 (embedded translated_string) (embedded_lawful 10 translated_string translated_string_rereads))
-    (optional_lawful 11 (embedded translated_string) (embedded_lawful 11 translated_string translated_string_rereads)) (lit< tt)) (lit< tt)) (lit< tt)) (lit< tt)) (lit< tt))
-    (lit≤ tt) (lit≤ tt) (λ v unknown. (refl, refl))
+    message_rereads alert_shape 1 11 (lit≤ tt) (lit≤ tt) (λ v unknown. (refl, refl))
+    (joined_lawful (repeated_lawful 1 time_range time_range_rereads)
+    (joined_lawful (repeated_lawful 5 entity_selector entity_selector_rereads)
+    (joined_lawful (optional_lawful (cause_lawful 6))
+    (joined_lawful (optional_lawful (effect_lawful 7))
+    (joined_lawful (optional_lawful (embedded_lawful 10 translated_string translated_string_rereads))
+    (optional_lawful (embedded_lawful 11 translated_string translated_string_rereads)) (lit< tt)) (lit< tt)) (lit< tt)) (lit< tt)) (lit< tt))
+
+pub header_law : IsLawful 1 3 header_shape.rows
+header_law =
+    joined_lawful (required_lawful (text_lawful 1))
+    (joined_lawful (optional_lawful (incrementality_lawful 2))
+    (optional_lawful (u64_lawful 3)) (lit< tt)) (lit< tt)
 
 pub header_rereads : Rereads header
-header_rereads =
-    message_rereads header_shape 1 3
-    (joined_lawful (required 1 text) (optional 2 incrementality ⊕ optional 3 u64) 1 1 2 3
-    (required_lawful 1 text (text_lawful 1))
-    (joined_lawful (optional 2 incrementality) (optional 3 u64) 2 2 3 3
-    (optional_lawful 2 incrementality (incrementality_lawful 2))
-    (optional_lawful 3 u64 (u64_lawful 3)) (lit< tt)) (lit< tt))
-    (lit≤ tt) (lit≤ tt) (λ v unknown. (refl, refl))
+header_rereads = message_rereads header_shape 1 3 (lit≤ tt) (lit≤ tt) (λ v unknown. (refl, refl)) header_law
 
 pub entity_rereads : Rereads entity
 entity_rereads =
-    message_rereads entity_shape 1 5
-    (joined_lawful (required 1 text) (optional 2 bool ⊕ optional 3 (embedded trip_update) ⊕ optional 4 (embedded vehicle_position) ⊕ optional 5 (embedded alert)) 1 1 2 5
-    (required_lawful 1 text (text_lawful 1))
-    (joined_lawful (optional 2 bool) (optional 3 (embedded trip_update) ⊕ optional 4 (embedded vehicle_position) ⊕ optional 5 (embedded alert)) 2 2 3 5
-    (optional_lawful 2 bool (bool_lawful 2))
-    (joined_lawful (optional 3 (embedded trip_update)) (optional 4 (embedded vehicle_position) ⊕ optional 5 (embedded alert)) 3 3 4 5
-    (optional_lawful 3 (embedded trip_update) (embedded_lawful 3 trip_update trip_update_rereads))
-    (joined_lawful (optional 4 (embedded vehicle_position)) (optional 5 (embedded alert)) 4 4 5 5
-    (optional_lawful 4 (embedded vehicle_position) (embedded_lawful 4 vehicle_position vehicle_position_rereads))
-    (optional_lawful 5 (embedded alert) (embedded_lawful 5 alert alert_rereads)) (lit< tt)) (lit< tt)) (lit< tt)) (lit< tt))
-    (lit≤ tt) (lit≤ tt) (λ v unknown. (refl, refl))
+    message_rereads entity_shape 1 5 (lit≤ tt) (lit≤ tt) (λ v unknown. (refl, refl))
+    (joined_lawful (required_lawful (text_lawful 1))
+    (joined_lawful (optional_lawful (bool_lawful 2))
+    (joined_lawful (optional_lawful (embedded_lawful 3 trip_update trip_update_rereads))
+    (joined_lawful (optional_lawful (embedded_lawful 4 vehicle_position vehicle_position_rereads))
+    (optional_lawful (embedded_lawful 5 alert alert_rereads)) (lit< tt)) (lit< tt)) (lit< tt)) (lit< tt))
 
 pub feed_rereads : Rereads feed
 feed_rereads =
-    message_rereads feed_shape 1 2
-    (joined_lawful (required 1 (embedded header)) (numbered 2 entity) 1 1 2 2
-    (required_lawful 1 (embedded header) (embedded_lawful 1 header header_rereads))
+    message_rereads feed_shape 1 2 (lit≤ tt) (lit≤ tt) (λ v unknown. (refl, refl))
+    (joined_lawful (required_lawful (embedded_lawful 1 header header_rereads))
     (numbered_lawful 2 entity entity_rereads) (lit< tt))
-    (lit≤ tt) (lit≤ tt) (λ v unknown. (refl, refl))
 
 -- what is written of a message that was read reads as that message
 pub read_again : (bytes : List ℕ) (m : FeedMessage) → AreBytes bytes → read bytes ≡ Ok m → length (write m) < 2 ^ 64 → read (write m) ≡ Ok m

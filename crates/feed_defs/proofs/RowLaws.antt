@@ -1,6 +1,6 @@
 -- The rows of a table: what they read depends only on the fields that they know, and reading gives back what was written.
 use Rattle.std.proofs.Common.{◌≡◌, ℕ, ◌+◌, ◌^◌, ◌<◌, ◌≤◌, Bool, true, false, List, [], ◌∷◌, ◌++◌, length, min, refl, ◌∙◌, ap, subst, arith, append-nil}
-use Rattle.std.specs.Prelude.{Option, Some, None, is_some, Result, Ok, Err, filter, map, ◌||◌}
+use Rattle.std.specs.Prelude.{Option, Some, None, is_some, Result, Ok, filter, map, ◌||◌}
 use Rattle.std.specs.List.{flat_map, AllByRecursion}
 use Rattle.std.proofs.lemmas.Grind.{flat_map-append}
 use Rattle.std.proofs.lemmas.List.{length-append, map-append}
@@ -41,15 +41,14 @@ short_payload w ws small =
 -- ---- one field
 
 pub option_is : {A : Type 0} (r : Result (Option A) Fault) (v : Option A) → ◌≡◌ {A = Result (Result (Option A) Fault) Fault} (r >>= λ x. Ok (Ok x)) (Ok (Ok v)) → r ≡ Ok v
-option_is (Ok o) v e = cc
-option_is (Err f) v e = absurd (cc)
+option_is r v e = grind arith
 
 is_exactly : (n number : ℕ) → number ≡ n → (n ≤ number) × (number ≤ n)
 is_exactly n number e = (omega arith, omega arith)
 
 -- a field that may be absent
-pub optional_lawful : {A : Type 0} (n : ℕ) (kind : FieldKind A) → IsLawfulKind n kind → IsLawful n n (optional n kind)
-optional_lawful {A} n kind law =
+pub optional_lawful : {A : Type 0} {n : ℕ} {kind : FieldKind A} → IsLawfulKind n kind → IsLawful n n (optional n kind)
+optional_lawful {A} {n} {kind} law =
     record {
       ordered = omega arith;
       within = λ field h. is_exactly n field.number (law.numbered field h);
@@ -73,13 +72,11 @@ optional_lawful {A} n kind law =
         rw (law.back name fields x (field_bytes (record { number = n; payload = kind.write x })) each (option_is (kind.read name n fields) (Some x) e) (short_payload (record { number = n; payload = kind.write x }) [] small).0) refl
 
 pub needed_is : {A : Type 0} (name : Kind) (n : ℕ) (r : Result (Option A) Fault) (v : A) → (r >>= λ x. Ok (required_value name n x)) ≡ Ok (Ok v) → r ≡ Ok (Some v)
-needed_is name n (Ok None) v e = absurd (cc)
-needed_is name n (Ok (Some x)) v e = cc
-needed_is name n (Err f) v e = absurd (cc)
+needed_is name n r v e = grind arith
 
 -- a field that must be there
-pub required_lawful : {A : Type 0} (n : ℕ) (kind : FieldKind A) → IsLawfulKind n kind → IsLawful n n (required n kind)
-required_lawful {A} n kind law =
+pub required_lawful : {A : Type 0} {n : ℕ} {kind : FieldKind A} → IsLawfulKind n kind → IsLawful n n (required n kind)
+required_lawful {A} {n} {kind} law =
     record {
       ordered = omega arith;
       within = λ field h. is_exactly n field.number (law.numbered field h);
@@ -109,8 +106,7 @@ write_all_occurring n m (x ∷ xs) =
     ∙ ap (λ rest. message_bytes m x ∷ rest) (write_all_occurring n m xs)
 
 pub placed_is : {M : Type 0} (k : ℕ) (r : Result M Fault) (x : M) → with_entity_number k r ≡ Ok x → r ≡ Ok x
-placed_is k (Ok y) x e = e
-placed_is k (Err f) x e = absurd (cc)
+placed_is k r x e = grind arith
 
 numbered_again : {M : Type 0} (n : ℕ) (m : Message M) → Rereads m → (before : ℕ) (payloads : List (List ℕ)) (xs : List M) → AllByRecursion AreBytes payloads → numbered_values m before payloads ≡ Ok xs → length (flat_map field_bytes (write_all n m xs)) < 2 ^ 64 → numbered_values m before (map (λ x. message_bytes m x) xs) ≡ Ok xs
 unfolding numbered_values
@@ -139,8 +135,7 @@ values_again {M} n m rereads (bytes ∷ more) xs each e small =
     rw (here, values_again n m rereads more rest.0 each.1 rest.1 short.1) refl) small
 
 pub list_is : {M : Type 0} (r : Result (List M) Fault) (v : List M) → ◌≡◌ {A = Result (Result (List M) Fault) Fault} (r >>= λ x. Ok (Ok x)) (Ok (Ok v)) → r ≡ Ok v
-list_is (Ok o) v e = cc
-list_is (Err f) v e = absurd (cc)
+list_is r v e = grind arith
 
 -- messages in a repeated field, if each is read again itself
 pub repeated_lawful : {M : Type 0} (n : ℕ) (m : Message M) → Rereads m → IsLawful n n (repeated n m)
@@ -171,34 +166,22 @@ numbered_lawful n m rereads =
 -- ---- rows under one another
 
 pub both_is : {A B : Type 0} (r : Result (Result A Fault) Fault) (s : Result (Result B Fault) Fault) (v : A × B) → (r >>= λ x. s >>= λ y. Ok (both x y)) ≡ Ok (Ok v) → (r ≡ Ok (Ok v.0)) × (s ≡ Ok (Ok v.1))
-both_is {A} {B} (Ok (Ok x)) (Ok (Ok y)) v e =
-    let same : ◌≡◌ {A = A × B} (x, y) v = cc in
-    (ap (λ (w : A × B). Ok (Ok w.0)) same, ap (λ (w : A × B). Ok (Ok w.1)) same)
-both_is (Ok (Ok x)) (Ok (Err f)) v e = absurd (cc)
-both_is (Ok (Ok x)) (Err f) v e = absurd (cc)
-both_is (Ok (Err f)) (Ok y) v e = absurd (cc)
-both_is (Ok (Err f)) (Err g) v e = absurd (cc)
-both_is (Err f) s v e = absurd (cc)
+both_is r s v e = (grind arith, grind arith)
 
 or_first : (a b : Bool) → a ≡ true → (a || b) ≡ true
-or_first true b e = refl
-or_first false b e = absurd (cc)
+or_first a b e = grind arith
 
 or_second : (a b : Bool) → b ≡ true → (a || b) ≡ true
-or_second true b e = refl
-or_second false b e = e
+or_second a b e = grind arith
 
 within_both : (a b : Bool) (low mid next high number : ℕ) → low ≤ mid → mid < next → next ≤ high → (a ≡ true → (low ≤ number) × (number ≤ mid)) → (b ≡ true → (next ≤ number) × (number ≤ high)) → (a || b) ≡ true → (low ≤ number) × (number ≤ high)
-within_both true b low mid next high number l m h first second e = let k = first refl in (omega (arith, k.0), omega (arith, k.1))
-within_both false b low mid next high number l m h first second e = let k = second e in (omega (arith, k.0), omega (arith, k.1))
+within_both a b low mid next high number l m h first second e = grind arith
 
 fails_beyond : (a : Bool) (mid next low high number : ℕ) → mid < next → (a ≡ true → (low ≤ number) × (number ≤ mid)) → (next ≤ number) × (number ≤ high) → a ≡ false
-fails_beyond false mid next low high number m first k = refl
-fails_beyond true mid next low high number m first k = absurd (omega (arith, (first refl).1, k.0))
+fails_beyond a mid next low high number m first k = grind arith
 
 fails_before : (b : Bool) (mid next low high number : ℕ) → mid < next → (b ≡ true → (next ≤ number) × (number ≤ high)) → (low ≤ number) × (number ≤ mid) → b ≡ false
-fails_before false mid next low high number m second k = refl
-fails_before true mid next low high number m second k = absurd (omega (arith, (second refl).0, k.1))
+fails_before b mid next low high number m second k = grind arith
 
 -- what two tables write is together no shorter than what each does
 pub shorter : (us ws : List Written) → length (flat_map field_bytes (us ++ ws)) < 2 ^ 64 → (length (flat_map field_bytes us) < 2 ^ 64) × (length (flat_map field_bytes ws) < 2 ^ 64)
@@ -230,8 +213,8 @@ module _ {A B : Type 0} (a : Rows A) (b : Rows B) (low mid next high : ℕ) (fir
       let behind : b.read name (map as_field (a.write v.0 ++ b.write v.1)) ≡ Ok (Ok v.1) = second.same name _ _ (keeps_back v) ∙ other in
       rw (front, behind) refl
 
-pub joined_lawful : {A B : Type 0} (a : Rows A) (b : Rows B) (low mid next high : ℕ) → IsLawful low mid a → IsLawful next high b → mid < next → IsLawful low high (a ⊕ b)
-joined_lawful {A} {B} a b low mid next high first second apart =
+pub joined_lawful : {A B : Type 0} {a : Rows A} {b : Rows B} {low mid next high : ℕ} → IsLawful low mid a → IsLawful next high b → mid < next → IsLawful low high (a ⊕ b)
+joined_lawful {A} {B} {a} {b} {low} {mid} {next} {high} first second apart =
     record {
       ordered = omega (arith, first.ordered, second.ordered);
       within = λ field h. within_both (a.is_known field) (b.is_known field) low mid next high field.number first.ordered apart second.ordered (first.within field) (second.within field) h;

@@ -1,19 +1,17 @@
 -- What a feed holds of messages that were read was said by them.
-use Rattle.std.proofs.Common.{ℕ, Bool, true, false, cond, List, [], ◌∷◌, reverse, subst, sym, Less, Equal, Greater}
-use Rattle.std.specs.Prelude.{Some, None, map, nat_eq}
-use Rattle.std.specs.List.{flat_map, filter_map, cons_option, list_any, AllByRecursion}
+use Rattle.std.proofs.Common.{ℕ, List, [], ◌∷◌, reverse, subst, sym, arith}
+use Rattle.std.specs.Prelude.{map}
+use Rattle.std.specs.List.{flat_map, AllByRecursion}
 use Rattle.std.specs.Ordering.{nat_cmp}
-use Rattle.std.specs.declared.cmp.Ordering.{Ordering}
 use Rattle.std.specs.Cmp.Lexicographic.{slice_cmp}
 use Rattle.std.specs.FinMap.{put}
-use Rattle.std.specs.FinMap.Entries.{by_order}
 use Rattle.std.proofs.lemmas.List.{reverse-append}
 use Rattle.std.proofs.lemmas.List.Concat.{flat_map-cons}
 use Rattle.rt_types.specs.declared.message.Entity.{Entity}
 use Rattle.rt_types.specs.declared.message.FeedMessage.{FeedMessage}
 use Rattle.pb_wire_defs.proofs.Again.{AllByRecursion-filter}
 use Rattle.feed_defs.specs.declared.history.Entry.{Entry}
-use Rattle.feed_defs.specs.History.{Change, stamp_of, is_full, since_full, changes_in, changes_of, is_kept, changes_by_id, entities_of, message_of, messages_of}
+use Rattle.feed_defs.specs.History.{Change, stamp_of, since_full, changes_in, changes_of, is_kept, changes_by_id, entities_of, messages_of}
 use Rattle.feed_defs.proofs.Sifted.{each_append}
 
 module _ (P : Entity → Type 0) where
@@ -27,11 +25,7 @@ module _ (P : Entity → Type 0) where
   since : (ms : List FeedMessage) → AllByRecursion (λ m. AllByRecursion P m.entity) ms → AllByRecursion (λ m. AllByRecursion P m.entity) (since_full ms)
   unfolding since_full
   since [] each = tt
-  since (m ∷ ms) each = chosen (list_any is_full ms) (since ms each.1)
-    where
-      chosen : (b : Bool) → AllByRecursion (λ m. AllByRecursion P m.entity) (since_full ms) → AllByRecursion (λ m. AllByRecursion P m.entity) (cond b (since_full ms) (m ∷ ms))
-      chosen true rest = rest
-      chosen false rest = each
+  since (m ∷ ms) each = grind (arith, since ms each.1)
 
   of_all : (ms : List FeedMessage) → AllByRecursion (λ m. AllByRecursion P m.entity) ms → AllByRecursion OfChange (flat_map changes_in ms)
   of_all [] each = tt
@@ -47,12 +41,7 @@ module _ (P : Entity → Type 0) where
 
   with_put : (c : Change) (changes : List Change) → OfChange c → AllByRecursion OfChange changes → AllByRecursion OfChange (put (slice_cmp nat_cmp) c.0 c.1 changes)
   with_put c [] here each = (here, tt)
-  with_put c (x ∷ xs) here each = placed (slice_cmp nat_cmp c.0 x.0) (with_put c xs here each.1)
-    where
-      placed : (o : Ordering) → AllByRecursion OfChange (put (slice_cmp nat_cmp) c.0 c.1 xs) → AllByRecursion OfChange (by_order o (c ∷ x ∷ xs) ((x.0, c.1) ∷ xs) (x ∷ put (slice_cmp nat_cmp) c.0 c.1 xs))
-      placed Less rest = (here, each)
-      placed Equal rest = (here, each.1)
-      placed Greater rest = (each.0, rest)
+  with_put c (x ∷ xs) here each = grind (arith, with_put c xs here each.1)
 
   by_id : (changes : List Change) → AllByRecursion OfChange changes → AllByRecursion OfChange (changes_by_id changes)
   unfolding changes_by_id
@@ -68,8 +57,4 @@ module _ (P : Entity → Type 0) where
 pub each_of_feed : (Q : FeedMessage → Type 0) (feed : ℕ) (h : List Entry) → AllByRecursion (λ entry. Q entry.message) h → AllByRecursion Q (messages_of feed h)
 unfolding messages_of
 each_of_feed Q feed [] each = tt
-each_of_feed Q feed (entry ∷ h) each = chosen (nat_eq entry.feed feed) (each_of_feed Q feed h each.1)
-  where
-    chosen : (b : Bool) → AllByRecursion Q (filter_map (message_of feed) h) → AllByRecursion Q (cons_option (cond b (Some entry.message) None) (filter_map (message_of feed) h))
-    chosen true rest = (each.0, rest)
-    chosen false rest = rest
+each_of_feed Q feed (entry ∷ h) each = grind (arith, each_of_feed Q feed h each.1)

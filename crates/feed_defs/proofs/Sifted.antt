@@ -1,6 +1,6 @@
 -- What a filter keeps, and what holds of each item.
-use Rattle.std.proofs.Common.{◌≡◌, Bool, true, false, cond, List, [], ◌∷◌, ◌++◌, refl, sym, ◌∙◌, ap}
-use Rattle.std.specs.Prelude.{Option, Some, None, is_some, not, filter, map}
+use Rattle.std.proofs.Common.{◌≡◌, Bool, true, false, List, [], ◌∷◌, ◌++◌, refl, sym, ◌∙◌, ap, arith}
+use Rattle.std.specs.Prelude.{Option, is_some, not, filter, map}
 use Rattle.std.specs.List.{filter_map, AllByRecursion}
 
 -- what holds of each holds of each, if the one follows from the other
@@ -17,49 +17,28 @@ pub filter_none : {X Y : Type 0} (p : Y → Bool) (f : X → Y) (xs : List X) �
 filter_none p f [] each = refl
 filter_none p f (x ∷ xs) each = rw each.0 (filter_none p f xs each.1)
 
-one_way : {X : Type 0} (p : X → Bool) (x : X) (xs : List X) (b : Bool) → p x ≡ b → filter p (filter (λ y. not (p y)) xs) ≡ [] → filter p (cond (not b) (x ∷ filter (λ y. not (p y)) xs) (filter (λ y. not (p y)) xs)) ≡ []
-one_way p x xs true e rest = rest
-one_way p x xs false e rest = rw e rest
-
 -- a test keeps nothing of what fails it
 pub filter_failing : {X : Type 0} (p : X → Bool) (xs : List X) → filter p (filter (λ x. not (p x)) xs) ≡ []
 filter_failing p [] = refl
-filter_failing p (x ∷ xs) = one_way p x xs (p x) refl (filter_failing p xs)
-
-twice : {X : Type 0} (p : X → Bool) (x : X) (xs : List X) (b : Bool) → p x ≡ b → filter p (filter p xs) ≡ filter p xs → filter p (cond b (x ∷ filter p xs) (filter p xs)) ≡ cond b (x ∷ filter p xs) (filter p xs)
-twice p x xs true e rest = rw (e, rest) refl
-twice p x xs false e rest = rest
+filter_failing p (x ∷ xs) = grind (arith, filter_failing p xs)
 
 -- a test keeps all of what passes it
 pub filter_passing : {X : Type 0} (p : X → Bool) (xs : List X) → filter p (filter p xs) ≡ filter p xs
 filter_passing p [] = refl
-filter_passing p (x ∷ xs) = twice p x xs (p x) refl (filter_passing p xs)
-
-narrow : {X : Type 0} (p q : X → Bool) (x : X) (xs : List X) (b c : Bool) → p x ≡ b → q x ≡ c → (p x ≡ true → q x ≡ true) → filter p (filter q xs) ≡ filter p xs → filter p (cond c (x ∷ filter q xs) (filter q xs)) ≡ cond b (x ∷ filter p xs) (filter p xs)
-narrow p q x xs true true e f within rest = rw (e, rest) refl
-narrow p q x xs false true e f within rest = rw (e, rest) refl
-narrow p q x xs false false e f within rest = rest
-narrow p q x xs true false e f within rest = absurd (apart (sym (within e) ∙ f))
-  where
-    apart : true ≡ false → ⊥
-    apart h = cc
+filter_passing p (x ∷ xs) = grind (arith, filter_passing p xs)
 
 -- a test keeps the same of what a wider test keeps
 pub filter_within : {X : Type 0} (p q : X → Bool) → ((x : X) → p x ≡ true → q x ≡ true) → (xs : List X) → filter p (filter q xs) ≡ filter p xs
 filter_within p q within [] = refl
-filter_within p q within (x ∷ xs) = narrow p q x xs (p x) (q x) refl refl (within x) (filter_within p q within xs)
+filter_within p q within (x ∷ xs) = grind (arith, within x, filter_within p q within xs)
 
 -- so does the narrower test of two lists that are the same to the wider one
 pub same_within : {X : Type 0} (p q : X → Bool) → ((x : X) → p x ≡ true → q x ≡ true) → (xs ys : List X) → filter q xs ≡ filter q ys → filter p xs ≡ filter p ys
 same_within p q within xs ys e = sym (filter_within p q within xs) ∙ ap (λ zs. filter p zs) e ∙ filter_within p q within ys
 
-said : {X Y : Type 0} (h : X → Option Y) (x : X) (xs : List X) (o : Option Y) → h x ≡ o → filter_map h (filter (λ y. is_some (h y)) xs) ≡ filter_map h xs → filter_map h (cond (is_some o) (x ∷ filter (λ y. is_some (h y)) xs) (filter (λ y. is_some (h y)) xs)) ≡ filter_map h (x ∷ xs)
-said h x xs (Some y) e rest = rw (e, rest) refl
-said h x xs None e rest = rw e rest
-
 said_all : {X Y : Type 0} (h : X → Option Y) (xs : List X) → filter_map h (filter (λ x. is_some (h x)) xs) ≡ filter_map h xs
 said_all h [] = refl
-said_all h (x ∷ xs) = said h x xs (h x) refl (said_all h xs)
+said_all h (x ∷ xs) = grind (arith, said_all h xs)
 
 -- what is said depends only on those that say something
 pub said_same : {X Y : Type 0} (h : X → Option Y) (xs ys : List X) → filter (λ x. is_some (h x)) xs ≡ filter (λ x. is_some (h x)) ys → filter_map h xs ≡ filter_map h ys

@@ -61,7 +61,7 @@ unchanged law = record { law = law; fits = law.fits; back = law.back }
 
 pub optional_under : {A : Type 0} (n : ℕ) (kind : FieldKind A) (change : A → A) → KindUnder n kind change → RowsUnder n n (optional n kind) (option_map change)
 optional_under {A} n kind change under =
-    record { law = optional_lawful n kind under.law; fits = fits; back = back }
+    record { law = optional_lawful under.law; fits = fits; back = back }
   where
     fits : (name : Kind) (fields : List Field) (v : Option A) → AllByRecursion WasRead fields → (optional n kind).read name fields ≡ Ok (Ok v) → length (flat_map field_bytes (write_if n kind.write (option_map change v))) < 2 ^ 64 → AllByRecursion (λ w. IsInRange w.payload) (write_if n kind.write (option_map change v))
     fits name fields None each e small = tt
@@ -74,7 +74,7 @@ optional_under {A} n kind change under =
 
 pub required_under : {A : Type 0} (n : ℕ) (kind : FieldKind A) (change : A → A) → KindUnder n kind change → RowsUnder n n (required n kind) change
 required_under n kind change under = record {
-  law = required_lawful n kind under.law;
+  law = required_lawful under.law;
   fits = λ name fields x each e small. (under.fits name fields x each (needed_is name n (kind.read name n fields) x e) (short_payload (record { number = n; payload = kind.write (change x) }) [] small).0, tt);
   back = λ name fields x each e small.
       rw (under.back name fields x (field_bytes (record { number = n; payload = kind.write (change x) })) each (needed_is name n (kind.read name n fields) x e) (short_payload (record { number = n; payload = kind.write (change x) }) [] small).0) refl;
@@ -103,7 +103,7 @@ repeated_under n m change rereads under = record {
 
 pub joined_under : {A B : Type 0} {a : Rows A} {b : Rows B} {f : A → A} {g : B → B} {low mid next high : ℕ} → RowsUnder low mid a f → RowsUnder next high b g → mid < next → RowsUnder low high (a ⊕ b) (λ v. (f v.0, g v.1))
 joined_under {a = a} {b = b} {f = f} {g = g} {low = low} {mid = mid} {next = next} {high = high} first second apart = record {
-  law = joined_lawful a b low mid next high first.law second.law apart;
+  law = joined_lawful first.law second.law apart;
   fits = λ name fields v each e small.
       let parts = both_is (a.read name fields) (b.read name fields) v e in
       let short = shorter (a.write (f v.0)) (b.write (g v.1)) small in

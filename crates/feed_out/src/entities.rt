@@ -9,8 +9,8 @@ use crate::NoMemory;
 use board_parts::HeldEntities;
 use feed_write::write_under_feed;
 
-/// Appends some entities, one after another, or as many as memory allows: the ids of the timetable in each under the
-/// prefix, and its own under its feed's name.
+/// Appends some entities, one after another, or as many as memory allows: the ids of the timetable
+/// in each under the prefix, and its own under its feed's name.
 pub(crate) fn push_entities(
     prefix: &str,
     entities: HeldEntities<'_>,

@@ -18,8 +18,8 @@ use feed_write::write_message;
 use rt_types::{Bytes, Entities, FeedMessage, Header, Incrementality, Text};
 use std::alloc::Global;
 
-/// The bytes of the combined feed of the schedule of that number by themselves: what [`push_combined`]
-/// appends; or out of memory.
+/// The bytes of the combined feed of the schedule of that number by themselves: what
+/// [`push_combined`] appends; or out of memory.
 pub fn combined(alloc: Global, view: &HubView, plan: u32) -> Result<Vec<u8>, NoMemory>
     requires { plan < length view.now.plans.plans }
     ensures feed { IfOk result (λ bytes. bytes.items
@@ -34,9 +34,9 @@ pub fn combined(alloc: Global, view: &HubView, plan: u32) -> Result<Vec<u8>, NoM
     Ok(bytes)
 }
 
-/// Appends the combined feed of the schedule of that number (GTFS Realtime 2.0, FeedMessage), of what
-/// the hub's feeds hold. Where the hub's messages were read, it reads as the message that it is written
-/// of. Out of memory leaves `out` as it was.
+/// Appends the combined feed of the schedule of that number (GTFS Realtime 2.0, FeedMessage), of
+/// what the hub's feeds hold. Where the hub's messages were read, it reads as the message that it
+/// is written of. Out of memory leaves `out` as it was.
 pub fn push_combined(view: &HubView, plan: u32, out: &mut Vec<u8>) -> Result<(), NoMemory>
     requires { plan < length view.now.plans.plans }
     ensures feed { OnOk result (out.new.items
@@ -81,8 +81,8 @@ fn is_text(_text: &str)
     ensures { is_utf8 _text.now ≡ true }
 {}
 
-/// Appends the header of a message of version 2.0 (GTFS Realtime 2.0, FeedHeader) with that stamp, in seconds since 1970:
-/// a message of no entities, which may follow it as further fields.
+/// Appends the header of a message of version 2.0 (GTFS Realtime 2.0, FeedHeader) with that stamp,
+/// in seconds since 1970: a message of no entities, which may follow it as further fields.
 pub fn push_header(
     incrementality: Incrementality,
     stamp: u64,

@@ -67,9 +67,10 @@ impl FeedView {
         }
     }
 
-    /// The view after one message more, whose stamp is a moment after the last one, of a feed of that timetable; or out of
-    /// memory. The message's entities are taken out of it, and the two views share what it doesn't touch. The runs that
-    /// its updates are about, or were about before, are walked: up to two for each entity.
+    /// The view after one message more, whose stamp is a moment after the last one, of a feed of
+    /// that timetable; or out of memory. The message's entities are taken out of it, and the two
+    /// views share what it doesn't touch. The runs that its updates are about, or were about
+    /// before, are walked: up to two for each entity.
     pub fn next<L: Ledger>(
         alloc: Global,
         plan: &Plan,
@@ -160,7 +161,8 @@ struct Held {
     alerts: AlertIndex,
 }
 
-/// Whether a message is the whole data set of its feed (GTFS Realtime 2.0, FeedHeader, `incrementality`).
+/// Whether a message is the whole data set of its feed (GTFS Realtime 2.0, FeedHeader,
+/// `incrementality`).
 fn is_whole(message: &FeedMessage) -> bool
     ensures { result ≡ is_full message.now }
 {
@@ -170,7 +172,8 @@ fn is_whole(message: &FeedMessage) -> bool
     }
 }
 
-/// What a feed that held nothing holds after a message, whose entities are taken out of it; or out of memory.
+/// What a feed that held nothing holds after a message, whose entities are taken out of it; or out
+/// of memory.
 fn held_first(alloc: Global, message: FeedMessage) -> Result<Held, NoMemory>
     ensures table { IfOk result (λ held. held.table ≡ entities_after message []) }
     ensures alerts { IfOk result (λ held. held.alerts ≡ alerts_of held.table) }
@@ -180,7 +183,8 @@ fn held_first(alloc: Global, message: FeedMessage) -> Result<Held, NoMemory>
     Ok(Held { table, alerts })
 }
 
-/// What a feed holds after a message that goes on from what it held, entity by entity; or out of memory.
+/// What a feed holds after a message that goes on from what it held, entity by entity; or out of
+/// memory.
 fn held_on(
     alloc: Global,
     before: &Table,

@@ -3,7 +3,7 @@ use Rattle.std.proofs.Common.{◌≡◌, ◌≢◌, ℕ, ◌+◌, ◌<◌, ◌�
 use Rattle.std.specs.Prelude.{Some}
 use Rattle.std.proofs.Math.ListN.{set, replicate}
 use Rattle.std.proofs.lemmas.Bool.{ne_eqb, eqb-false}
-use Rattle.std.proofs.lemmas.List.{length-set, get_or-set_same, get_or-set_other, get_or-replicate, nil_from_length}
+use Rattle.std.proofs.lemmas.List.{length-set, get_or-set_same, get_or-set_other, get_or-replicate}
 use Rattle.std.proofs.lemmas.List.Elements.{filter_map-append}
 use Rattle.pb_wire_defs.specs.Field.{Payload, Field}
 use Rattle.feed_defs.specs.Rows.{occurrences_of}
@@ -75,10 +75,6 @@ noted_still slots fields f h above = record {
 pub noted_at : (slots : Slots) (fields : List Field) (n : ℕ) (slot : Slot) → AreNoted slots fields → (n < length slots.slots) × ((any : Slot) → slot ≡ get_or slots.slots n any) → IsNoted slot (payloads_under n fields)
 noted_at slots fields n slot h found =
     subst (λ s. IsNoted s (payloads_under n fields)) (sym (found.1 slot)) (h.each n slot (omega (arith, found.0, h.all)))
-
--- what a slot's count tells
-pub noted_never : (slot : Slot) (payloads : List Payload) → IsNoted slot payloads → slot.count ≡ 0 → payloads ≡ []
-noted_never slot payloads h e = nil_from_length payloads (omega (arith, h.count))
 
 pub noted_once : (slot : Slot) (payloads : List Payload) → IsNoted slot payloads → slot.count ≡ 1 → payloads ≡ payload_seen slot.last ∷ []
 noted_once slot [] h e = absurd (omega (arith, h.count))

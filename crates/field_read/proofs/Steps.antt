@@ -17,9 +17,6 @@ whole_told bytes fields e =
     let is : told_fields bytes ≡ fields = rw (e, told_fields) refl in
     (is, e ∙ ap Ok (sym is))
 
-pub whole_nil : IsWhole []
-whole_nil = (whole_told [] [] fields_of-nil).1
-
 -- where there is a field in front, it is the first, and the others are those after it
 pub whole_some : (rest after : List ℕ) (f : Field) → IsWhole rest → field_at rest ≡ Ok (f, after) → (told_fields rest ≡ f ∷ told_fields after) × IsWhole after
 whole_some rest after f whole found =

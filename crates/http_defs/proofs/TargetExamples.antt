@@ -1,5 +1,5 @@
 -- What targets ask, computed.
-use Rattle.std.specs.Prelude.{◌≡◌, refl, ℕ, Bool, true, false, List, [], ◌∷◌, ◌++◌, codes}
+use Rattle.std.specs.Prelude.{◌≡◌, refl, ℕ, Bool, true, false, List, [], ◌∷◌, ◌++◌, None, Some, codes}
 use Prim.Native.String.{String}
 use Rattle.http_defs.specs.declared.asked.Query.{Query}
 use Rattle.http_defs.specs.declared.asked.Query.TheVariants.{Board, Alerts, Feed, Unmatched, Status, Refused}
@@ -37,7 +37,7 @@ pub alerts : asked "/alerts/a/b?limit=9" ≡ Alerts (codes "a") (codes "b") 3600
 unfolding http_on_literals
 alerts = refl
 
-pub feed : asked "/feed/a" ≡ Feed (codes "a")
+pub feed : asked "/feed/a" ≡ Feed (codes "a") None
 unfolding http_on_literals
 feed = refl
 
@@ -105,7 +105,7 @@ pub escaped_slash : asked "/board/a%2Fb/c" ≡ Board (codes "a/b") (codes "c") 3
 unfolding http_on_literals
 escaped_slash = refl
 
-pub escaped_slash_alone : asked "/feed/a%2fb" ≡ Feed (codes "a/b")
+pub escaped_slash_alone : asked "/feed/a%2fb" ≡ Feed (codes "a/b") None
 unfolding http_on_literals
 escaped_slash_alone = refl
 
@@ -121,19 +121,19 @@ pub half_a_character : asked "/feed/%C3" ≡ Refused 400
 unfolding http_on_literals
 half_a_character = refl
 
-pub whole_character : asked "/feed/%C3%BC" ≡ Feed (195 ∷ 188 ∷ [])
+pub whole_character : asked "/feed/%C3%BC" ≡ Feed (195 ∷ 188 ∷ []) None
 unfolding http_on_literals
 whole_character = refl
 
-pub plus_stays : asked "/feed/a+b" ≡ Feed (codes "a+b")
+pub plus_stays : asked "/feed/a+b" ≡ Feed (codes "a+b") None
 unfolding http_on_literals
 plus_stays = refl
 
-pub no_escape_stays : asked "/feed/%zz" ≡ Feed (codes "%zz")
+pub no_escape_stays : asked "/feed/%zz" ≡ Feed (codes "%zz") None
 unfolding http_on_literals
 no_escape_stays = refl
 
-pub second_question_mark : asked "/feed/a?x?span=0" ≡ Feed (codes "a")
+pub second_question_mark : asked "/feed/a?x?span=0" ≡ Feed (codes "a") None
 unfolding http_on_literals
 second_question_mark = refl
 
@@ -208,6 +208,88 @@ escaped_value = refl
 pub other_names : asked "/board/a/b?&&x=1&Span=0&=9" ≡ board 3600 50 false
 unfolding http_on_literals
 other_names = refl
+
+-- ---- what changed since a look
+
+-- the feed of `a` since a look
+abbrev feed_since : ℕ → Query
+feed_since look = Feed (codes "a") (Some look)
+
+pub since_the_first_look : asked "/feed/a?since=0" ≡ feed_since 0
+unfolding http_on_literals
+since_the_first_look = refl
+
+pub twenty_digits : asked "/feed/a?since=00000000000000000065" ≡ feed_since 65
+unfolding http_on_literals
+twenty_digits = refl
+
+pub digit_too_many : asked "/feed/a?since=000000000000000000065" ≡ Refused 400
+unfolding http_on_literals
+digit_too_many = refl
+
+pub greatest_look : asked "/feed/a?since=18446744073709551615" ≡ feed_since 18446744073709551615
+unfolding http_on_literals
+greatest_look = refl
+
+pub look_too_high : asked "/feed/a?since=18446744073709551616" ≡ Refused 400
+unfolding http_on_literals
+look_too_high = refl
+
+pub look_far_too_high : asked "/feed/a?since=99999999999999999999" ≡ Refused 400
+unfolding http_on_literals
+look_far_too_high = refl
+
+pub look_no_number : asked "/feed/a?since=x" ≡ Refused 400
+unfolding http_on_literals
+look_no_number = refl
+
+pub signed_look : asked "/feed/a?since=+5" ≡ Refused 400
+unfolding http_on_literals
+signed_look = refl
+
+pub empty_look : asked "/feed/a?since=" ≡ Refused 400
+unfolding http_on_literals
+empty_look = refl
+
+pub look_without_value : asked "/feed/a?since" ≡ Refused 400
+unfolding http_on_literals
+look_without_value = refl
+
+pub first_of_two_looks : asked "/feed/a?since=5&since=x" ≡ feed_since 5
+unfolding http_on_literals
+first_of_two_looks = refl
+
+pub bad_first_of_two_looks : asked "/feed/a?since=x&since=5" ≡ Refused 400
+unfolding http_on_literals
+bad_first_of_two_looks = refl
+
+pub escaped_look : asked "/feed/a?s%69nce=%37" ≡ feed_since 7
+unfolding http_on_literals
+escaped_look = refl
+
+pub look_of_other_case : asked "/feed/a?Since=5" ≡ Feed (codes "a") None
+unfolding http_on_literals
+look_of_other_case = refl
+
+pub feed_takes_no_span : asked "/feed/a?span=0&limit=x&since=7" ≡ feed_since 7
+unfolding http_on_literals
+feed_takes_no_span = refl
+
+pub board_takes_no_look : asked "/board/a/b?since=x" ≡ board 3600 50 false
+unfolding http_on_literals
+board_takes_no_look = refl
+
+pub alerts_take_no_look : asked "/alerts/a/b?since=x" ≡ Alerts (codes "a") (codes "b") 3600 50 false
+unfolding http_on_literals
+alerts_take_no_look = refl
+
+pub unmatched_takes_no_look : asked "/unmatched/a?since=x" ≡ Unmatched (codes "a")
+unfolding http_on_literals
+unmatched_takes_no_look = refl
+
+pub state_takes_no_look : asked "/status?since=x" ≡ Status
+unfolding http_on_literals
+state_takes_no_look = refl
 
 -- a byte that is no text has no route
 pub byte_above_all : get (codes "/feed/" ++ 255 ∷ []) ≡ Refused 404

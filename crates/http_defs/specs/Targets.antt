@@ -88,6 +88,20 @@ choices_in form =
     (limit_in form))
     (span_in form)
 
+-- the greatest number of a look: the last one of 64 bits
+abbrev pub last_look : ℕ
+last_look = 18446744073709551615
+
+-- the number of a look, of 1 to 20 digits, that a value asks to go back to, or that none does
+abbrev pub look_or_none : Option (List ℕ) → Option (Option ℕ)
+look_or_none None = Some None
+look_or_none (Some value) = option_map (λ look. Some look) (number 20 0 last_look value)
+
+-- the look since which changes are asked for, if one is; none at all where the value has another
+-- form or is out of range
+unfoldable pub since_in : List ℕ → Option (Option ℕ)
+since_in form = look_or_none (first_value (codes "since") form)
+
 -- a query, or the refusal of a bad request
 abbrev pub or_bad : Option Query → Query
 or_bad None = Refused 400
@@ -102,13 +116,18 @@ stop_query query path form =
     (text_at path 3))
     (text_at path 2)
 
+-- the query of the feed of a schedule
+abbrev pub feed_query : List ℕ → List ℕ → Option Query
+feed_query path form =
+    option_and_then (λ schedule. option_map (λ since. Feed schedule since) (since_in form))
+    (text_at path 2)
+
 -- the query of a path by its route
 abbrev pub query_by : Option RouteKind → List ℕ → List ℕ → Query
 query_by None path form = Refused 404
 query_by (Some BoardRoute) path form = or_bad (stop_query Board path form)
 query_by (Some AlertsRoute) path form = or_bad (stop_query Alerts path form)
-query_by (Some FeedRoute) path form =
-    or_bad (option_map (λ schedule. Feed schedule) (text_at path 2))
+query_by (Some FeedRoute) path form = or_bad (feed_query path form)
 query_by (Some UnmatchedRoute) path form =
     or_bad (option_map (λ schedule. Unmatched schedule) (text_at path 2))
 query_by (Some StatusRoute) path form = Status

@@ -31,10 +31,12 @@ pub enum Query {
         /// Whether the answer is JSON and not lines of text.
         json: bool,
     },
-    /// All feeds of a schedule as one.
+    /// All feeds of a schedule as one, or what changed in that since an earlier look.
     Feed {
         /// The schedule's name.
         schedule: Text,
+        /// The number of that look; `None` asks for all.
+        since: Option<u64>,
     },
     /// The updates of a schedule that fit no trip.
     Unmatched {

@@ -9,6 +9,7 @@ use Rattle.hub_outside.specs.Count.{Rose}
 use Rattle.hub_outside.specs.declared.doors.DoorAnswer.TheVariants.{Link, End}
 use Rattle.hub_outside.specs.Doors.{Links, handed_out, given_back, HandsOut, MayGiveBack, GivesBack}
 use Rattle.hub_outside.proofs.Rising.{rose_later}
+use Rattle.http_serve.specs.Views.{AreOfHistory}
 use Rattle.http_door.specs.declared.report.DoorEnd.TheVariants.{Ended, Failed as DoorFailed}
 use Rattle.http_door.specs.declared.report.DoorReport.{DoorReport}
 use Rattle.http_door.specs.Visits.{Ends, Hub, Visit, IsServed, AreServed}
@@ -23,6 +24,7 @@ pub record Visited
   pub served : AreServed seen old new visits
   pub counts : Counts report visits
   pub later : faults ≤ faults'
+  pub of_history : AreOfHistory new.plans new.history new.kept
 
 -- ---- links
 
@@ -98,28 +100,31 @@ counts_on {I = I} {O = O} before after vs v c connections responses starved = re
 -- ---- the way
 
 pub begins : {I O : Type 0} (seen : Ends I O) (links : Option (Links I O)) (faults : ℕ) (h : Hub) (report : DoorReport)
-    → report.connections ≡ 0 → report.responses ≡ 0 → report.starved ≡ 0 → Visited seen links links faults faults h h report
-begins seen links faults h report connections responses starved = record {
+    → AreOfHistory h.plans h.history h.kept → report.connections ≡ 0 → report.responses ≡ 0 → report.starved ≡ 0
+    → Visited seen links links faults faults h h report
+begins seen links faults h report kept connections responses starved = record {
   visits = [];
   moved = none_moved links;
   served = refl;
   counts = record { connections = connections ∙ none_yet; responses = responses ∙ none_yet; starved = starved ∙ none_yet };
   later = omega arith;
+  of_history = kept;
 }
 
 -- one link more was handed out, served and given back
 pub goes_on : {I O : Type 0} (seen : Ends I O) (links now mid later : Option (Links I O)) (f0 f1 f2 f3 : ℕ) (old at new : Hub)
     (before after : DoorReport) (v : Visit I O) → Visited seen links now f0 f1 old at before
-    → HandsOut (Link v.input v.output) now mid → f1 ≤ f2 → IsServed seen at new v
+    → HandsOut (Link v.input v.output) now mid → f1 ≤ f2 → IsServed seen at new v → AreOfHistory new.plans new.history new.kept
     → GivesBack v.input_left v.output_left mid later → f2 ≤ f3
     → after.connections ≡ capped (before.connections + 1) → after.responses ≡ capped (before.responses + length v.numbers)
     → after.starved ≡ capped (before.starved + starved_once v.end) → Visited seen links later f0 f3 old new after
-goes_on seen links now mid later f0 f1 f2 f3 old at new before after v w hands up served gives back connections responses starved = record {
+goes_on seen links now mid later f0 f1 f2 f3 old at new before after v w hands up served kept gives back connections responses starved = record {
   visits = w.visits ++ v ∷ [];
   moved = moved_on links now mid later w.visits v w.moved hands gives;
   served = served_on seen old at new w.visits v w.served served;
   counts = counts_on before after w.visits v w.counts connections responses starved;
   later = let so_far = w.later in omega (arith, so_far, up, back);
+  of_history = kept;
 }
 
 -- the door ended

@@ -2,6 +2,7 @@
 use Rattle.std.specs.Prelude.{◌≡◌, ℕ, Bool, List, [], ◌∷◌, Option}
 use Rattle.feed_defs.specs.declared.history.Entry.{Entry}
 use Rattle.sched_types.specs.Schedules.{Schedules}
+use Rattle.delta_defs.specs.Kept.{KeptView}
 use Rattle.http_serve.specs.declared.session.End.{End}
 use Rattle.http_serve.specs.Setting.{Setting, setting}
 use Rattle.http_serve.specs.Serves.{Serves}
@@ -23,22 +24,25 @@ ends left faults written write_faults = record {
   write_faults = write_faults;
 }
 
--- what goes on from link to link: the readings ahead of the clock, and of the oracle its timetables,
--- its history, how often it was looked at, and whether its history stands still
+-- what goes on from link to link: the readings ahead of the clock, of the oracle its timetables, its
+-- history, how often it was looked at, and whether its history stands still; and the views that are
+-- kept of the last looks
 pub record Hub : Type 0 where
   pub ahead : Option (List ℕ)
   pub plans : Schedules
   pub history : List Entry
   pub reads : ℕ
   pub steady : Bool
+  pub kept : List KeptView
 
-abbrev pub hub : Option (List ℕ) → Schedules → List Entry → ℕ → Bool → Hub
-hub ahead plans history reads steady = record {
+abbrev pub hub : Option (List ℕ) → Schedules → List Entry → ℕ → Bool → List KeptView → Hub
+hub ahead plans history reads steady kept = record {
   ahead = ahead;
   plans = plans;
   history = history;
   reads = reads;
   steady = steady;
+  kept = kept;
 }
 
 -- a link that was served: its ends as they were handed out and as they were given back, and its
@@ -56,7 +60,7 @@ pub record Visit (I O : Type 0) : Type 0 where
 abbrev pub beside : {I O : Type 0} → Ends I O → O → Hub → Setting
 beside seen output h =
     setting (seen.written output) (seen.write_faults output) h.ahead h.plans h.history h.reads
-    h.steady
+    h.steady h.kept
 
 -- the link was served as a connection is, from one moment of the hub to another
 abbrev pub IsServed : {I O : Type 0} → Ends I O → Hub → Hub → Visit I O → Type 0

@@ -43,15 +43,3 @@ module _ {X Y : Type 0} (test : Y → Bool) (f : X → Y) where
   at_place : (xs : List X) (i : ℕ) (d : X) → i < length xs
       → list_any test (map f (drop i xs)) ≡ (test (f (get_or xs i d)) || list_any test (map f (drop (i + 1) xs)))
   at_place xs i d lt = ap (λ (ys : List X). list_any test (map f ys)) (drop_more xs i d lt)
-
-  -- one that doesn't pass is left out
-  pub any_skips : (xs : List X) (i : ℕ) (d : X) → i < length xs → test (f (get_or xs i d)) ≡ false
-      → list_any test (map f (drop (i + 1) xs)) ≡ list_any test (map f (drop i xs))
-  any_skips xs i d lt e =
-      sym (at_place xs i d lt ∙ ap (λ b. b || list_any test (map f (drop (i + 1) xs))) e)
-
-  -- one that passes decides
-  pub any_stops : (xs : List X) (i : ℕ) (d : X) → i < length xs → test (f (get_or xs i d)) ≡ true
-      → list_any test (map f (drop i xs)) ≡ true
-  any_stops xs i d lt e =
-      at_place xs i d lt ∙ ap (λ b. b || list_any test (map f (drop (i + 1) xs))) e

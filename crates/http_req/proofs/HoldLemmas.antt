@@ -2,8 +2,8 @@
 use Rattle.std.proofs.Common.{◌≡◌, ◌≢◌, ℕ, ◌+◌, ◌-◌, ◌≤◌, Bool, true, false, List, [], ◌∷◌, ◌++◌, length, take, drop, Option, None, Some, refl, sym, ap, ◌∙◌, subst, arith, append_assoc, append-nil}
 use Rattle.std.specs.Prelude.{◌==◌, if◌then◌else◌}
 use Rattle.std.specs.List.{copy_within}
-use Rattle.std.specs.Io.KnownBytes.{Consumes, Keeps, IsAtEnd}
-use Rattle.std.proofs.KnownBytes.{Consumes-nil, Consumes-trans, Consumes-kept}
+use Rattle.std.specs.Io.KnownBytes.{Consumes, IsAtEnd}
+use Rattle.std.proofs.KnownBytes.{Consumes-nil, Consumes-trans}
 use Rattle.std.proofs.lemmas.Bool.Decides.{nat_tests}
 use Rattle.std.proofs.lemmas.List.{drop-drop, take-append-le, take-take, length-take-le}
 use Rattle.std.proofs.lemmas.Slice.{between_is}
@@ -17,13 +17,7 @@ use Rattle.http_defs.specs.declared.request.Request.{Request}
 use Rattle.http_defs.specs.Heads.{request_of}
 use Rattle.http_defs.specs.Requests.{NoHead, Begins}
 use Rattle.http_req.specs.declared.filling.Next.TheVariants.{End as NextEnd, Never}
-use Rattle.http_req.specs.Reading.{known, Holds, StandsAt, ComesTo, HasNextCause}
-
--- before the first read
-pub holds_first : (buf : List ℕ) (start : ℕ) (left : Option (List ℕ)) → start ≤ 8192
-    → Holds (take start buf) buf start left left
-holds_first buf start left fits =
-    record { bytes = []; read = Consumes-nil left; whole = append-nil (take start buf); fits = fits }
+use Rattle.http_req.specs.Reading.{known, Holds, StandsAt, ComesTo}
 
 -- a read that gave bytes
 pub holds_more : (held buf new : List ℕ) (filled n : ℕ) (first left next : Option (List ℕ))
@@ -47,13 +41,6 @@ read_on buf new filled n front =
     let count : filled + n - filled ≡ n = omega arith in
     take-add filled n new ∙ ap (λ xs. xs ++ take n (drop filled new)) front
     ∙ ap (λ k. take filled buf ++ take k (drop filled new)) (sym count)
-
--- a read that gave none
-pub holds_still : (held buf new : List ℕ) (filled : ℕ) (first left next : Option (List ℕ))
-    → Holds held buf filled first left → take filled new ≡ take filled buf → Keeps left next
-    → Holds held new filled first next
-holds_still held buf new filled first left next h front kept =
-    record { bytes = h.bytes; read = Consumes-kept first left next h.bytes h.read kept; whole = h.whole ∙ sym front; fits = h.fits }
 
 -- at the end no byte is left
 pub none_known : (left : Option (List ℕ)) → IsAtEnd left → known left ≡ []
@@ -88,14 +75,6 @@ ends held buf filled headers left next full h none over = by (filled == 0) refl
           subst (λ (xs : List ℕ). NoHead xs)
               (sym (append-nil (take filled buf)) ∙ ap (λ xs. take filled buf ++ xs) (sym (none_known next over))) none,
         )
-
-pub end_cause : (filled before after : ℕ) → before ≤ after
-    → HasNextCause (if filled == 0 then NextEnd else Never filled) before after
-end_cause filled before after h = by (filled == 0)
-  where
-    by : (t : Bool) → HasNextCause (if t then NextEnd else Never filled) before after
-    by true = h
-    by false = h
 
 -- the bytes between two places, moved to the front
 pub shifted : (xs : List ℕ) (i j : ℕ) → i ≤ j → j ≤ length xs → take (j - i) (copy_within xs i j 0) ≡ take (j - i) (drop i xs)

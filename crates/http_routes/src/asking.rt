@@ -1,14 +1,14 @@
 //! The query of a target.
 ghost use Rattle.std.specs.Prelude.{◌≡◌, ℕ, Bool, List, Option, not, if◌then◌else◌, IfOk};
 ghost use Rattle.std.specs.Option.{option_map};
-ghost use Rattle.http_defs.specs.Targets.{begins_with_slash, form_in, or_bad, path_in, query_at, query_by, stop_query, text_at};
+ghost use Rattle.http_defs.specs.Targets.{begins_with_slash, feed_query, form_in, or_bad, path_in, query_at, query_by, stop_query, text_at};
 ghost use Rattle.http_defs.specs.Routes.{routes};
 ghost use Rattle.http_defs.specs.declared.asked.Query.{Query};
 ghost use Rattle.http_routes.specs.Asking.{asked_by};
 
 use crate::NoMemory;
 use crate::cutting::{begins_with_slash, form_in, path_in};
-use crate::forms::choices_in;
+use crate::forms::{choices_in, since_in};
 use crate::router::kind_of;
 use crate::segments::text_at;
 use http_defs::{Choices, Query, RouteKind};
@@ -74,7 +74,7 @@ fn query_by(
     match kind {
         Some(RouteKind::Board) => board_at(alloc, path, form),
         Some(RouteKind::Alerts) => alerts_at(alloc, path, form),
-        Some(RouteKind::Feed) => feed_at(alloc, path),
+        Some(RouteKind::Feed) => feed_at(alloc, path, form),
         Some(RouteKind::Unmatched) => unmatched_at(alloc, path),
         Some(RouteKind::Status) => Ok(Query::Status),
         None => Ok(Query::Refused(404)),
@@ -146,12 +146,14 @@ fn stop_asked(alloc: Global, path: &str, form: &[u8]) -> Result<Option<StopAsked
     }
 }
 
-fn feed_at(alloc: Global, path: &str) -> Result<Query, NoMemory>
-    ensures { IfOk result (λ query. query
-        ≡ or_bad (option_map (λ schedule. Query.Feed schedule) (text_at path.now 2))) }
+fn feed_at(alloc: Global, path: &str, form: &[u8]) -> Result<Query, NoMemory>
+    ensures { IfOk result (λ query. query ≡ or_bad (feed_query path.now form.now)) }
 {
-    match text_at(alloc, path, SCHEDULE)? {
-        Some(schedule) => Ok(Query::Feed { schedule }),
+    let Some(schedule) = text_at(alloc, path, SCHEDULE)? else {
+        return Ok(Query::Refused(400));
+    };
+    match since_in(alloc, form)? {
+        Some(since) => Ok(Query::Feed { schedule, since }),
         None => Ok(Query::Refused(400)),
     }
 }

@@ -7,16 +7,18 @@ ghost use Rattle.http_routes.specs.Given.{IsGiven};
 
 use crate::NoMemory;
 use http_defs::Choices;
+use long_numbers::read_long_number;
 use rt_types::Text;
 use std::alloc::Global;
 use texts::read_number;
 
-/// The first value that a form gives to each name of a choice; `None` where it gives none.
+/// The first value that a form gives to each name that is read; `None` where it gives none.
 #[derive(Drop)]
 struct Given {
     span: Option<Text>,
     limit: Option<Text>,
     format: Option<Text>,
+    since: Option<Text>,
 }
 
 /// Sets the place to the value of a pair, if the pair has the name and nothing set the place before.
@@ -45,6 +47,7 @@ fn given_in(alloc: Global, form: &[u8]) -> Result<Given, NoMemory>
         span: None,
         limit: None,
         format: None,
+        since: None,
     };
     for pair in form_urlencoded::parse(alloc, form) {
         let (key, value) = match pair {
@@ -55,6 +58,7 @@ fn given_in(alloc: Global, form: &[u8]) -> Result<Given, NoMemory>
         note(alloc, "span", key, value, &mut given.span)?;
         note(alloc, "limit", key, value, &mut given.limit)?;
         note(alloc, "format", key, value, &mut given.format)?;
+        note(alloc, "since", key, value, &mut given.since)?;
     }
     Ok(given)
 }
@@ -110,4 +114,28 @@ pub(crate) fn choices_in(alloc: Global, form: &[u8]) -> Result<Option<Choices>, 
 {
     let given = given_in(alloc, form)?;
     Ok(choices_of(&given))
+}
+
+/// The number of 1 to 20 digits that a value is, `Some(None)` where there is no value, and `None` where it has another
+/// form or more than 64 bits.
+fn look_or_none(since: &Option<Text>) -> Option<Option<u64>>
+    ensures { result ≡ rule.look_or_none since.now }
+{
+    match since {
+        Some(value) => match read_long_number(value.as_str().as_bytes(), 0, u64::MAX) {
+            Some(look) => Some(Some(look)),
+            None => None,
+        },
+        None => Some(None),
+    }
+}
+
+/// The look since which a form asks for changes, `Some(None)` where it asks for none, and `None` where its value has
+/// another form or is out of range.
+#[tactic(auto, unfolding(http_defs::specs::Targets::since_in))]
+pub(crate) fn since_in(alloc: Global, form: &[u8]) -> Result<Option<Option<u64>>, NoMemory>
+    ensures { IfOk result (λ since. since ≡ rule.since_in form.now) }
+{
+    let given = given_in(alloc, form)?;
+    Ok(look_or_none(&given.since))
 }

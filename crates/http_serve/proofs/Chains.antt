@@ -10,11 +10,13 @@ use Rattle.sched_types.specs.Schedules.{Schedules}
 use Rattle.hub_outside.specs.Clock.{after_reading}
 use Rattle.board_parts.specs.Looks.{GoesOn}
 use Rattle.board_defs.specs.Fold.{fold_of}
+use Rattle.delta_defs.specs.Kept.{KeptView}
 use Rattle.http_defs.specs.declared.request.Item.{Item}
 use Rattle.http_defs.specs.Requests.{last_place}
 use Rattle.http_serve_defs.specs.Answers.{answer}
+use Rattle.http_serve_defs.specs.Connections.{kept_with}
 use Rattle.http_serve.specs.Setting.{Setting, HubGoesOn, Readings, NeverFall}
-use Rattle.http_serve.specs.Replies.{Reply, items_of, moments_of, numbers_of, reply_bytes, replies_bytes, Begun, none_begun}
+use Rattle.http_serve.specs.Replies.{Reply, items_of, moments_of, numbers_of, kept_at, kept_behind, reply_bytes, replies_bytes, Begun, none_begun}
 use Rattle.http_serve.specs.Turns.{Answers}
 
 -- ---- the hub
@@ -80,36 +82,71 @@ pub length-items_of : (rs : List Reply) → length (items_of rs) ≡ length rs
 length-items_of [] = refl
 length-items_of (r ∷ rs) = let more = length-items_of rs in omega arith
 
-replies_append : (plans : Schedules) (h : List Entry) (place : ℕ) (rs qs : List Reply)
-    → replies_bytes plans h place (rs ++ qs) ≡ replies_bytes plans h place rs ++ replies_bytes plans h (place + length rs) qs
-replies_append plans h place [] qs = ap (λ n. replies_bytes plans h n qs) (sym (add-zero place))
-replies_append plans h place (r ∷ rs) qs =
+-- ---- views that are kept
+
+-- a history begins with the front of one with which it begins
+pub same_front : (h later : List Entry) (n : ℕ) → GoesOn h later → n ≤ length h → take n later ≡ take n h
+same_front h later n g within = ap (take n) g.is ∙ take-append-le n h g.more within
+
+-- behind looks, and then behind others
+pub kept_behind-append : (plans : Schedules) (h : List Entry) (kept : List KeptView) (ns ms : List ℕ)
+    → kept_behind plans h kept (ns ++ ms) ≡ kept_behind plans h (kept_behind plans h kept ns) ms
+kept_behind-append plans h kept [] ms = refl
+kept_behind-append plans h kept (n ∷ ns) ms = kept_behind-append plans h (kept_at plans h n kept) ns ms
+
+-- a look at a history that goes on sees the same
+look_kept : (plans : Schedules) (h later : List Entry) (n : ℕ) (kept : List KeptView) → GoesOn h later → n ≤ length h
+    → kept_at plans later n kept ≡ kept_at plans h n kept
+look_kept plans h later n kept g within =
+    ap (λ (xs : List Entry). kept_with n (fold_of (length plans.feeds) xs) kept) (same_front h later n g within)
+
+looks_kept : (plans : Schedules) (h later : List Entry) (low : ℕ) (kept : List KeptView) (ns : List ℕ) → GoesOn h later
+    → NeverFall low ns (length h) → kept_behind plans later kept ns ≡ kept_behind plans h kept ns
+looks_kept plans h later low kept [] g f = refl
+looks_kept plans h later low kept (n ∷ ns) g f =
+    ap (λ (views : List KeptView). kept_behind plans later views ns) (look_kept plans h later n kept g (never_fall_below low n (length h) ns f))
+    ∙ looks_kept plans h later n (kept_at plans h n kept) ns g f.1
+
+-- ---- bytes
+
+replies_append : (plans : Schedules) (h : List Entry) (kept : List KeptView) (place : ℕ) (rs qs : List Reply)
+    → replies_bytes plans h kept place (rs ++ qs)
+    ≡ replies_bytes plans h kept place rs ++ replies_bytes plans h (kept_behind plans h kept (numbers_of rs)) (place + length rs) qs
+replies_append plans h kept place [] qs = ap (λ n. replies_bytes plans h kept n qs) (sym (add-zero place))
+replies_append plans h kept place (r ∷ rs) qs =
     let next : place + 1 + length rs ≡ place + length (r ∷ rs) = omega arith in
-    ap (λ xs. reply_bytes plans h place r ++ xs)
-    (replies_append plans h (place + 1) rs qs ∙ ap (λ n. replies_bytes plans h (place + 1) rs ++ replies_bytes plans h n qs) next)
-    ∙ sym (append_assoc (reply_bytes plans h place r) _ _)
+    let seen = kept_at plans h r.number kept in
+    ap (λ xs. reply_bytes plans h kept place r ++ xs)
+    (replies_append plans h seen (place + 1) rs qs
+    ∙ ap (λ n. replies_bytes plans h seen (place + 1) rs ++ replies_bytes plans h (kept_behind plans h seen (numbers_of rs)) n qs) next)
+    ∙ sym (append_assoc (reply_bytes plans h kept place r) _ _)
 
 -- a response of a history that goes on is the same
-reply_kept : (plans : Schedules) (h later : List Entry) (place : ℕ) (r : Reply) → GoesOn h later → r.number ≤ length h
-    → reply_bytes plans later place r ≡ reply_bytes plans h place r
+reply_kept : (plans : Schedules) (h later : List Entry) (kept : List KeptView) (place : ℕ) (r : Reply) → GoesOn h later → r.number ≤ length h
+    → reply_bytes plans later kept place r ≡ reply_bytes plans h kept place r
 unfolding reply_bytes
-reply_kept plans h later place r g within =
-    let same : take r.number later ≡ take r.number h = ap (take r.number) g.is ∙ take-append-le r.number h g.more within in
-    ap (λ xs. answer plans r.item (place == last_place) r.moment r.number (fold_of (length plans.feeds) xs)) same
+reply_kept plans h later kept place r g within =
+    ap (λ (xs : List Entry). answer plans r.item (place == last_place) r.moment r.number (fold_of (length plans.feeds) xs)
+    (kept_with r.number (fold_of (length plans.feeds) xs) kept)) (same_front h later r.number g within)
 
-replies_kept : (plans : Schedules) (h later : List Entry) (low place : ℕ) (rs : List Reply) → GoesOn h later
-    → NeverFall low (numbers_of rs) (length h) → replies_bytes plans later place rs ≡ replies_bytes plans h place rs
-replies_kept plans h later low place [] g f = refl
-replies_kept plans h later low place (r ∷ rs) g f =
-    ap₂ (λ (xs ys : List ℕ). xs ++ ys) (reply_kept plans h later place r g (never_fall_below low r.number (length h) (numbers_of rs) f))
-    (replies_kept plans h later r.number (place + 1) rs g f.1)
+replies_kept : (plans : Schedules) (h later : List Entry) (low : ℕ) (kept : List KeptView) (place : ℕ) (rs : List Reply) → GoesOn h later
+    → NeverFall low (numbers_of rs) (length h) → replies_bytes plans later kept place rs ≡ replies_bytes plans h kept place rs
+replies_kept plans h later low kept place [] g f = refl
+replies_kept plans h later low kept place (r ∷ rs) g f =
+    let within = never_fall_below low r.number (length h) (numbers_of rs) f in
+    ap₂ (λ (xs ys : List ℕ). xs ++ ys) (reply_kept plans h later kept place r g within)
+    (ap (λ (views : List KeptView). replies_bytes plans later views (place + 1) rs) (look_kept plans h later r.number kept g within)
+    ∙ replies_kept plans h later r.number (kept_at plans h r.number kept) (place + 1) rs g f.1)
 
 -- a response of the whole history
-pub reply_of_all : (plans : Schedules) (h : List Entry) (place : ℕ) (r : Reply) → r.number ≡ length h
-    → answer plans r.item (place == last_place) r.moment r.number (fold_of (length plans.feeds) h) ≡ reply_bytes plans h place r
+pub reply_of_all : (plans : Schedules) (h : List Entry) (kept : List KeptView) (place : ℕ) (r : Reply) → r.number ≡ length h
+    → answer plans r.item (place == last_place) r.moment r.number (fold_of (length plans.feeds) h)
+    (kept_with r.number (fold_of (length plans.feeds) h) kept)
+    ≡ reply_bytes plans h kept place r
 unfolding reply_bytes
-reply_of_all plans h place r whole =
-    ap (λ xs. answer plans r.item (place == last_place) r.moment r.number (fold_of (length plans.feeds) xs))
+reply_of_all plans h kept place r whole =
+    ap (λ (xs : List Entry). answer plans r.item (place == last_place) r.moment r.number (fold_of (length plans.feeds) xs)
+    (kept_with r.number (fold_of (length plans.feeds) xs) kept))
     (sym (ap (λ n. take n h) whole ∙ take-length h))
 
 -- ---- responses, and then others
@@ -122,8 +159,16 @@ answers_none place a = record {
   readings = refl;
   output = Appends-nil a.written;
   looks = sym (add-zero a.reads);
+  kept = refl;
   faults_later = omega arith;
 }
+
+-- what is kept behind responses, where the history goes on
+pub kept_then : (place : ℕ) (a b : Setting) (later : List Entry) (rs : List Reply) → Answers place a b rs none_begun → GoesOn b.history later
+    → b.kept ≡ kept_behind a.plans later a.kept (numbers_of rs)
+kept_then place a b later rs x g =
+    x.kept ∙ ap (λ (ns : List ℕ). kept_behind a.plans b.history a.kept ns) (append-nil (numbers_of rs))
+    ∙ sym (looks_kept a.plans b.history later (length a.history) a.kept (numbers_of rs) g x.numbers)
 
 moved : (xs ys zs all : List ℕ) → all ≡ xs ++ ys → (xs ++ []) ++ (ys ++ zs) ≡ all ++ zs
 moved xs ys zs all e =
@@ -132,12 +177,17 @@ moved xs ys zs all e =
 pub answers_on : (place : ℕ) (a b c : Setting) (rs qs : List Reply) (begun : Begun) → Answers place a b rs none_begun
     → Answers (place + length rs) b c qs begun → Answers place a c (rs ++ qs) begun
 answers_on place a b c rs qs begun x y =
-    let written : replies_bytes a.plans c.history place (rs ++ qs)
-    ≡ replies_bytes a.plans b.history place rs ++ replies_bytes b.plans c.history (place + length rs) qs =
-    replies_append a.plans c.history place rs qs
+    let views : b.kept ≡ kept_behind a.plans c.history a.kept (numbers_of rs) = kept_then place a b c.history rs x y.hub.history_goes_on in
+    let written : replies_bytes a.plans c.history a.kept place (rs ++ qs)
+    ≡ replies_bytes a.plans b.history a.kept place rs ++ replies_bytes b.plans c.history b.kept (place + length rs) qs =
+    replies_append a.plans c.history a.kept place rs qs
     ∙ ap₂ (λ (us vs : List ℕ). us ++ vs)
-    (replies_kept a.plans b.history c.history (length a.history) place rs y.hub.history_goes_on x.numbers)
-    (ap (λ p. replies_bytes p c.history (place + length rs) qs) (sym x.hub.plans_stay))
+    (replies_kept a.plans b.history c.history (length a.history) a.kept place rs y.hub.history_goes_on x.numbers)
+    (ap₂ (λ (p : Schedules) (kept : List KeptView). replies_bytes p c.history kept (place + length rs) qs) (sym x.hub.plans_stay) (sym views))
+    in
+    let numbers : numbers_of rs ++ (numbers_of qs ++ begun.seen) ≡ numbers_of (rs ++ qs) ++ begun.seen =
+    sym (append_assoc (numbers_of rs) (numbers_of qs) begun.seen)
+    ∙ ap (λ (ns : List ℕ). ns ++ begun.seen) (sym (numbers_of-append rs qs))
     in
     record {
       hub = hub_on a b c x.hub y.hub;
@@ -147,9 +197,13 @@ answers_on place a b c rs qs begun x y =
           (moved (moments_of rs) (moments_of qs) begun.readings (moments_of (rs ++ qs)) (moments_of-append rs qs))
           (readings_on a.ahead b.ahead c.ahead _ _ x.readings y.readings);
       output = subst (λ (bytes : List ℕ). Appends a.written c.written bytes)
-          (moved (replies_bytes a.plans b.history place rs) (replies_bytes b.plans c.history (place + length rs) qs) begun.cut
-          (replies_bytes a.plans c.history place (rs ++ qs)) written)
+          (moved (replies_bytes a.plans b.history a.kept place rs) (replies_bytes b.plans c.history b.kept (place + length rs) qs) begun.cut
+          (replies_bytes a.plans c.history a.kept place (rs ++ qs)) written)
           (Appends-trans a.written b.written c.written _ _ x.output y.output);
       looks = let one = x.looks in let two = y.looks in let both = length-append rs qs in omega arith;
+      kept = y.kept
+          ∙ ap₂ (λ (p : Schedules) (kept : List KeptView). kept_behind p c.history kept (numbers_of qs ++ begun.seen)) x.hub.plans_stay views
+          ∙ sym (kept_behind-append a.plans c.history a.kept (numbers_of rs) (numbers_of qs ++ begun.seen))
+          ∙ ap (λ (ns : List ℕ). kept_behind a.plans c.history a.kept ns) numbers;
       faults_later = let one = x.faults_later in let two = y.faults_later in omega arith;
     }

@@ -4,6 +4,9 @@ use Rattle.std.specs.Bool.{MatchBool}
 use Rattle.std.specs.Io.KnownBytes.{Consumes, IsAtEnd}
 use Rattle.std.proofs.KnownBytes.{Consumes-nil, Consumes-trans}
 use Rattle.sched_types.specs.Schedules.{Schedules}
+use Rattle.feed_defs.specs.declared.history.Entry.{Entry}
+use Rattle.board_parts.specs.Looks.{GoesOn}
+use Rattle.delta_defs.specs.Kept.{KeptView}
 use Rattle.hub_outside.proofs.Rising.{rose_later}
 use Rattle.http_defs.specs.declared.request.Request.{Request}
 use Rattle.http_defs.specs.declared.request.Item.{Item}
@@ -15,11 +18,11 @@ use Rattle.http_serve.specs.declared.session.End.{End}
 use Rattle.http_serve.specs.declared.session.End.TheVariants.{Ended, Closed, Bad, ReadFault, WriteFault, NoMemory}
 use Rattle.http_serve.specs.declared.serving.Turn.TheVariants.{Ends}
 use Rattle.http_serve.specs.Setting.{Setting}
-use Rattle.http_serve.specs.Replies.{Reply, items_of, reply_bytes, Begun, none_begun}
+use Rattle.http_serve.specs.Replies.{Reply, items_of, numbers_of, kept_behind, reply_bytes, Begun, none_begun}
 use Rattle.http_serve.specs.Notes.{Noted, noted}
 use Rattle.http_serve.specs.Serves.{StandsFirst, AreAnswered, WasCut, WasStarved, IsBegun, HasEndCause, Serves}
 use Rattle.http_serve.specs.Turns.{Answers, IsCut, TakesItem, TakesNext, ItemAnswered, Turns}
-use Rattle.http_serve.proofs.Chains.{answers_none}
+use Rattle.http_serve.proofs.Chains.{answers_none, kept_then}
 use Rattle.http_serve.proofs.OnWay.{OnWay, nothing_noted, on_way_first, noted_on, items_push, place_behind, answers_behind, input_told, stands_first}
 
 -- ---- what is known at each end
@@ -31,7 +34,7 @@ record Came (left later : Option (List ℕ)) (a c : Setting) (end : End) (after 
   replies : List Reply
   notes_are : after ≡ noted nothing_noted replies
   begun : Begun
-  is_begun : IsBegun a.plans c.history (taken ++ known later) (items_of replies) begun end
+  is_begun : IsBegun a.plans c.history (kept_behind a.plans c.history a.kept (numbers_of replies)) (taken ++ known later) (items_of replies) begun end
   answers : Answers 1 a c replies begun
   answered : AreAnswered (taken ++ known later) taken (items_of replies) end
 
@@ -55,6 +58,7 @@ serves left later faults faults' a c end after w cause = record {
   items_are_answered = w.answered;
   faults_have_causes = cause;
   looks = w.answers.looks;
+  views_are_kept = w.answers.kept;
 }
 
 -- ---- the items
@@ -97,7 +101,8 @@ all_answered place taken bytes more held rs r item finish at l is last =
 -- the last item was answered
 came_whole : (place : ℕ) (held held' : List ℕ) (left now later : Option (List ℕ)) (a b c : Setting) (before after : Noted) (item : Item)
     (end : End) (w : OnWay place held left now a b before) (t : ItemAnswered place held held' now later b c before after item)
-    → IsBegun a.plans c.history ((w.taken ++ t.takes.0) ++ known later) (items_of (w.replies ++ t.replied.reply ∷ [])) none_begun end
+    → IsBegun a.plans c.history (kept_behind a.plans c.history a.kept (numbers_of (w.replies ++ t.replied.reply ∷ [])))
+    ((w.taken ++ t.takes.0) ++ known later) (items_of (w.replies ++ t.replied.reply ∷ [])) none_begun end
     → AreAnswered ((w.taken ++ t.takes.0) ++ known later) (w.taken ++ t.takes.0) (items_of (w.replies ++ t.replied.reply ∷ [])) end
     → Came left later a c end after
 came_whole place held held' left now later a b c before after item end w t begun answered = record {
@@ -115,7 +120,7 @@ came_whole place held held' left now later a b c before after item end w t begun
 came_short : (place : ℕ) (bytes : List ℕ) (held : List ℕ) (left now later : Option (List ℕ)) (a b c : Setting) (before after : Noted)
     (begun : Begun) (end : End) (w : OnWay place held left now a b before) → Consumes now later bytes
     → Answers place b c [] begun → after ≡ before
-    → IsBegun a.plans c.history ((w.taken ++ bytes) ++ known later) (items_of w.replies) begun end
+    → IsBegun a.plans c.history (kept_behind a.plans c.history a.kept (numbers_of w.replies)) ((w.taken ++ bytes) ++ known later) (items_of w.replies) begun end
     → AreAnswered ((w.taken ++ bytes) ++ known later) (w.taken ++ bytes) (items_of w.replies) end
     → Came left later a c end after
 came_short place bytes held left now later a b c before after begun end w read answers same is answered = record {
@@ -147,15 +152,19 @@ nothing_more place held taken left items none over l =
 
 -- the response that was cut is that of the next item
 was_cut : (place : ℕ) (bytes held held' : List ℕ) (left now later : Option (List ℕ)) (a b c : Setting) (before : Noted) (item : Item)
-    (begun : Begun) (w : OnWay place held left now a b before) → TakesItem (held ++ bytes) held' later item → IsCut place b c item begun
-    → WasCut a.plans c.history ((w.taken ++ bytes) ++ known later) (items_of w.replies) begun
-was_cut place bytes held held' left now later a b c before item begun w takes cut =
+    (begun : Begun) (w : OnWay place held left now a b before) → GoesOn b.history c.history → TakesItem (held ++ bytes) held' later item
+    → IsCut place b c item begun
+    → WasCut a.plans c.history (kept_behind a.plans c.history a.kept (numbers_of w.replies)) ((w.taken ++ bytes) ++ known later) (items_of w.replies) begun
+was_cut place bytes held held' left now later a b c before item begun w goes takes cut =
     let at : place ≡ length (items_of w.replies) + 1 =
     let behind = place_behind place w.replies w.place_is in omega arith
     in
-    let same : reply_bytes b.plans c.history place cut.reply
-    ≡ reply_bytes a.plans c.history (length (items_of w.replies) + 1) cut.reply =
-    ap₂ (λ (plans : Schedules) (n : ℕ). reply_bytes plans c.history n cut.reply) w.answers.hub.plans_stay at
+    let views = kept_behind a.plans c.history a.kept (numbers_of w.replies) in
+    let same : reply_bytes b.plans c.history b.kept place cut.reply
+    ≡ reply_bytes a.plans c.history views (length (items_of w.replies) + 1) cut.reply =
+    ap₂ (λ (plans : Schedules) (n : ℕ). reply_bytes plans c.history b.kept n cut.reply) w.answers.hub.plans_stay at
+    ∙ ap (λ (kept : List KeptView). reply_bytes a.plans c.history kept (length (items_of w.replies) + 1) cut.reply)
+    (kept_then 1 a b c.history w.replies w.answers goes)
     in
     record {
       reply = cut.reply;
@@ -168,6 +177,7 @@ was_cut place bytes held held' left now later a b c before item begun w takes cu
       number = cut.number;
       reading = cut.reading;
       one_look = cut.one_look;
+      seen = cut.seen;
       size = cut.size;
       short = subst (λ (xs : List ℕ). cut.size < length xs) same cut.short;
       written = cut.written ∙ ap (take cut.size) same;
@@ -198,7 +208,7 @@ came ReadFault place held held' left now later a b c before after w t =
     (held ++ t.0.0, leads_more 1 w.taken t.0.0 (items_of w.replies) held w.leads, subst (λ (xs : List ℕ). NoHead xs) t.0.2 t.0.3)
 came WriteFault place held held' left now later a b c before after w t =
     came_short place t.1.0 held left now later a b c before after t.2 WriteFault w t.1.1 t.4 t.5
-    (was_cut place t.1.0 held held' left now later a b c before t.0 t.2 w t.1.2 t.3)
+    (was_cut place t.1.0 held held' left now later a b c before t.0 t.2 w t.4.hub.history_goes_on t.1.2 t.3)
     ((held ++ t.1.0) ++ known later, leads_to w.taken t.1.0 (known later) held (items_of w.replies) w.leads)
 came NoMemory place held held' left now later a b c before after w t =
     came_short place t.0 held left now later a b c before after t.2 NoMemory w t.1 t.4 t.5 t.3
@@ -224,15 +234,21 @@ ended_by end place held held' left now later f0 f1 f2 a b c before after w t f w
     (cause_later end f0 f1 f2 a.write_faults b.write_faults c.write_faults f wf cause)
 
 -- no response was begun
-pub starved_at_rest : WasStarved none_begun
-starved_at_rest = record { one_look = omega arith; reading_behind_look = omega arith; unwritten = refl }
+pub starved_at_rest : (history : List Entry) → WasStarved history none_begun
+starved_at_rest history = record {
+  one_look = omega arith;
+  reading_behind_look = omega arith;
+  seen_at_look = omega arith;
+  seen_whole = tt;
+  unwritten = refl;
+}
 
 -- a connection for which there was no memory at all
 pub unserved : (left : Option (List ℕ)) (faults : ℕ) (a : Setting) → Serves left left faults faults a a NoMemory [] []
 unserved left faults a =
     ended_by NoMemory 1 [] [] left left left faults faults faults a a a nothing_noted nothing_noted
     (on_way_first [] left a nothing_noted refl refl)
-    ([], Consumes-nil left, none_begun, starved_at_rest, answers_none 1 a, refl)
+    ([], Consumes-nil left, none_begun, starved_at_rest a.history, answers_none 1 a, refl)
     (omega arith) (omega arith) (omega arith, omega arith)
 
 -- what no item was taken for comes to
@@ -241,7 +257,7 @@ pub untaken : (end : End) (place : ℕ) (held held' : List ℕ) (left later : Op
 untaken Ended place held held' left later a before t = (t, refl, refl)
 untaken ReadFault place held held' left later a before t = (t, refl, refl)
 untaken NoMemory place held held' left later a before t =
-    (t.0, t.1, none_begun, starved_at_rest, answers_none place a, refl)
+    (t.0, t.1, none_begun, starved_at_rest a.history, answers_none place a, refl)
 untaken Closed place held held' left later a before t = absurd t
 untaken Bad place held held' left later a before t = absurd t
 untaken WriteFault place held held' left later a before t = absurd t

@@ -4,3 +4,4 @@ pub mod Ends
 pub mod Bodies
 pub mod OneReply
 pub mod Standing
+pub mod KeptViews

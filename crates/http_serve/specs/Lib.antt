@@ -1,4 +1,5 @@
 pub mod Setting
+pub mod Views
 pub mod Replies
 pub mod Notes
 pub mod Headings

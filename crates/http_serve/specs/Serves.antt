@@ -1,8 +1,10 @@
 -- What serving a connection does and answers.
 use Rattle.std.specs.Prelude.{◌≡◌, ◌≢◌, ℕ, ◌+◌, ◌≤◌, ◌<◌, List, [], ◌∷◌, ◌++◌, length, take, Option, IfSome}
+use Rattle.std.specs.List.{AllByRecursion}
 use Rattle.std.specs.Io.KnownBytes.{Appends, Consumes}
 use Rattle.feed_defs.specs.declared.history.Entry.{Entry}
 use Rattle.sched_types.specs.Schedules.{Schedules}
+use Rattle.delta_defs.specs.Kept.{KeptView}
 use Rattle.hub_outside.specs.Count.{Rose}
 use Rattle.http_defs.specs.declared.request.Item.{Item}
 use Rattle.http_defs.specs.declared.request.Item.TheVariants.{Asked, Malformed}
@@ -10,7 +12,7 @@ use Rattle.http_defs.specs.Requests.{NoHead, Begins, AreRequests, Leads, ended, 
 use Rattle.http_serve.specs.declared.session.End.{End}
 use Rattle.http_serve.specs.declared.session.End.TheVariants.{Ended, Closed, Bad, ReadFault, WriteFault, NoMemory}
 use Rattle.http_serve.specs.Setting.{Setting, HubGoesOn, Readings, NeverFall}
-use Rattle.http_serve.specs.Replies.{Reply, items_of, moments_of, numbers_of, reply_bytes, replies_bytes, Begun, none_begun}
+use Rattle.http_serve.specs.Replies.{Reply, items_of, moments_of, numbers_of, kept_behind, reply_bytes, replies_bytes, Begun, none_begun}
 
 -- an item stands in front of the bytes
 abbrev pub StandsFirst : List ℕ → Item → Type 0
@@ -32,35 +34,41 @@ AreAnswered input taken items WriteFault = (rest : List ℕ) × Leads 1 input it
 AreAnswered input taken items NoMemory = (rest : List ℕ) × Leads 1 input items rest
 
 -- A response that was cut: it would have answered the item behind those that were answered, at the
--- next reading, and of the whole history; fewer of its bytes were written than it has.
+-- next reading, and of the whole history, where these views were kept before; fewer of its bytes
+-- were written than it has.
 pub record WasCut
-    (plans : Schedules) (history : List Entry) (input : List ℕ) (items : List Item) (begun : Begun)
-    : Type 0 where
+    (plans : Schedules) (history : List Entry) (kept : List KeptView) (input : List ℕ)
+    (items : List Item) (begun : Begun) : Type 0 where
   pub reply : Reply
   pub next : Behind input items (λ rest. StandsFirst rest reply.item)
   pub number : reply.number ≡ length history
   pub reading : begun.readings ≡ reply.moment ∷ []
   pub one_look : begun.looks ≡ 1
+  pub seen : begun.seen ≡ reply.number ∷ []
   pub size : ℕ
-  pub short : size < length (reply_bytes plans history (length items + 1) reply)
-  pub written : begun.cut ≡ take size (reply_bytes plans history (length items + 1) reply)
+  pub short : size < length (reply_bytes plans history kept (length items + 1) reply)
+  pub written : begun.cut ≡ take size (reply_bytes plans history kept (length items + 1) reply)
 
--- a response for which memory was wanting: it had no look or one, and a reading only behind a look;
--- none of it was written
-pub record WasStarved (begun : Begun) : Type 0 where
+-- a response for which memory was wanting: it had no look or one, a reading only behind a look, and
+-- the view of that look, of the whole history, was kept or not; none of it was written
+pub record WasStarved (history : List Entry) (begun : Begun) : Type 0 where
   pub one_look : begun.looks ≤ 1
   pub reading_behind_look : length begun.readings ≤ begun.looks
+  pub seen_at_look : length begun.seen ≤ begun.looks
+  pub seen_whole : AllByRecursion (λ number. number ≡ length history) begun.seen
   pub unwritten : begun.cut ≡ []
 
--- what was begun behind the responses that were written whole: nothing, but where the sink failed
--- or memory was wanting
-abbrev pub IsBegun : Schedules → List Entry → List ℕ → List Item → Begun → End → Type 0
-IsBegun plans history input items begun Ended = begun ≡ none_begun
-IsBegun plans history input items begun Closed = begun ≡ none_begun
-IsBegun plans history input items begun Bad = begun ≡ none_begun
-IsBegun plans history input items begun ReadFault = begun ≡ none_begun
-IsBegun plans history input items begun WriteFault = WasCut plans history input items begun
-IsBegun plans history input items begun NoMemory = WasStarved begun
+-- what was begun behind the responses that were written whole, when these views were kept: nothing,
+-- but where the sink failed or memory was wanting
+abbrev pub IsBegun : Schedules → List Entry → List KeptView → List ℕ → List Item → Begun → End
+    → Type 0
+IsBegun plans history kept input items begun Ended = begun ≡ none_begun
+IsBegun plans history kept input items begun Closed = begun ≡ none_begun
+IsBegun plans history kept input items begun Bad = begun ≡ none_begun
+IsBegun plans history kept input items begun ReadFault = begun ≡ none_begun
+IsBegun plans history kept input items begun WriteFault =
+    WasCut plans history kept input items begun
+IsBegun plans history kept input items begun NoMemory = WasStarved history begun
 
 -- neither count of faults fell, and that of the one that failed rose
 abbrev pub HasEndCause : End → ℕ → ℕ → ℕ → ℕ → Type 0
@@ -77,7 +85,7 @@ HasEndCause NoMemory read read' write write' = (read ≤ read') × (write ≤ wr
 -- history at first, and none is above that at the end. The moments are the clock's first readings.
 -- What was written are the responses to the items, each at its moment and of the history as far as
 -- its number says, and then the front of one that was cut. The items are those of the input. There
--- was one look for each response.
+-- was one look for each response, and its view was added to those that are kept before it answered.
 pub record Serves
     (left left' : Option (List ℕ)) (faults faults' : ℕ) (old new : Setting) (end : End)
     (numbers moments : List ℕ) : Type 0 where
@@ -89,12 +97,16 @@ pub record Serves
   pub numbers_are : numbers ≡ numbers_of replies
   pub moments_are : moments ≡ moments_of replies
   pub begun : Begun
-  pub is_begun : IsBegun old.plans new.history input (items_of replies) begun end
+  pub is_begun : IsBegun old.plans new.history
+      (kept_behind old.plans new.history old.kept (numbers_of replies)) input (items_of replies)
+      begun end
   pub hub_goes_on : HubGoesOn old new
   pub numbers_never_fall : NeverFall (length old.history) numbers (length new.history)
   pub moments_are_readings : Readings old.ahead new.ahead (moments ++ begun.readings)
   pub output : Appends old.written new.written
-      (replies_bytes old.plans new.history 1 replies ++ begun.cut)
+      (replies_bytes old.plans new.history old.kept 1 replies ++ begun.cut)
   pub items_are_answered : AreAnswered input taken (items_of replies) end
   pub faults_have_causes : HasEndCause end faults faults' old.write_faults new.write_faults
   pub looks : new.reads ≡ old.reads + (length replies + begun.looks)
+  pub views_are_kept : new.kept
+      ≡ kept_behind old.plans new.history old.kept (numbers_of replies ++ begun.seen)

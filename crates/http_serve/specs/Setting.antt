@@ -1,13 +1,16 @@
--- What a connection is served between: the sink, the clock and the oracle, as contracts see them.
+-- What a connection is served between: the sink, the clock, the oracle and the views that are kept,
+-- as contracts see them.
 use Rattle.std.specs.Prelude.{◌≡◌, ℕ, ◌≤◌, Bool, true, List, [], ◌∷◌, Option}
 use Rattle.std.specs.Option.{option_map}
 use Rattle.feed_defs.specs.declared.history.Entry.{Entry}
 use Rattle.sched_types.specs.Schedules.{Schedules}
 use Rattle.hub_outside.specs.Clock.{ShowsFirst, after_reading}
 use Rattle.board_parts.specs.Looks.{GoesOn}
+use Rattle.delta_defs.specs.Kept.{KeptView}
 
 -- the bytes written and the faults of the sink, the readings ahead of the clock, and of the oracle
--- its timetables, its history, how often it was looked at, and whether its history stands still
+-- its timetables, its history, how often it was looked at, and whether its history stands still;
+-- and the views that were kept of the last looks
 pub record Setting : Type 0 where
   pub written : Option (List ℕ)
   pub write_faults : ℕ
@@ -16,10 +19,11 @@ pub record Setting : Type 0 where
   pub history : List Entry
   pub reads : ℕ
   pub steady : Bool
+  pub kept : List KeptView
 
 abbrev pub setting : Option (List ℕ) → ℕ → Option (List ℕ) → Schedules → List Entry → ℕ → Bool
-    → Setting
-setting written write_faults ahead plans history reads steady = record {
+    → List KeptView → Setting
+setting written write_faults ahead plans history reads steady kept = record {
   written = written;
   write_faults = write_faults;
   ahead = ahead;
@@ -27,6 +31,7 @@ setting written write_faults ahead plans history reads steady = record {
   history = history;
   reads = reads;
   steady = steady;
+  kept = kept;
 }
 
 -- the history begins with what it was, and stays where it stands still; the timetables stay

@@ -14,7 +14,7 @@ use Rattle.http_serve.specs.declared.replying.Unwritten.TheVariants.{Cut, Starve
 use Rattle.http_serve.specs.declared.serving.Turn.{Turn}
 use Rattle.http_serve.specs.declared.serving.Turn.TheVariants.{GoesOn, Ends}
 use Rattle.http_serve.specs.Setting.{Setting, HubGoesOn, Readings, NeverFall}
-use Rattle.http_serve.specs.Replies.{Reply, moments_of, numbers_of, reply_bytes, replies_bytes, Begun, none_begun}
+use Rattle.http_serve.specs.Replies.{Reply, moments_of, numbers_of, kept_behind, reply_bytes, replies_bytes, Begun, none_begun}
 use Rattle.http_serve.specs.Notes.{Noted, noted}
 use Rattle.http_serve.specs.Serves.{WasStarved, HasEndCause}
 
@@ -25,8 +25,10 @@ pub record Answers (place : ℕ) (old new : Setting) (replies : List Reply) (beg
   pub numbers : NeverFall (length old.history) (numbers_of replies) (length new.history)
   pub readings : Readings old.ahead new.ahead (moments_of replies ++ begun.readings)
   pub output : Appends old.written new.written
-      (replies_bytes old.plans new.history place replies ++ begun.cut)
+      (replies_bytes old.plans new.history old.kept place replies ++ begun.cut)
   pub looks : new.reads ≡ old.reads + (length replies + begun.looks)
+  pub kept : new.kept
+      ≡ kept_behind old.plans new.history old.kept (numbers_of replies ++ begun.seen)
   pub faults_later : old.write_faults ≤ new.write_faults
 
 -- a response that was begun and cut, of the whole history
@@ -36,9 +38,10 @@ pub record IsCut (place : ℕ) (old new : Setting) (item : Item) (begun : Begun)
   pub number : reply.number ≡ length new.history
   pub reading : begun.readings ≡ reply.moment ∷ []
   pub one_look : begun.looks ≡ 1
+  pub seen : begun.seen ≡ reply.number ∷ []
   pub size : ℕ
-  pub short : size < length (reply_bytes old.plans new.history place reply)
-  pub written : begun.cut ≡ take size (reply_bytes old.plans new.history place reply)
+  pub short : size < length (reply_bytes old.plans new.history old.kept place reply)
+  pub written : begun.cut ≡ take size (reply_bytes old.plans new.history old.kept place reply)
   pub rose : Rose old.write_faults new.write_faults
 
 -- the response to an item at a place was written and noted
@@ -56,7 +59,8 @@ Replies place old new item before after (Err Cut) =
     (begun : Begun) × IsCut place old new item begun × Answers place old new [] begun
     × (after ≡ before)
 Replies place old new item before after (Err Starved) =
-    (begun : Begun) × WasStarved begun × Answers place old new [] begun × (after ≡ before)
+    (begun : Begun) × WasStarved new.history begun × Answers place old new [] begun
+    × (after ≡ before)
 
 -- The item in front of these bytes was taken, and what stands behind it is held. What is no request
 -- stays there.
@@ -122,7 +126,7 @@ Turns place held held' left left' old new before after (Ends WriteFault) =
     × IsCut place old new item begun × Answers place old new [] begun × (after ≡ before)
 Turns place held held' left left' old new before after (Ends NoMemory) =
     (bytes : List ℕ) × Consumes left left' bytes × (begun : Begun)
-    × WasStarved begun × Answers place old new [] begun × (after ≡ before)
+    × WasStarved new.history begun × Answers place old new [] begun × (after ≡ before)
 
 -- neither count of faults fell, and that of the one that failed rose
 abbrev pub HasTurnCause : Turn → ℕ → ℕ → ℕ → ℕ → Type 0

@@ -1,18 +1,24 @@
 //! Makes each response whole in the buffer in which it is sent.
-ghost use Rattle.std.specs.Prelude.{◌≡◌, ◌≤◌, true, length, drop, IfOk};
+ghost use Rattle.std.specs.Prelude.{◌≡◌, ◌≤◌, ◌<◌, true, Some, List, length, drop, IfOk, IsSome};
 ghost use Rattle.text_defs.specs.Moments.{last_moment};
+ghost use Rattle.board_defs.specs.Fold.{FeedFold};
 ghost use Rattle.board_defs.specs.Views.{folds_of};
+ghost use Rattle.delta_defs.specs.Changes.{changes_bytes};
+ghost use Rattle.delta_defs.specs.Kept.{folds_at};
+ghost use Rattle.delta_defs.specs.OneHistory.{AreOfOneHistory};
+ghost use Rattle.http_defs.specs.declared.response.BodyKind.TheVariants as kinds;
 ghost use Rattle.http_serve_defs.specs.Questions.{is_status, is_refusal, IsAskable};
-ghost use Rattle.http_serve_defs.specs.Answers.{answer, refused, query_answered, item_answered, closes_behind};
+ghost use Rattle.http_serve_defs.specs.Answers.{answer, changes_answer, found, refused, query_answered, item_answered, whole_answered, closes_behind};
 ghost use Rattle.http_serve.specs.Headings.{Appends};
 
 use crate::NoMemory;
-use crate::questions::{kind_of, question_of, refusal_code};
+use crate::questions::{feed_since, kind_of, question_of, refusal_code};
 use board_parts::HubView;
+use delta_out::{Kept, since};
 use http_defs::{BodyKind, Item, Query};
 use http_routes::{LONGEST_HEAD, Routes, put_head, refusal_body};
 use std::alloc::Global;
-use view_answers::answer;
+use view_answers::{answer, schedule_number};
 
 /// The status and the type of a body.
 #[derive(Clone, Copy)]
@@ -38,26 +44,29 @@ impl Responder {
         })
     }
 
-    /// Makes the response to an item, which may be the thousandth of its connection, of the messages
-    /// that the view holds, at a moment up to the end of the year 9999; or runs out of memory. Answers
-    /// where in `bytes` it begins: the body is written where it is sent from, and then its head is put
-    /// before it.
+    /// Makes the response to an item, which may be the thousandth of its connection, of the
+    /// messages that the view holds and of the views that are kept of the same history, at a moment
+    /// up to the end of the year 9999; or runs out of memory. Answers where in `bytes` it begins:
+    /// the body is written where it is sent from, and then its head is put before it.
     #[tactic(auto, unfolding(http_serve_defs::specs::Answers::answer))]
     pub(crate) fn respond(
         &mut self,
         view: &HubView,
+        kept: &Kept,
         item: &Item,
         thousandth: bool,
         number: u64,
         moment: u64,
     ) -> Result<usize, NoMemory>
-        requires { moment ≤ last_moment }
+        requires moment { moment ≤ last_moment }
+        requires one_history { AreOfOneHistory kept.now view.now }
         ensures begins_within { IfOk result (λ start. start ≤ length self.new.bytes.items) }
         ensures made { IfOk result (λ start. drop start self.new.bytes.items
-            ≡ answer view.now.plans item.now thousandth moment number (folds_of view.now)) }
+            ≡ answer view.now.plans item.now thousandth moment number (folds_of view.now)
+            kept.now) }
     {
         self.bytes.resize(LONGEST_HEAD, 0)?;
-        let heading = answer_item(&self.routes, view, item, moment, &mut self.bytes)?;
+        let heading = answer_item(&self.routes, view, kept, item, moment, &mut self.bytes)?;
         put_head(
             heading.status,
             heading.kind,
@@ -81,13 +90,15 @@ impl Responder {
 fn answer_item(
     routes: &Routes,
     view: &HubView,
+    kept: &Kept,
     item: &Item,
     moment: u64,
     bytes: &mut Vec<u8>,
 ) -> Result<Heading, NoMemory>
-    requires { moment ≤ last_moment }
+    requires moment { moment ≤ last_moment }
+    requires one_history { AreOfOneHistory kept.now view.now }
     ensures answered { IfOk result (λ heading. Appends heading bytes.old.items bytes.new.items
-        (item_answered view.now.plans (folds_of view.now) item.now moment)) }
+        (item_answered view.now.plans (folds_of view.now) kept.now item.now moment)) }
     ensures status { IfOk result (λ heading. is_status heading.status ≡ true) }
 {
     match item {
@@ -95,13 +106,84 @@ fn answer_item(
         Item::Asked(request) => {
             let alloc = *bytes.allocator();
             let query = routes.query(alloc, request)?;
-            answer_query(alloc, view, &query, moment, bytes)
+            answer_query(alloc, view, kept, &query, moment, bytes)
         }
     }
 }
 
-/// Appends the body of the answer to a query.
+/// Appends the body of the answer to a query: of a feed since a view that is kept what changed, and
+/// of all else the whole.
 fn answer_query(
+    alloc: Global,
+    view: &HubView,
+    kept: &Kept,
+    query: &Query,
+    moment: u64,
+    bytes: &mut Vec<u8>,
+) -> Result<Heading, NoMemory>
+    requires askable { IsAskable query.now }
+    requires moment { moment ≤ last_moment }
+    requires one_history { AreOfOneHistory kept.now view.now }
+    ensures answered { IfOk result (λ heading. Appends heading bytes.old.items bytes.new.items
+        (query_answered view.now.plans (folds_of view.now) kept.now query.now moment)) }
+    ensures status { IfOk result (λ heading. is_status heading.status ≡ true) }
+{
+    match feed_since(query, kept) {
+        Some(asked) => answer_since(alloc, view, kept, asked.schedule, asked.number, bytes),
+        None => answer_whole(alloc, view, query, moment, bytes),
+    }
+}
+
+/// Appends what changed in the feed of a schedule since the view of a number, which is kept.
+fn answer_since(
+    alloc: Global,
+    view: &HubView,
+    kept: &Kept,
+    schedule: &str,
+    number: u64,
+    bytes: &mut Vec<u8>,
+) -> Result<Heading, NoMemory>
+    requires kept { IsSome (folds_at number kept.now) }
+    requires one_history { AreOfOneHistory kept.now view.now }
+    ensures answered { (old : List FeedFold) → folds_at number kept.now ≡ Some old
+        → IfOk result (λ heading. Appends heading bytes.old.items bytes.new.items
+        (found kinds.Feed (changes_answer view.now.plans (folds_of view.now)
+        (record { schedule = schedule.now; old = old })))) }
+    ensures status { IfOk result (λ heading. is_status heading.status ≡ true) }
+{
+    match schedule_number(view.plans(), schedule) {
+        Some(plan) => push_changes(alloc, view, kept, plan, number, bytes),
+        None => refuse(404, bytes),
+    }
+}
+
+/// Appends the same of the schedule of that number.
+fn push_changes(
+    alloc: Global,
+    view: &HubView,
+    kept: &Kept,
+    plan: u32,
+    number: u64,
+    bytes: &mut Vec<u8>,
+) -> Result<Heading, NoMemory>
+    requires plan { plan < length view.now.plans.plans }
+    requires kept { IsSome (folds_at number kept.now) }
+    requires one_history { AreOfOneHistory kept.now view.now }
+    ensures answered { (old : List FeedFold) → folds_at number kept.now ≡ Some old
+        → IfOk result (λ heading. Appends heading bytes.old.items bytes.new.items
+        (found kinds.Feed (Some (changes_bytes view.now.plans plan old (folds_of view.now))))) }
+    ensures status { IfOk result (λ heading. is_status heading.status ≡ true) }
+{
+    let changes = since(alloc, kept, view, plan, number)?;
+    bytes.extend_from_slice(changes.as_slice())?;
+    Ok(Heading {
+        status: 200,
+        kind: BodyKind::Feed,
+    })
+}
+
+/// Appends the body of the answer to a query, whatever was seen before.
+fn answer_whole(
     alloc: Global,
     view: &HubView,
     query: &Query,
@@ -111,7 +193,7 @@ fn answer_query(
     requires askable { IsAskable query.now }
     requires moment { moment ≤ last_moment }
     ensures answered { IfOk result (λ heading. Appends heading bytes.old.items bytes.new.items
-        (query_answered view.now.plans (folds_of view.now) query.now moment)) }
+        (whole_answered view.now.plans (folds_of view.now) query.now moment)) }
     ensures status { IfOk result (λ heading. is_status heading.status ≡ true) }
 {
     let Some(question) = question_of(query, moment) else {

@@ -3,6 +3,7 @@ ghost use Rattle.std.specs.Prelude.{◌≡◌, false};
 ghost use Rattle.http_serve.specs.Setting.{setting};
 ghost use Rattle.http_serve.specs.Notes.{noted_in};
 ghost use Rattle.http_serve.specs.Serves.{Serves};
+ghost use Rattle.http_serve.specs.Views.{AreOfHistory};
 ghost use Rattle.http_serve.specs.Turns.{Turns, HasTurnCause, TakesNext, HasNextCause, turn_after};
 
 use crate::notes::Notes;
@@ -10,6 +11,7 @@ use crate::replying::{LAST_PLACE, Unwritten, reply};
 use crate::responses::{Responder, closes_behind};
 use crate::{End, NoMemory, Session};
 use board_parts::Oracle;
+use delta_out::Kept;
 use http_defs::Item;
 use http_req::{RequestReader, Taken};
 use hub_outside::{Clock, Sink, Source};
@@ -41,27 +43,32 @@ impl Service {
         })
     }
 
-    /// Serves a connection. What the reader holds of the one before it is dropped.
+    /// Serves a connection; each look's view is added to those that are kept, which are of the
+    /// oracle's history. What the reader holds of the connection before it is dropped.
     pub(crate) fn serve<S: Source, K: Sink, O: Oracle, C: Clock>(
         &mut self,
         source: &mut S,
         sink: &mut K,
         oracle: &mut O,
         clock: &mut C,
+        kept: &mut Kept,
     ) -> Session
+        requires { AreOfHistory (O.plans oracle.old) (O.history oracle.old) kept.old }
         ensures serves { Serves (S.left source.old) (S.left source.new)
             (S.faults source.old) (S.faults source.new)
             (setting (K.written sink.old) (K.faults sink.old) (C.ahead clock.old)
-            (O.plans oracle.old) (O.history oracle.old) (O.reads oracle.old) (O.steady oracle.old))
+            (O.plans oracle.old) (O.history oracle.old) (O.reads oracle.old)
+            (O.steady oracle.old) kept.old)
             (setting (K.written sink.new) (K.faults sink.new) (C.ahead clock.new)
-            (O.plans oracle.new) (O.history oracle.new) (O.reads oracle.new) (O.steady oracle.new))
+            (O.plans oracle.new) (O.history oracle.new) (O.reads oracle.new)
+            (O.steady oracle.new) kept.new)
             result.end result.numbers.items result.moments.items }
         ensures lets_go { O.holds oracle.old ≡ false → O.holds oracle.new ≡ false }
     {
         self.reader.clear();
         let mut notes = Notes::none(self.alloc);
         'requests: for place in 1..LAST_PLACE + 1 {
-            match self.serve_next(place, &mut notes, source, sink, oracle, clock) {
+            match self.serve_next(place, &mut notes, source, sink, oracle, clock, kept) {
                 Turn::GoesOn => {}
                 Turn::Ends(end) => return notes.session(end),
             }
@@ -78,13 +85,17 @@ impl Service {
         sink: &mut K,
         oracle: &mut O,
         clock: &mut C,
+        kept: &mut Kept,
     ) -> Turn
+        requires { AreOfHistory (O.plans oracle.old) (O.history oracle.old) kept.old }
         ensures turns { Turns place self.old.reader self.new.reader
             (S.left source.old) (S.left source.new)
             (setting (K.written sink.old) (K.faults sink.old) (C.ahead clock.old)
-            (O.plans oracle.old) (O.history oracle.old) (O.reads oracle.old) (O.steady oracle.old))
+            (O.plans oracle.old) (O.history oracle.old) (O.reads oracle.old)
+            (O.steady oracle.old) kept.old)
             (setting (K.written sink.new) (K.faults sink.new) (C.ahead clock.new)
-            (O.plans oracle.new) (O.history oracle.new) (O.reads oracle.new) (O.steady oracle.new))
+            (O.plans oracle.new) (O.history oracle.new) (O.reads oracle.new)
+            (O.steady oracle.new) kept.new)
             (noted_in notes.old) (noted_in notes.new) result }
         ensures cause { HasTurnCause result (S.faults source.old) (S.faults source.new)
             (K.faults sink.old) (K.faults sink.new) }
@@ -99,6 +110,7 @@ impl Service {
             &item,
             &mut self.responder,
             notes,
+            kept,
             sink,
             oracle,
             clock,

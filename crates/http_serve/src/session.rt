@@ -5,8 +5,8 @@
 pub enum End {
     /// The input ended behind a whole request.
     Ended,
-    /// The last response closes it: its request asked to close, was no GET, may carry a body, or was
-    /// the thousandth.
+    /// The last response closes it: its request asked to close, was no GET, may carry a body, or
+    /// was the thousandth.
     Closed,
     /// What follows is no request, which was answered.
     Bad,

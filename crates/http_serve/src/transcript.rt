@@ -29,10 +29,10 @@ pub struct Transcript {
     pub finish: Finish,
 }
 
-/// Serves the connection whose input is these bytes, where each look finds what the oracle's history
-/// is and each reading of the clock is this moment, in seconds since 1970 up to the end of the year
-/// 9999; or wants memory. Over an oracle whose history stands still the answer depends on its
-/// timetables and its history, the moment and the bytes alone.
+/// Serves the connection whose input is these bytes, where each look finds what the oracle's
+/// history is and each reading of the clock is this moment, in seconds since 1970 up to the end of
+/// the year 9999; or wants memory. Over an oracle whose history stands still the answer depends on
+/// its timetables and its history, the moment and the bytes alone.
 pub fn serve_bytes<O: Oracle>(
     alloc: Global,
     oracle: &mut O,

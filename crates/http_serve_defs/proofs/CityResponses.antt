@@ -17,7 +17,7 @@ use Rattle.delay_rule_defs.specs.Delays.{states}
 use Rattle.order.specs.Order.{inserted, ordered}
 use Rattle.board_defs.specs.Choice.{chosen, added_updates}
 use Rattle.board_defs.specs.Feed.{feed_bytes}
-use Rattle.board_defs.specs.Fold.{fold_of}
+use Rattle.board_defs.specs.Fold.{FeedFold, fold_of}
 use Rattle.sched_types.specs.Runs.{all_runs}
 use Rattle.board_defs.specs.Rows.{run_rows, board_at, board}
 use Rattle.board_text_defs.specs.Lines.{tab, between_tabs}
@@ -29,13 +29,15 @@ use Rattle.board_text_defs.specs.UnmatchedText.{unmatched_text}
 use Rattle.board_text_defs.specs.Answers.{board_answer, feed_answer, alerts_answer, unmatched_answer, schedule_number}
 use Rattle.alert_defs.specs.Alerts.{alerts}
 use Rattle.alert_defs.specs.Unmatched.{unmatched}
+use Rattle.delta_defs.specs.Changes.{changes_bytes}
+use Rattle.delta_defs.specs.Kept.{KeptView}
 use Rattle.http_defs.specs.declared.request.Item.{Item}
 use Rattle.http_defs.specs.declared.request.Item.TheVariants.{Asked, Malformed}
 use Rattle.http_defs.specs.Responses.{crlf, refusal}
 use Rattle.http_defs.proofs.OnLiterals.{http_on_literals}
 use Rattle.board_defs.proofs.Parts.{entry_of, message_at}
 use Rattle.http_serve_defs.specs.Answers.{answer, closes_behind}
-use Rattle.http_serve_defs.specs.Connections.{responses}
+use Rattle.http_serve_defs.specs.Connections.{kept_with, responses}
 
 -- the city with the feeds a and b, which have said nothing
 abbrev schedules : Schedules
@@ -51,7 +53,7 @@ get target =
 
 -- the response of that hub at 07:53:20
 abbrev answered : Item → Bool → List ℕ
-answered item thousandth = answer schedules item thousandth 1743314000 0 (fold_of 2 [])
+answered item thousandth = answer schedules item thousandth 1743314000 0 (fold_of 2 []) []
 
 -- fields with tabs between them, and what ends their line
 abbrev fields : List (List ℕ) → List ℕ
@@ -147,7 +149,7 @@ sent = entry_of 0 (message_at 5 (nameless ∷ [])) ∷ entry_of 1 (message_at 7 
 
 -- the response of the hub after so many of these messages
 abbrev after : ℕ → Item → List ℕ
-after number item = answer schedules item false 1743314000 number (fold_of 2 (take number sent))
+after number item = answer schedules item false 1743314000 number (fold_of 2 (take number sent)) []
 
 -- a board of one row as JSON
 abbrev market : List ℕ
@@ -181,9 +183,62 @@ feed_is_answered :
 unfolding http_on_literals groups varint payload_bytes field_bytes fields_of_all value message_bytes merged_message values numbered_values read write fold_of messages_of since_full changes_by_id entities_of inserted ordered digits feed_bytes schedule_number feed_answer answer closes_behind
 feed_is_answered = refl
 
+-- ---- what changed since a look
+
+-- a schedule of the feed a alone
+abbrev plain : Schedules
+plain = record {
+  plans = record { name = codes "plain"; prefix = []; plan = city } ∷ [];
+  feeds = record { name = codes "a"; plan = 0; max_age = 0 } ∷ [];
+}
+
+-- what a says after so many messages, and the views that are kept with a look then
+abbrev said : ℕ → List FeedFold
+said number = fold_of 1 (take number sent)
+
+abbrev looked : ℕ → List KeptView → List KeptView
+looked number kept = kept_with number (said number) kept
+
+-- the response at that look
+abbrev since : ℕ → List KeptView → List ℕ → List ℕ
+since number kept target =
+    answer plain (get target) false 1743314000 number (said number) (looked number kept)
+
+abbrev feed_head : ℕ → ℕ → List ℕ
+feed_head size number = typed_head (codes "200 OK") (codes "application/x-protobuf") size number (codes "keep-alive")
+
+-- the look's own view is kept, so nothing changed since
+own_view_is_kept :
+    (since 0 [] (codes "/feed/plain?since=0")
+    ≡ feed_head 11 0 ++ 0x0a ∷ 0x09 ∷ 0x0a ∷ 0x03 ∷ 0x32 ∷ 0x2e ∷ 0x30 ∷ 0x10 ∷ 0x01 ∷ 0x18 ∷ 0x00 ∷ [])
+    × (since 1 (looked 0 []) (codes "/feed/plain?since=1")
+    ≡ feed_head 11 1 ++ 0x0a ∷ 0x09 ∷ 0x0a ∷ 0x03 ∷ 0x32 ∷ 0x2e ∷ 0x30 ∷ 0x10 ∷ 0x01 ∷ 0x18 ∷ 0x05 ∷ [])
+unfolding http_on_literals groups varint payload_bytes field_bytes fields_of_all value message_bytes merged_message values numbered_values read write fold_of messages_of since_full changes_by_id entities_of inserted ordered digits changes_bytes schedule_number answer closes_behind
+own_view_is_kept = (refl, refl)
+
+-- since the look before its message a has an entity more; all of it is told where that look isn't kept, or none is named
+changes_are_answered :
+    (since 1 (looked 0 []) (codes "/feed/plain?since=0")
+    ≡ feed_head 18 1 ++ 0x0a ∷ 0x09 ∷ 0x0a ∷ 0x03 ∷ 0x32 ∷ 0x2e ∷ 0x30 ∷ 0x10 ∷ 0x01 ∷ 0x18 ∷ 0x05 ∷ 0x12 ∷ 0x05 ∷ 0x0a ∷ 0x03 ∷ 0x61 ∷ 0x3a ∷ 0x78 ∷ [])
+    × (since 1 [] (codes "/feed/plain?since=0")
+    ≡ feed_head 18 1 ++ 0x0a ∷ 0x09 ∷ 0x0a ∷ 0x03 ∷ 0x32 ∷ 0x2e ∷ 0x30 ∷ 0x10 ∷ 0x00 ∷ 0x18 ∷ 0x05 ∷ 0x12 ∷ 0x05 ∷ 0x0a ∷ 0x03 ∷ 0x61 ∷ 0x3a ∷ 0x78 ∷ [])
+    × (since 1 (looked 0 []) (codes "/feed/plain?since=7") ≡ since 1 [] (codes "/feed/plain?since=0"))
+    × (since 1 (looked 0 []) (codes "/feed/plain") ≡ since 1 [] (codes "/feed/plain?since=0"))
+unfolding http_on_literals groups varint payload_bytes field_bytes fields_of_all value message_bytes merged_message values numbered_values read write fold_of messages_of since_full changes_by_id entities_of inserted ordered digits feed_bytes changes_bytes schedule_number feed_answer answer closes_behind
+changes_are_answered = (refl, refl, refl, refl)
+
+-- what isn't there, and what is no number
+wrong_changes_are_refused :
+    (since 0 [] (codes "/feed/town?since=0") ≡ refusal 404 0 1743314000 false)
+    × (since 0 [] (codes "/feed/plain?since=x") ≡ refusal 400 0 1743314000 false)
+unfolding http_on_literals fold_of messages_of since_full changes_by_id entities_of inserted ordered digits schedule_number answer closes_behind
+wrong_changes_are_refused = (refl, refl)
+
+-- ---- connections
+
 -- the requests of a connection: from the thousandth place on it closes
 thousandth_closes :
-    responses schedules 1743314000 0 (fold_of 2 []) 999 (get (codes "/no") ∷ get (codes "/no") ∷ [])
+    responses schedules 1743314000 0 (fold_of 2 []) [] 999 (get (codes "/no") ∷ get (codes "/no") ∷ [])
     ≡ refusal 404 0 1743314000 false ++ refusal 404 0 1743314000 true
 unfolding http_on_literals fold_of messages_of since_full changes_by_id entities_of answer closes_behind responses
 thousandth_closes = refl

@@ -1,5 +1,5 @@
 -- What requests ask is what may be asked.
-use Rattle.std.proofs.Common.{◌≡◌, ℕ, ◌≤◌, Bool, true, false, not, bytes_eq, codes, List, Option, Some, None, refl, arith}
+use Rattle.std.proofs.Common.{◌≡◌, ℕ, ◌≤◌, Bool, true, false, not, bytes_eq, codes, List, [], Option, Some, None, refl, arith}
 use Rattle.std.specs.Prelude.{if◌then◌else◌, ◌&&◌, nat_le, ⊤}
 use Rattle.std.specs.Option.{option_and_then, option_map}
 use Rattle.std.specs.Str.{is_utf8}
@@ -10,10 +10,11 @@ use Rattle.http_defs.specs.declared.asked.RouteKind.{RouteKind}
 use Rattle.http_defs.specs.declared.asked.RouteKind.TheVariants.{Board as BoardRoute, Alerts as AlertsRoute, Feed as FeedRoute, Unmatched as UnmatchedRoute, Status as StatusRoute}
 use Rattle.http_defs.specs.declared.asked.Choices.{Choices}
 use Rattle.http_defs.specs.declared.asked.Query.{Query}
-use Rattle.http_defs.specs.declared.asked.Query.TheVariants.{Board, Alerts, Feed, Unmatched, Refused}
+use Rattle.http_defs.specs.declared.asked.Query.TheVariants.{Board, Alerts, Feed, Unmatched, Status, Refused}
 use Rattle.http_defs.specs.Routes.{routes, kind_at}
-use Rattle.http_defs.specs.Targets.{begins_with_slash, path_in, form_in, text_at, first_value, number_or, span_in, limit_in, json_in, choices_in, or_bad, query_by, query_at, query_of}
+use Rattle.http_defs.specs.Targets.{begins_with_slash, path_in, form_in, text_at, first_value, number_or, span_in, limit_in, json_in, choices_in, since_in, or_bad, query_by, query_at, query_of}
 use Rattle.http_serve_defs.specs.Questions.{AreChoices, IsAskable}
+use Rattle.http_serve_defs.specs.Answers.{since_view, feed_since}
 
 -- a number is one of its range
 pub record InRange (low high n : ℕ) : Type 0 where
@@ -88,9 +89,11 @@ alerts_askable (Some a) None choices each = refl
 alerts_askable (Some a) (Some b) None each = refl
 alerts_askable (Some a) (Some b) (Some c) each = each
 
-feed_askable : (schedule : Option (List ℕ)) → IsAskable (or_bad (option_map (λ a. Feed a) schedule))
-feed_askable None = refl
-feed_askable (Some a) = tt
+feed_askable : (schedule : Option (List ℕ)) (since : Option (Option ℕ))
+    → IsAskable (or_bad (option_and_then (λ a. option_map (λ look. Feed a look) since) schedule))
+feed_askable None since = refl
+feed_askable (Some a) None = refl
+feed_askable (Some a) (Some look) = tt
 
 unmatched_askable : (schedule : Option (List ℕ)) → IsAskable (or_bad (option_map (λ a. Unmatched a) schedule))
 unmatched_askable None = refl
@@ -102,7 +105,7 @@ route_askable (Some BoardRoute) path form =
     board_askable (text_at path 2) (text_at path 3) (choices_in form) (choices_range form)
 route_askable (Some AlertsRoute) path form =
     alerts_askable (text_at path 2) (text_at path 3) (choices_in form) (choices_range form)
-route_askable (Some FeedRoute) path form = feed_askable (text_at path 2)
+route_askable (Some FeedRoute) path form = feed_askable (text_at path 2) (since_in form)
 route_askable (Some UnmatchedRoute) path form = unmatched_askable (text_at path 2)
 route_askable (Some StatusRoute) path form = tt
 
@@ -125,3 +128,18 @@ request_askable r =
     (either_askable r.body (Refused 400) _ refl
     (either_askable (not (begins_with_slash r.target)) (Refused 400) _ refl
     (path_askable (path_in r.target) (form_in r.target))))
+
+-- ---- no views
+
+-- where no view is kept, nothing is asked for since one
+none_since : (schedule : List ℕ) (since : Option ℕ) → since_view schedule since [] ≡ None
+none_since schedule None = refl
+none_since schedule (Some look) = refl
+
+none_kept : (query : Query) → feed_since query [] ≡ None
+none_kept (Feed schedule since) = none_since schedule since
+none_kept (Board schedule stop span limit json) = refl
+none_kept (Alerts schedule stop span limit json) = refl
+none_kept (Unmatched schedule) = refl
+none_kept Status = refl
+none_kept (Refused code) = refl

@@ -1,10 +1,12 @@
 -- What answers an item of a connection, of what all feeds say (RFC 9110, section 15).
 use Rattle.std.specs.Prelude.{ℕ, Bool, true, if◌then◌else◌, List, Option, Some, None, unwrap_or, codes}
-use Rattle.std.specs.Option.{option_map}
+use Rattle.std.specs.Option.{option_map, option_map_or}
 use Rattle.sched_types.specs.Schedules.{Schedules}
 use Rattle.board_defs.specs.Fold.{FeedFold}
-use Rattle.board_text_defs.specs.Answers.{Question, answer_to}
+use Rattle.board_text_defs.specs.Answers.{Question, answer_to, schedule_number}
 use Rattle.board_text_defs.specs.Answers.Question.{FeedOf, BoardOf, AlertsOf, UnmatchedOf, StatusOf}
+use Rattle.delta_defs.specs.Changes.{changes_bytes}
+use Rattle.delta_defs.specs.Kept.{KeptView, folds_at}
 use Rattle.http_defs.specs.declared.request.Item.{Item}
 use Rattle.http_defs.specs.declared.request.Item.TheVariants.{Asked, Malformed}
 use Rattle.http_defs.specs.declared.asked.Query.{Query}
@@ -48,22 +50,55 @@ question_answered schedules folds question =
 abbrev pub refusal_code : Query → ℕ
 refusal_code (Refused code) = code
 refusal_code (Board schedule stop span limit json) = 404
-refusal_code (Feed schedule) = 404
+refusal_code (Feed schedule since) = 404
 refusal_code (Alerts schedule stop span limit json) = 404
 refusal_code (Unmatched schedule) = 404
 refusal_code Status = 404
 
--- what answers a query at a moment
-abbrev pub query_answered : Schedules → List FeedFold → Query → ℕ → Answered
-query_answered schedules folds query moment =
+-- what answers a query at a moment, whatever was seen before
+abbrev pub whole_answered : Schedules → List FeedFold → Query → ℕ → Answered
+whole_answered schedules folds query moment =
     unwrap_or (option_map (question_answered schedules folds) (question_of query moment))
     (refused (refusal_code query))
 
+-- a feed that is asked for since a view that is kept: its schedule, and what all feeds said then
+pub record FeedSince : Type 0 where
+  pub schedule : List ℕ
+  pub old : List FeedFold
+
+-- a feed since the view of a number, if there is one and it is kept
+abbrev pub since_view : List ℕ → Option ℕ → List KeptView → Option FeedSince
+since_view schedule None kept = None
+since_view schedule (Some number) kept =
+    option_map (λ old. record { schedule = schedule; old = old }) (folds_at number kept)
+
+-- the feed that a query asks for since a view that is kept, if it does so
+abbrev pub feed_since : Query → List KeptView → Option FeedSince
+feed_since (Feed schedule since) kept = since_view schedule since kept
+feed_since (Board schedule stop span limit json) kept = None
+feed_since (Alerts schedule stop span limit json) kept = None
+feed_since (Unmatched schedule) kept = None
+feed_since Status kept = None
+feed_since (Refused code) kept = None
+
+-- what changed in the combined feed of a schedule since then, if there is such a schedule
+abbrev pub changes_answer : Schedules → List FeedFold → FeedSince → Option (List ℕ)
+changes_answer schedules folds since =
+    option_map (λ plan. changes_bytes schedules plan since.old folds)
+    (schedule_number schedules since.schedule)
+
+-- What answers a query at a moment, of what all feeds say and of the views that are kept: for a feed
+-- since one of these what changed, and for all else the whole answer.
+abbrev pub query_answered : Schedules → List FeedFold → List KeptView → Query → ℕ → Answered
+query_answered schedules folds kept query moment =
+    option_map_or (λ since. found Message (changes_answer schedules folds since))
+    (feed_since query kept) (whole_answered schedules folds query moment)
+
 -- what answers an item at a moment; what is no request is 400
-abbrev pub item_answered : Schedules → List FeedFold → Item → ℕ → Answered
-item_answered schedules folds Malformed moment = refused 400
-item_answered schedules folds (Asked r) moment =
-    query_answered schedules folds (query_of r) moment
+abbrev pub item_answered : Schedules → List FeedFold → List KeptView → Item → ℕ → Answered
+item_answered schedules folds kept Malformed moment = refused 400
+item_answered schedules folds kept (Asked r) moment =
+    query_answered schedules folds kept (query_of r) moment
 
 -- Whether the connection closes behind the answer to an item: it is no request, or one after which
 -- it closes, as after the thousandth.
@@ -72,9 +107,9 @@ closes_behind Malformed thousandth = true
 closes_behind (Asked r) thousandth = closes_after r thousandth
 
 -- the response to an item, which may be the thousandth of its connection, at a moment, of what all
--- feeds say after so many messages
-unfoldable pub answer : Schedules → Item → Bool → ℕ → ℕ → List FeedFold → List ℕ
-answer schedules item thousandth moment number folds =
-    let answered = item_answered schedules folds item moment in
+-- feeds say after so many messages and of the views that are kept then
+unfoldable pub answer : Schedules → Item → Bool → ℕ → ℕ → List FeedFold → List KeptView → List ℕ
+answer schedules item thousandth moment number folds kept =
+    let answered = item_answered schedules folds kept item moment in
     response answered.status answered.kind answered.body number moment
     (closes_behind item thousandth)

@@ -15,7 +15,7 @@ question_of (Board schedule stop span limit json) moment = Some (BoardOf (record
   limit = limit;
   json = json;
 }))
-question_of (Feed schedule) moment = Some (FeedOf schedule)
+question_of (Feed schedule since) moment = Some (FeedOf schedule)
 question_of (Alerts schedule stop span limit json) moment = Some (AlertsOf (record {
   schedule = schedule;
   stop = stop;
@@ -46,7 +46,7 @@ pub record AreChoices (span limit : ℕ) : Type 0 where
 -- what requests ask: boards and alerts within their ranges, and refusals by their statuses
 abbrev pub IsAskable : Query → Type 0
 IsAskable (Board schedule stop span limit json) = AreChoices span limit
-IsAskable (Feed schedule) = ⊤
+IsAskable (Feed schedule since) = ⊤
 IsAskable (Alerts schedule stop span limit json) = AreChoices span limit
 IsAskable (Unmatched schedule) = ⊤
 IsAskable Status = ⊤

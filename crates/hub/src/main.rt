@@ -1,11 +1,13 @@
-//! The program `hub`: the words of its command line, standard input, output and error, and an exit status.
+//! The program `hub`: the words of its command line, standard input, output and error, and an exit
+//! status.
 //!
-//! Commands are those of `hub_main`, and the server is that of `hub_system`, over `hub_serve`; their
-//! contracts say what is written and with which status it ends. Here the outside is the system's own.
+//! Commands are those of `hub_main`, and the server is that of `hub_system`, over `hub_serve`;
+//! their contracts say what is written and with which status it ends. Here the outside is the
+//! system's own.
 //!
-//! Its stored run is `serve` on the messages of data/spool, with no address at which readers come in, so that it
-//! ends by itself. One of its feeds finds nobody to connect to, and the listener can't be bound, which standard error
-//! tells; so the status is 1.
+//! Its stored run is `serve` on the messages of data/spool, with no address at which readers come
+//! in, so that it ends by itself. One of its feeds finds nobody to connect to, and the listener
+//! can't be bound, which standard error tells; so the status is 1.
 #![tactic(auto)]
 
 use exit_status::ExitStatus;

@@ -16,7 +16,7 @@ use Rattle.hub_main_defs.specs.Checks.{check_output, check_lines, conf_in, count
 use Rattle.hub_load.specs.Told.{IsAsTold, Stored, TellsFault, plan_told, refusal_line, with_front}
 use Rattle.hub_load.specs.declared.fault.HubFault.{HubFault}
 use Rattle.hub_load.specs.declared.fault.HubFault.TheVariants.{Refused, FileFault, NoMemory}
-use Rattle.hub_load.proofs.Telling.{front_nothing, front_twice, told_behind, told_first}
+use Rattle.hub_load.proofs.Telling.{front_twice, told_behind, told_first}
 use Rattle.hub_check.specs.Told.{Checks, line_for, lines_for}
 
 -- ---- all lines
@@ -39,9 +39,6 @@ item_left all k s lt is = at_drop_more (λ xs. xs) all k s lt ∙ ap (λ x. x �
 -- what is told of all schedules is what is told of those that are left, behind the lines so far
 abbrev pub Counts : Stored → List ScheduleConf → ℕ → List ℕ → Type 0
 Counts files all k lines = lines_for files all ≡ with_front lines (lines_for files (drop k all))
-
-pub counts_begin : (files : Stored) (all : List ScheduleConf) → Counts files all 0 []
-counts_begin files all = front_nothing (lines_for files all)
 
 pub counts_more : (files : Stored) (all : List ScheduleConf) (k : ℕ) (s : ScheduleConf) (lines new : List ℕ) → k < length all → s ≡ slice_index_or all k s → Counts files all k lines
     → with_front lines (line_for files s) ≡ Ok new → Counts files all (k + 1) new

@@ -1,5 +1,5 @@
 -- What holds of every configuration that was read, for the crates above.
-use Rattle.std.proofs.Common.{◌≡◌, ◌∙◌, ℕ, zero, suc, ◌+◌, ◌<◌, ◌≤◌, ◌&&◌, ◌||◌, ◌⊎◌, nat_lt, nat_le, List, [], ◌∷◌, ◌++◌, length, length-append, map, slice_get, Bool, true, false, Option, Some, None, Result, Ok, Err, pos, negsuc, refl, ap, sym, subst, inl, inr, arith, cond, if◌then◌else◌, codes}
+use Rattle.std.proofs.Common.{◌≡◌, ◌∙◌, ℕ, zero, suc, ◌+◌, ◌<◌, ◌≤◌, ◌&&◌, ◌||◌, ◌⊎◌, nat_lt, nat_le, List, [], ◌∷◌, ◌++◌, length, length-append, map, slice_get, Bool, true, false, Option, Some, None, Result, Ok, pos, refl, ap, sym, subst, inl, inr, arith, cond, if◌then◌else◌, codes}
 use Rattle.std.proofs.lemmas.Bool.{cases_Bool, and_parts}
 use Rattle.std.proofs.lemmas.Bool.Decides.{nat_tests}
 use Rattle.std.proofs.lemmas.List.{map-append}
@@ -9,7 +9,7 @@ use Rattle.std.specs.List.{list_all, list_any}
 use Rattle.text_defs.specs.Names.{is_name}
 use Rattle.std.specs.Str.{bytes_eq, is_utf8}
 use Rattle.toml.specs.Parse.{parse_document}
-use Rattle.hub_config_defs.specs.declared.fault.ConfWhy.TheVariants.{Bad, Twice}
+use Rattle.hub_config_defs.specs.declared.fault.ConfWhy.TheVariants.{Twice}
 use Rattle.hub_config_defs.specs.Right.{AreNames, IsLegal, has_numbers, has_schedule_of, has_short_prefix, has_window}
 use Rattle.std.specs.Option.{is_some, option_and_then, option_map, option_or, unwrap_or}
 use Rattle.toml.specs.Data.{Data, string, integer, float, boolean, datetime, array, table, Items, no_items, item, Members, get_member, as_table}
@@ -22,20 +22,17 @@ use Rattle.hub_config_defs.specs.declared.fault.TableName.TheVariants.{Top, Sche
 use Rattle.hub_config_defs.specs.declared.rule.Key.{Key}
 use Rattle.hub_config_defs.specs.declared.rule.Key.TheVariants as key
 use Rattle.hub_config_defs.specs.declared.rule.Holds.TheVariants.{Number, Date, ShortText, KnownSchedule, NewSchedule, NewFeed, Tables}
-use Rattle.text_defs.specs.Dates.{date_in}
 use Rattle.hub_config_defs.specs.Rules.{Default, no_tables, number, required, text, rule_of, keys_of}
 use Rattle.hub_config_defs.specs.Values.{are_tables, count, text_at, number_of, text_of, tables_of, is_text_for, is_array_for, number_at, tables_at, date_of, is_window_date, within}
-use Rattle.hub_config_defs.specs.Faults.{has_feed, has_schedule, fault_in, first_wrong, wrong_in, named_fault, key_fault, found_fault, value_fault, is_held, name_fault}
+use Rattle.hub_config_defs.specs.Faults.{has_feed, has_schedule, fault_in, first_wrong, wrong_in, key_fault, found_fault, value_fault, is_held, name_fault}
 use Rattle.hub_config_defs.specs.Conf.{added, and_then, rows_from, unless, schedule_row, schedule_of, feed_row, feed_of, index_of, conf_in, conf_in_document, conf_of, feeds_in, hub_of, schedules_in}
 
 -- a part's value, where the whole is one
 and_then_ok : {A B : Type 0} (r : Result A ConfFault) (more : A → Result B ConfFault) (y : B) → and_then r more ≡ Ok y → (x : A) × (r ≡ Ok x) × (more x ≡ Ok y)
-and_then_ok (Ok x) more y h = (x, refl, h)
-and_then_ok (Err e) more y h = cc
+and_then_ok r more y h = grind arith
 
 unless_ok : {A : Type 0} (o : Option ConfFault) (x y : A) → unless o x ≡ Ok y → (o ≡ None) × (x ≡ y)
-unless_ok None x y h = (refl, cc)
-unless_ok (Some e) x y h = cc
+unless_ok o x y h = grind arith
 
 -- a test that each row passes is one that all pass
 list_all-last : {A : Type 0} (test : A → Bool) (xs : List A) (x : A) → list_all test xs ≡ true → test x ≡ true → list_all test (xs ++ x ∷ []) ≡ true
@@ -47,11 +44,7 @@ list_all-last test (y ∷ xs) x h e =
 added_right : {A : Type 0} (test : A → Bool) (row_of : List A → Members → Result A ConfFault) → ((before : List A) (ms : Members) (x : A) → row_of before ms ≡ Ok x → test x ≡ true)
     → (before : List A) (o : Option Members) (xs : List A) → list_all test before ≡ true → added row_of before o ≡ Ok xs → list_all test xs ≡ true
 unfolding added
-added_right test row_of right before None xs h e = let same : before ≡ xs = cc in subst (λ ys. list_all test ys ≡ true) same h
-added_right test row_of right before (Some ms) xs h e =
-    let (x, said, last) = and_then_ok (row_of before ms) _ xs e in
-    let same : before ++ x ∷ [] ≡ xs = cc in
-    subst (λ ys. list_all test ys ≡ true) same (list_all-last test before x h (right before ms x said))
+added_right test row_of right before o xs h e = grind (arith, and_then_ok, list_all-last)
 
 pub rows_right : {A : Type 0} (test : A → Bool) (row_of : ℕ → List A → Members → Result A ConfFault) → ((row : ℕ) (before : List A) (ms : Members) (x : A) → row_of row before ms ≡ Ok x → test x ≡ true)
     → (row : ℕ) (before : List A) (ds : Items) (xs : List A) → list_all test before ≡ true → rows_from row_of row before ds ≡ Ok xs → list_all test xs ≡ true
@@ -63,103 +56,45 @@ rows_right test row_of right row before (item d ds) xs h e =
 
 -- what isn't there has no parts
 none_of : {X : Type 0} (o p : Option X) → option_or o p ≡ None → (o ≡ None) × (p ≡ None)
-none_of None p h = (refl, h)
-none_of (Some x) p h = cc
+none_of o p h = grind arith
 
 unmapped : {X Y : Type 0} (f : X → Y) (o : Option X) → option_map f o ≡ None → o ≡ None
-unmapped f None h = refl
-unmapped f (Some x) h = cc
+unmapped f o h = grind arith
 
 in_range : (least most n : ℕ) (ss : List ScheduleConf) (fs : List FeedConf) → value_fault (Number least most) (integer (pos n)) ss fs ≡ None → within least most (pos n) ≡ Some n
 unfolding value_fault is_held number_of text_of tables_of
-in_range least most n ss fs h =
-    elim (cases_Bool (nat_le least n && nat_le n most)) [
-      | inl fits ↦ rw fits
-      | inr other ↦ let wrong = rw other at h in cc
-    ]
+in_range least most n ss fs h = grind (arith, nat_tests)
 
 within_range : (least most n : ℕ) → within least most (pos n) ≡ Some n → (nat_le least n && nat_le n most) ≡ true
-within_range least most n h =
-    elim (cases_Bool (nat_le least n && nat_le n most)) [
-      | inl fits ↦ fits
-      | inr other ↦ let wrong = rw other at h in cc
-    ]
+within_range least most n h = grind (arith, nat_tests)
 
 -- a required number with which nothing is wrong is in its range
 number_right : (name : List ℕ) (least most : ℕ) (o : Option Data) (ss : List ScheduleConf) (fs : List FeedConf)
     → found_fault (record { name = name; holds = Number least most; absent = required }) o ss fs ≡ None
     → (nat_le least (unwrap_or (option_and_then (number_of (Number least most)) o) 0) && nat_le (unwrap_or (option_and_then (number_of (Number least most)) o) 0) most) ≡ true
 unfolding value_fault is_held number_of text_of tables_of is_text_for is_array_for
-number_right name least most None ss fs h = cc
-number_right name least most (Some (integer (pos n))) ss fs h = let e = in_range least most n ss fs h in rw e (within_range least most n e)
-number_right name least most (Some (integer (negsuc n))) ss fs h = cc
-number_right name least most (Some (string t)) ss fs h = cc
-number_right name least most (Some (float x)) ss fs h = cc
-number_right name least most (Some (boolean b)) ss fs h = cc
-number_right name least most (Some (datetime t)) ss fs h = cc
-number_right name least most (Some (array ds)) ss fs h = cc
-number_right name least most (Some (table ms)) ss fs h = cc
+number_right name least most o ss fs h = grind (arith, nat_tests)
 
 -- a number that may be absent is in its range, where what stands for it is
 default_right : (name : List ℕ) (least most d : ℕ) (o : Option Data) (ss : List ScheduleConf) (fs : List FeedConf) → (nat_le least d && nat_le d most) ≡ true
     → found_fault (record { name = name; holds = Number least most; absent = number d }) o ss fs ≡ None
     → (nat_le least (unwrap_or (option_and_then (number_of (Number least most)) o) d) && nat_le (unwrap_or (option_and_then (number_of (Number least most)) o) d) most) ≡ true
 unfolding value_fault is_held number_of text_of tables_of is_text_for is_array_for
-default_right name least most d None ss fs fits h = fits
-default_right name least most d (Some (integer (pos n))) ss fs fits h = let e = in_range least most n ss fs h in rw e (within_range least most n e)
-default_right name least most d (Some (integer (negsuc n))) ss fs fits h = cc
-default_right name least most d (Some (string t)) ss fs fits h = cc
-default_right name least most d (Some (float x)) ss fs fits h = cc
-default_right name least most d (Some (boolean b)) ss fs fits h = cc
-default_right name least most d (Some (datetime t)) ss fs fits h = cc
-default_right name least most d (Some (array ds)) ss fs fits h = cc
-default_right name least most d (Some (table ms)) ss fs fits h = cc
+default_right name least most d o ss fs fits h = grind (arith, nat_tests)
 
 -- a text that may be absent is short enough
 short_right : (name : List ℕ) (most : ℕ) (o : Option Data) (ss : List ScheduleConf) (fs : List FeedConf)
     → found_fault (record { name = name; holds = ShortText most; absent = text [] }) o ss fs ≡ None
     → nat_le (length (unwrap_or (option_and_then (text_of (ShortText most)) o) [])) most ≡ true
 unfolding value_fault is_held number_of text_of tables_of is_text_for is_array_for
-short_right name most None ss fs h = grind (arith, nat_tests)
-short_right name most (Some (string t)) ss fs h =
-    elim (cases_Bool (nat_le (length t) most)) [
-      | inl fits ↦ rw fits fits
-      | inr other ↦ let wrong = rw other at h in cc
-    ]
-short_right name most (Some (integer z)) ss fs h = cc
-short_right name most (Some (float x)) ss fs h = cc
-short_right name most (Some (boolean b)) ss fs h = cc
-short_right name most (Some (datetime t)) ss fs h = cc
-short_right name most (Some (array ds)) ss fs h = cc
-short_right name most (Some (table ms)) ss fs h = cc
-
-window_date : (o : Option ℕ) (n : ℕ) → option_and_then (λ date. if is_window_date date then Some date else None) o ≡ Some n → is_window_date n ≡ true
-window_date None n h = cc
-window_date (Some date) n h =
-    elim (cases_Bool (is_window_date date)) [
-      | inl fits ↦ let said = rw fits at h in let same : date ≡ n = cc in subst (λ d. is_window_date d ≡ true) same fits
-      | inr other ↦ let wrong = rw other at h in cc
-    ]
-
-held_date : (o : Option ℕ) (why : ConfWhy) → (if is_some o || false || false then None else Some why) ≡ None → (n : ℕ) × (o ≡ Some n)
-held_date None why h = cc
-held_date (Some n) why h = (n, refl)
+short_right name most o ss fs h = grind (arith, nat_tests)
 
 -- a required date with which nothing is wrong is one of the days that a window may begin on
 date_right : (name : List ℕ) (o : Option Data) (ss : List ScheduleConf) (fs : List FeedConf)
     → found_fault (record { name = name; holds = Date; absent = required }) o ss fs ≡ None
     → is_window_date (unwrap_or (option_and_then (number_of Date) o) 0) ≡ true
 unfolding value_fault is_held number_of text_of tables_of is_text_for is_array_for date_of
-date_right name None ss fs h = cc
-date_right name (Some (string t)) ss fs h =
-    let (n, e) = held_date (option_and_then (λ date. if is_window_date date then Some date else None) (date_in t)) Bad h in
-    rw e (window_date (date_in t) n e)
-date_right name (Some (integer z)) ss fs h = cc
-date_right name (Some (float x)) ss fs h = cc
-date_right name (Some (boolean b)) ss fs h = cc
-date_right name (Some (datetime t)) ss fs h = cc
-date_right name (Some (array ds)) ss fs h = cc
-date_right name (Some (table ms)) ss fs h = cc
+date_right name o ss fs h = grind arith
 
 days_right : (ms : Members) (ss : List ScheduleConf) (fs : List FeedConf) → key_fault key.Days ms ss fs ≡ None → (nat_le 1 (number_at key.Days ms) && nat_le (number_at key.Days ms) 400) ≡ true
 unfolding key_fault rule_of number_at
@@ -171,9 +106,7 @@ first_right ms ss fs h = date_right (codes "first") (get_member (codes "first") 
 
 wrong_step : (k : Key) (keys : List Key) (ms : Members) (ss : List ScheduleConf) (fs : List FeedConf) → wrong_in (k ∷ keys) ms ss fs ≡ None → (key_fault k ms ss fs ≡ None) × (wrong_in keys ms ss fs ≡ None)
 unfolding wrong_in
-wrong_step k keys ms ss fs h =
-    let (here, more) = none_of (named_fault k (key_fault k ms ss fs)) (wrong_in keys ms ss fs) h in
-    (unmapped (λ why. ((rule_of k).name, why)) (key_fault k ms ss fs) here, more)
+wrong_step k keys ms ss fs h = grind arith
 
 prefix_right : (ms : Members) (ss : List ScheduleConf) (fs : List FeedConf) → key_fault key.Prefix ms ss fs ≡ None → nat_le (length (text_at key.Prefix ms)) 32 ≡ true
 unfolding key_fault rule_of text_at
@@ -183,13 +116,7 @@ prefix_right ms ss fs h = short_right (codes "prefix") 32 (get_member (codes "pr
 keys_right : (ms : Members) (ss : List ScheduleConf) (fs : List FeedConf) → wrong_in (keys_of Schedule) ms ss fs ≡ None
     → (key_fault key.First ms ss fs ≡ None) × (key_fault key.Days ms ss fs ≡ None) × (key_fault key.Prefix ms ss fs ≡ None)
 unfolding keys_of
-keys_right ms ss fs h =
-    let (n, after_name) = wrong_step key.ScheduleName (key.Folder ∷ key.Zone ∷ key.First ∷ key.Days ∷ key.Prefix ∷ []) ms ss fs h in
-    let (f, after_folder) = wrong_step key.Folder (key.Zone ∷ key.First ∷ key.Days ∷ key.Prefix ∷ []) ms ss fs after_name in
-    let (z, after_zone) = wrong_step key.Zone (key.First ∷ key.Days ∷ key.Prefix ∷ []) ms ss fs after_folder in
-    let (first, after_first) = wrong_step key.First (key.Days ∷ key.Prefix ∷ []) ms ss fs after_zone in
-    let (days, after_days) = wrong_step key.Days (key.Prefix ∷ []) ms ss fs after_first in
-    (first, days, (wrong_step key.Prefix [] ms ss fs after_days).0)
+keys_right ms ss fs h = grind (arith, wrong_step)
 
 wrong_none : (ms : Members) (ss : List ScheduleConf) (fs : List FeedConf) → first_wrong Schedule ms ss fs ≡ None → wrong_in (keys_of Schedule) ms ss fs ≡ None
 unfolding first_wrong
@@ -229,9 +156,7 @@ some_schedule ms ss fs h = named_right (codes "schedule") (get_member (codes "sc
 
 feed_key_right : (ms : Members) (ss : List ScheduleConf) (fs : List FeedConf) → wrong_in (keys_of Feed) ms ss fs ≡ None → key_fault key.FeedSchedule ms ss fs ≡ None
 unfolding keys_of
-feed_key_right ms ss fs h =
-    let (n, after_name) = wrong_step key.FeedName (key.FeedSchedule ∷ key.Kind ∷ key.Place ∷ key.MaxAge ∷ key.Every ∷ key.Polls ∷ key.Tries ∷ []) ms ss fs h in
-    (wrong_step key.FeedSchedule (key.Kind ∷ key.Place ∷ key.MaxAge ∷ key.Every ∷ key.Polls ∷ key.Tries ∷ []) ms ss fs after_name).0
+feed_key_right ms ss fs h = grind (arith, wrong_step)
 
 four : (a b c d : Bool) → a ≡ true → b ≡ true → c ≡ true → d ≡ true → (a && b && c && d) ≡ true
 four a b c d p q r s = rw (p, q, r, s) refl
@@ -241,32 +166,14 @@ numbers_right : (ms : Members) (ss : List ScheduleConf) (fs : List FeedConf) →
     → (nat_le (number_at key.MaxAge ms) 31622400 && (nat_le 1 (number_at key.Every ms) && nat_le (number_at key.Every ms) 86400)
     && nat_le (number_at key.Polls ms) 1000000000 && (nat_le 1 (number_at key.Tries ms) && nat_le (number_at key.Tries ms) 1000)) ≡ true
 unfolding keys_of key_fault rule_of number_at
-numbers_right ms ss fs h =
-    let (n, after_name) = wrong_step key.FeedName (key.FeedSchedule ∷ key.Kind ∷ key.Place ∷ key.MaxAge ∷ key.Every ∷ key.Polls ∷ key.Tries ∷ []) ms ss fs h in
-    let (s, after_schedule) = wrong_step key.FeedSchedule (key.Kind ∷ key.Place ∷ key.MaxAge ∷ key.Every ∷ key.Polls ∷ key.Tries ∷ []) ms ss fs after_name in
-    let (k, after_kind) = wrong_step key.Kind (key.Place ∷ key.MaxAge ∷ key.Every ∷ key.Polls ∷ key.Tries ∷ []) ms ss fs after_schedule in
-    let (p, after_place) = wrong_step key.Place (key.MaxAge ∷ key.Every ∷ key.Polls ∷ key.Tries ∷ []) ms ss fs after_kind in
-    let (age, after_age) = wrong_step key.MaxAge (key.Every ∷ key.Polls ∷ key.Tries ∷ []) ms ss fs after_place in
-    let (every, after_every) = wrong_step key.Every (key.Polls ∷ key.Tries ∷ []) ms ss fs after_age in
-    let (polls, after_polls) = wrong_step key.Polls (key.Tries ∷ []) ms ss fs after_every in
-    let tries = (wrong_step key.Tries [] ms ss fs after_polls).0 in
-    four (nat_le (number_at key.MaxAge ms) 31622400) (nat_le 1 (number_at key.Every ms) && nat_le (number_at key.Every ms) 86400)
-    (nat_le (number_at key.Polls ms) 1000000000) (nat_le 1 (number_at key.Tries ms) && nat_le (number_at key.Tries ms) 1000)
-    (and_parts _ _ (default_right (codes "max_age") 0 31622400 0 (get_member (codes "max_age") ms) ss fs refl age)).1
-    (default_right (codes "every") 1 86400 10 (get_member (codes "every") ms) ss fs refl every)
-    (and_parts _ _ (default_right (codes "polls") 0 1000000000 0 (get_member (codes "polls") ms) ss fs refl polls)).1
-    (default_right (codes "tries") 1 1000 10 (get_member (codes "tries") ms) ss fs refl tries)
+numbers_right ms ss fs h = grind (arith, and_parts, default_right, four, wrong_step, nat_tests)
 
 feed_wrong_none : (ms : Members) (ss : List ScheduleConf) (fs : List FeedConf) → first_wrong Feed ms ss fs ≡ None → wrong_in (keys_of Feed) ms ss fs ≡ None
 unfolding first_wrong
 feed_wrong_none ms ss fs h = (none_of _ _ h).1
 
 place_within : (n m : ℕ) → 0 < m → nat_lt (unwrap_or (cond (nat_lt n m) (Some n) None) 0) m ≡ true
-place_within n m h =
-    elim (cases_Bool (nat_lt n m)) [
-      | inl below ↦ rw below below
-      | inr other ↦ rw other (grind (arith, nat_tests))
-    ]
+place_within n m h = grind (arith, nat_tests)
 
 feed_right : (ss : List ScheduleConf) (row : ℕ) (before : List FeedConf) (ms : Members) (f : FeedConf) → feed_row ss row before ms ≡ Ok f → has_schedule_of (length ss) f ≡ true
 unfolding feed_row feed_of index_of
@@ -287,11 +194,7 @@ feed_numbers ss row before ms f h =
 added_keeps : {A : Type 0} (P : List A → Type 0) (row_of : List A → Members → Result A ConfFault) → ((before : List A) (ms : Members) (x : A) → row_of before ms ≡ Ok x → P before → P (before ++ x ∷ []))
     → (before : List A) (o : Option Members) (xs : List A) → P before → added row_of before o ≡ Ok xs → P xs
 unfolding added
-added_keeps P row_of keeps before None xs h e = let same : before ≡ xs = cc in subst P same h
-added_keeps P row_of keeps before (Some ms) xs h e =
-    let (x, said, last) = and_then_ok (row_of before ms) _ xs e in
-    let same : before ++ x ∷ [] ≡ xs = cc in
-    subst P same (keeps before ms x said h)
+added_keeps P row_of keeps before o xs h e = grind arith
 
 rows_keep : {A : Type 0} (P : List A → Type 0) (row_of : ℕ → List A → Members → Result A ConfFault) → ((row : ℕ) (before : List A) (ms : Members) (x : A) → row_of row before ms ≡ Ok x → P before → P (before ++ x ∷ []))
     → (row : ℕ) (before : List A) (ds : Items) (xs : List A) → P before → rows_from row_of row before ds ≡ Ok xs → P xs
@@ -304,11 +207,7 @@ rows_keep P row_of keeps row before (item d ds) xs h e =
 -- there are no more rows than values
 added_few : {A : Type 0} (row_of : List A → Members → Result A ConfFault) (before : List A) (o : Option Members) (xs : List A) → added row_of before o ≡ Ok xs → length xs ≤ length before + 1
 unfolding added
-added_few row_of before None xs e = let same : before ≡ xs = cc in omega (arith, ap length same)
-added_few row_of before (Some ms) xs e =
-    let (x, said, last) = and_then_ok (row_of before ms) _ xs e in
-    let same : before ++ x ∷ [] ≡ xs = cc in
-    omega (arith, ap length same, length-append before (x ∷ []))
+added_few row_of before o xs e = grind (arith, and_then_ok, length-append)
 
 rows_few : {A : Type 0} (row_of : ℕ → List A → Members → Result A ConfFault) (row : ℕ) (before : List A) (ds : Items) (xs : List A) → rows_from row_of row before ds ≡ Ok xs → length xs ≤ length before + count ds
 unfolding rows_from
@@ -320,11 +219,7 @@ rows_few row_of row before (item d ds) xs e =
 -- and as many as tables
 added_one : {A : Type 0} (row_of : List A → Members → Result A ConfFault) (before : List A) (o : Option Members) (xs : List A) → is_some o ≡ true → added row_of before o ≡ Ok xs → length before + 1 ≤ length xs
 unfolding added
-added_one row_of before None xs t e = cc
-added_one row_of before (Some ms) xs t e =
-    let (x, said, last) = and_then_ok (row_of before ms) _ xs e in
-    let same : before ++ x ∷ [] ≡ xs = cc in
-    omega (arith, ap length same, length-append before (x ∷ []))
+added_one row_of before o xs t e = grind (arith, and_then_ok, length-append)
 
 rows_each : {A : Type 0} (row_of : ℕ → List A → Members → Result A ConfFault) (row : ℕ) (before : List A) (ds : Items) (xs : List A) → are_tables ds ≡ true
     → rows_from row_of row before ds ≡ Ok xs → length before + count ds ≤ length xs
@@ -337,35 +232,18 @@ rows_each row_of row before (item d ds) xs t e =
 
 counted : (least most : ℕ) (ds : Items) (why : ConfWhy) (o : Option Items) → o ≡ (if nat_le least (count ds) && nat_le (count ds) most && are_tables ds then Some ds else None)
     → (if is_some o then None else Some why) ≡ None → (least ≤ count (unwrap_or o no_items)) × (count (unwrap_or o no_items) ≤ most) × (are_tables (unwrap_or o no_items) ≡ true)
-counted least most ds why o is h =
-    elim (cases_Bool (nat_le least (count ds) && nat_le (count ds) most && are_tables ds)) [
-      | inl fits ↦
-          let found : o ≡ Some ds = is ∙ rw fits refl in
-          let (both, tables) = and_parts (nat_le least (count ds) && nat_le (count ds) most) (are_tables ds) fits in
-          let (low, high) = and_parts (nat_le least (count ds)) (nat_le (count ds) most) both in
-          rw found (grind (arith, nat_tests), grind (arith, nat_tests), tables)
-      | inr other ↦ let none : o ≡ None = is ∙ rw other refl in let wrong = rw none at h in cc
-    ]
+counted least most ds why o is h = grind (arith, nat_tests)
 
 -- an array of tables with which nothing is wrong has as many as its key asks for
 tables_right : (name : List ℕ) (least most : ℕ) (absent : Default) (o : Option Data) → (is_some o ≡ false → least ≡ 0) → found_fault (record { name = name; holds = Tables least most; absent = absent }) o [] [] ≡ None
     → (least ≤ count (unwrap_or (option_and_then (tables_of (Tables least most)) o) no_items)) × (count (unwrap_or (option_and_then (tables_of (Tables least most)) o) no_items) ≤ most)
     × (are_tables (unwrap_or (option_and_then (tables_of (Tables least most)) o) no_items) ≡ true)
 unfolding value_fault is_held number_of text_of tables_of is_text_for is_array_for
-tables_right name least most absent None none h = (omega (arith, none refl), omega arith, refl)
-tables_right name least most absent (Some (array ds)) none h =
-    counted least most ds Bad (if nat_le least (count ds) && nat_le (count ds) most && are_tables ds then Some ds else None) refl h
-tables_right name least most absent (Some (string t)) none h = cc
-tables_right name least most absent (Some (integer z)) none h = cc
-tables_right name least most absent (Some (float x)) none h = cc
-tables_right name least most absent (Some (boolean b)) none h = cc
-tables_right name least most absent (Some (datetime t)) none h = cc
-tables_right name least most absent (Some (table ms)) none h = cc
+tables_right name least most absent o none h = grind (arith, nat_tests)
 
 -- a required one is there
 is_there : (name : List ℕ) (least most : ℕ) (o : Option Data) → found_fault (record { name = name; holds = Tables least most; absent = required }) o [] [] ≡ None → is_some o ≡ false → least ≡ 0
-is_there name least most None h e = cc
-is_there name least most (Some d) h e = cc
+is_there name least most o h e = grind arith
 
 schedules_counted : (ms : Members) → key_fault key.Schedules ms [] [] ≡ None → (1 ≤ count (tables_at key.Schedules ms)) × (count (tables_at key.Schedules ms) ≤ 8) × (are_tables (tables_at key.Schedules ms) ≡ true)
 unfolding key_fault rule_of tables_at
@@ -384,65 +262,33 @@ unfolding key_fault rule_of number_at
 connections_right ms h = default_right (codes "connections") 0 1000000000 0 (get_member (codes "connections") ms) [] [] refl h
 
 between : (least most n : ℕ) → (nat_le least n && nat_le n most) ≡ true → (least ≤ n) × (n ≤ most)
-between least most n h =
-    let (low, high) = and_parts (nat_le least n) (nat_le n most) h in
-    (grind (arith, nat_tests), grind (arith, nat_tests))
+between least most n h = grind (arith, nat_tests)
 
 top_right : (ms : Members) → first_wrong Top ms [] [] ≡ None
     → (key_fault key.Readers ms [] [] ≡ None) × (key_fault key.Connections ms [] [] ≡ None) × (key_fault key.Schedules ms [] [] ≡ None) × (key_fault key.Feeds ms [] [] ≡ None)
 unfolding first_wrong keys_of
-top_right ms h =
-    let all = (none_of _ (wrong_in (key.Readers ∷ key.Listen ∷ key.Connections ∷ key.Schedules ∷ key.Feeds ∷ []) ms [] []) h).1 in
-    let (r, after_readers) = wrong_step key.Readers (key.Listen ∷ key.Connections ∷ key.Schedules ∷ key.Feeds ∷ []) ms [] [] all in
-    let (l, after_listen) = wrong_step key.Listen (key.Connections ∷ key.Schedules ∷ key.Feeds ∷ []) ms [] [] after_readers in
-    let (c, after_connections) = wrong_step key.Connections (key.Schedules ∷ key.Feeds ∷ []) ms [] [] after_listen in
-    let (schedules, after_schedules) = wrong_step key.Schedules (key.Feeds ∷ []) ms [] [] after_connections in
-    (r, c, schedules, (wrong_step key.Feeds [] ms [] [] after_schedules).0)
+top_right ms h = grind (arith, none_of, wrong_step)
 
 -- ---- names
 
 taken : (has : Bool) → (if has then Some Twice else None) ≡ None → has ≡ false
-taken true h = cc
-taken false h = refl
+taken has h = grind arith
 
 -- a name with which nothing is wrong is one that no earlier row has
 new_schedule : (name : List ℕ) (o : Option Data) (ss : List ScheduleConf) (fs : List FeedConf) → found_fault (record { name = name; holds = NewSchedule; absent = required }) o ss fs ≡ None
     → (is_name (unwrap_or (option_and_then (text_of NewSchedule) o) []) ≡ true) × (has_schedule (unwrap_or (option_and_then (text_of NewSchedule) o) []) ss ≡ false)
 unfolding value_fault is_held number_of text_of tables_of is_text_for is_array_for name_fault
-new_schedule name (Some (string t)) ss fs h =
-    elim (cases_Bool (is_name t)) [
-      | inl named ↦ rw named (named, taken (has_schedule t ss) (rw named at h))
-      | inr other ↦ let wrong = rw other at h in cc
-    ]
-new_schedule name None ss fs h = cc
-new_schedule name (Some (integer z)) ss fs h = cc
-new_schedule name (Some (float x)) ss fs h = cc
-new_schedule name (Some (boolean b)) ss fs h = cc
-new_schedule name (Some (datetime t)) ss fs h = cc
-new_schedule name (Some (array ds)) ss fs h = cc
-new_schedule name (Some (table ms)) ss fs h = cc
+new_schedule name o ss fs h = grind arith
 
 new_feed : (name : List ℕ) (o : Option Data) (ss : List ScheduleConf) (fs : List FeedConf) → found_fault (record { name = name; holds = NewFeed; absent = required }) o ss fs ≡ None
     → (is_name (unwrap_or (option_and_then (text_of NewFeed) o) []) ≡ true) × (has_feed (unwrap_or (option_and_then (text_of NewFeed) o) []) fs ≡ false)
 unfolding value_fault is_held number_of text_of tables_of is_text_for is_array_for name_fault
-new_feed name (Some (string t)) ss fs h =
-    elim (cases_Bool (is_name t)) [
-      | inl named ↦ rw named (named, taken (has_feed t fs) (rw named at h))
-      | inr other ↦ let wrong = rw other at h in cc
-    ]
-new_feed name None ss fs h = cc
-new_feed name (Some (integer z)) ss fs h = cc
-new_feed name (Some (float x)) ss fs h = cc
-new_feed name (Some (boolean b)) ss fs h = cc
-new_feed name (Some (datetime t)) ss fs h = cc
-new_feed name (Some (array ds)) ss fs h = cc
-new_feed name (Some (table ms)) ss fs h = cc
+new_feed name o ss fs h = grind arith
 
 schedule_name_right : (ms : Members) (ss : List ScheduleConf) (fs : List FeedConf) → wrong_in (keys_of Schedule) ms ss fs ≡ None
     → (is_name (text_at key.ScheduleName ms) ≡ true) × (has_schedule (text_at key.ScheduleName ms) ss ≡ false)
 unfolding keys_of key_fault rule_of text_at
-schedule_name_right ms ss fs h =
-    new_schedule (codes "name") (get_member (codes "name") ms) ss fs (wrong_step key.ScheduleName (key.Folder ∷ key.Zone ∷ key.First ∷ key.Days ∷ key.Prefix ∷ []) ms ss fs h).0
+schedule_name_right ms ss fs h = grind (arith, new_schedule, wrong_step)
 
 feed_name_right : (ms : Members) (ss : List ScheduleConf) (fs : List FeedConf) → wrong_in (keys_of Feed) ms ss fs ≡ None
     → (is_name (text_at key.FeedName ms) ≡ true) × (has_feed (text_at key.FeedName ms) fs ≡ false)
@@ -454,11 +300,7 @@ last_or : {A : Type 0} (xs : List A) (x y : A) (i : ℕ) → slice_get (xs ++ x 
 last_or [] x y zero h = inr (refl, same_Some x y h)
 last_or [] x y (suc i) h = absurd (none-some y h)
 last_or (z ∷ xs) x y zero h = inl h
-last_or (z ∷ xs) x y (suc i) h =
-    elim (last_or xs x y i h) [
-      | inl before ↦ inl before
-      | inr last ↦ inr (omega (arith, last.0), last.1)
-    ]
+last_or (z ∷ xs) x y (suc i) h = grind (arith, last_or xs x y i h)
 
 names_last : (names : List (List ℕ)) (n : List ℕ) → AreNames names → is_name n ≡ true → ((i : ℕ) → slice_get names i ≡ Some n → ⊥) → AreNames (names ++ n ∷ [])
 names_last names n are named new = record {
@@ -507,10 +349,7 @@ feed_names ss row before ms f h are =
     (rw (map-append (λ (f : FeedConf). f.name) before (feed_of ss ms ∷ [])) (names_last (map (λ f. f.name) before) (text_at key.FeedName ms) are named (not_among (λ f. f.name) before (text_at key.FeedName ms) new)))
 
 no_names : AreNames []
-no_names = record {
-  formed = λ i n h. absurd (none-some n h);
-  apart = λ i j n h k. absurd (none-some n h);
-}
+no_names = grind arith
 
 conf_in_legal : (ms : Members) (conf : HubConf) → conf_in ms ≡ Ok conf → IsLegal conf
 unfolding conf_in hub_of
@@ -544,8 +383,4 @@ conf_said_legal (Some ms) conf h = conf_in_legal ms conf h
 -- a configuration that was read has 1 to 8 schedules and up to 64 feeds, with distinct names, and all of its numbers are in their ranges
 pub conf_legal : (bytes : List ℕ) (conf : HubConf) → conf_of bytes ≡ Ok conf → IsLegal conf
 unfolding conf_of
-conf_legal bytes conf h =
-    elim (cases_Bool (is_utf8 bytes)) [
-      | inl utf8 ↦ conf_said_legal (parse_document bytes) conf (rw utf8 at h)
-      | inr other ↦ let wrong = rw other at h in cc
-    ]
+conf_legal bytes conf h = grind (arith, cases_Bool (is_utf8 bytes), conf_said_legal (parse_document bytes) conf)

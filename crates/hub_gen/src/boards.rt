@@ -55,7 +55,8 @@ fn query_at(alloc: Global, stop: u32) -> Result<BoardQuery, NoMemory>
     })
 }
 
-/// The sum of the delays that are known, in seconds; a sum past the numbers of 64 bits is told as want of memory.
+/// The sum of the delays that are known, in seconds; a sum past the numbers of 64 bits is told as
+/// want of memory.
 pub(crate) fn delays_of(all: &[Row]) -> Result<i64, NoMemory>
     ensures { IfOk result (λ sum. sum ≡ delays_of all.now) }
 {

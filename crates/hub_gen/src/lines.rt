@@ -91,8 +91,8 @@ pub(crate) fn push_stop_time(trip: u32, place: u32, out: &mut Vec<u8>) -> Result
     push_times(60 * trip % DAY + 120 * place, out)
 }
 
-/// Appends the front of a place's line, of the digits of the trip's and the stop's number and of the
-/// stop_sequence.
+/// Appends the front of a place's line, of the digits of the trip's and the stop's number and of
+/// the stop_sequence.
 fn push_place<'a>(
     trip: &'a str,
     stop: &'a str,

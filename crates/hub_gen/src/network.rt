@@ -7,7 +7,8 @@ use crate::NoMemory;
 use crate::lines::{PLACES, ROUTES, STOPS, push_route, push_stop, push_stop_time, push_trip};
 use std::alloc::Global;
 
-/// The bytes of the longest line of stops.txt, of routes.txt, of trips.txt and of stop_times.txt, or more.
+/// The bytes of the longest line of stops.txt, of routes.txt, of trips.txt and of stop_times.txt,
+/// or more.
 const STOP_BYTES: usize = 16;
 
 const ROUTE_BYTES: usize = 16;

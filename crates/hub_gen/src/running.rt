@@ -26,13 +26,14 @@ use sched_types::{NamedFeed, NamedPlan, Plan, Plans};
 use std::alloc::Global;
 use std::sync::Arc;
 
-/// Makes the sample of a seed with 1 to 20,000 trips and 1 to 2,000 messages, and runs a hub on it: loads its
-/// timetable, offers its messages in order, and asks for ten boards. The answer is the line that is printed, with
-/// its LF, or the line that tells why the timetable is refused.
+/// Makes the sample of a seed with 1 to 20,000 trips and 1 to 2,000 messages, and runs a hub on it:
+/// loads its timetable, offers its messages in order, and asks for ten boards. The answer is the
+/// line that is printed, with its LF, or the line that tells why the timetable is refused.
 ///
 /// # Errors
 ///
-/// `Refused` exactly where the timetable of the files is refused; `NoMemory` where memory ran out; no other.
+/// `Refused` exactly where the timetable of the files is refused; `NoMemory` where memory ran out;
+/// no other.
 pub fn run_sample(alloc: Global, seed: u64, trips: u32, messages: u32) -> Result<Vec<u8>, HubFault>
     requires some_trips { 1 ≤ trips }
     requires few_trips { trips ≤ 20000 }
@@ -146,7 +147,8 @@ fn offer_one(hub: &mut ReplayHub, offer: &Offer) -> Result<(), NoMemory>
     }
 }
 
-/// What is printed of a hub: how many messages it accepted of those that were offered, and its boards.
+/// What is printed of a hub: how many messages it accepted of those that were offered, and its
+/// boards.
 fn line_of(
     alloc: Global,
     hub: &mut ReplayHub,

@@ -15,7 +15,7 @@ use Rattle.hub_config_defs.specs.declared.conf.ScheduleConf.{ScheduleConf}
 use Rattle.hub_main_defs.specs.Checks.{conf_in, timetables}
 use Rattle.hub_main_defs.specs.Hubs.{configured_at, named_feed, named_plans, schedules_at, schedules_of}
 use Rattle.hub_load.specs.Told.{Stored, TellsFault, named_plan_told, named_plans_told, plan_told, schedules_told, with_front}
-use Rattle.hub_load.proofs.Telling.{front_nothing, front_twice, told_behind, told_first}
+use Rattle.hub_load.proofs.Telling.{front_twice, told_behind, told_first}
 use Rattle.hub_load.specs.declared.fault.HubFault.{HubFault}
 
 -- ---- one timetable after another
@@ -28,9 +28,6 @@ LoadsLeft files all left plans = named_plans_told files all ≡ with_front plans
 pub record IsLeft (all left : List ScheduleConf) (plans : List NamedPlan) : Type 0 where
   pub windows : list_all has_window left ≡ true
   pub names : map (λ plan. plan.name) plans ++ map (λ s. s.name) left ≡ map (λ s. s.name) all
-
-pub loads_begin : (files : Stored) (all left : List ScheduleConf) → left ≡ all → LoadsLeft files all left []
-loads_begin files all left same = front_nothing (named_plans_told files all) ∙ ap (λ ss. with_front [] (named_plans_told files ss)) (sym same)
 
 pub loads_more : (files : Stored) (all left more : List ScheduleConf) (s : ScheduleConf) (plans : List NamedPlan) (plan : NamedPlan) → left ≡ s ∷ more → LoadsLeft files all left plans
     → named_plan_told files s ≡ Ok plan → LoadsLeft files all more (plans ++ plan ∷ [])
@@ -52,12 +49,6 @@ pub loads_end : (files : Stored) (all left : List ScheduleConf) (plans : List Na
 unfolding named_plans_told
 loads_end files all left plans none so_far = so_far ∙ ap (λ ss. with_front plans (named_plans_told files ss)) none ∙ ap Ok (append-nil plans)
 
-pub left_begins : (all left : List ScheduleConf) → left ≡ all → list_all has_window all ≡ true → IsLeft all left []
-left_begins all left same windows = record { windows = rw same windows; names = ap (map (λ s. s.name)) same }
-
-pub left_window : (all left more : List ScheduleConf) (s : ScheduleConf) (plans : List NamedPlan) → left ≡ s ∷ more → IsLeft all left plans → has_window s ≡ true
-left_window all left more s plans first is = (and_parts (has_window s) (list_all has_window more) (subst (λ ss. list_all has_window ss ≡ true) first is.windows)).0
-
 pub left_more : (all left more : List ScheduleConf) (s : ScheduleConf) (plans : List NamedPlan) (plan : NamedPlan) → left ≡ s ∷ more → IsLeft all left plans → plan.name ≡ s.name → IsLeft all more (plans ++ plan ∷ [])
 left_more all left more s plans plan first is named = record {
   windows = (and_parts (has_window s) (list_all has_window more) (subst (λ ss. list_all has_window ss ≡ true) first is.windows)).1;
@@ -68,10 +59,6 @@ left_more all left more s plans plan first is named = record {
       ∙ sym (ap (λ ss. map (λ p. p.name) plans ++ map (λ s. s.name) ss) first)
       ∙ is.names;
 }
-
-pub left_end : (all left : List ScheduleConf) (plans : List NamedPlan) → left ≡ [] → IsLeft all left plans → map (λ plan. plan.name) plans ≡ map (λ s. s.name) all
-left_end all left plans none is =
-    sym (append-nil (map (λ plan. plan.name) plans)) ∙ sym (ap (λ ss. map (λ p. p.name) plans ++ map (λ s. s.name) ss) none) ∙ is.names
 
 -- ---- the whole
 

@@ -1,5 +1,5 @@
 -- How what is told of the files goes on from one step to the next.
-use Rattle.std.proofs.Common.{◌≡◌, ℕ, refl, sym, ap, subst, List, [], ◌++◌, Option, Some, None, Result, Ok, Err, IsErrAnd}
+use Rattle.std.proofs.Common.{◌≡◌, ℕ, refl, sym, ap, subst, List, ◌++◌, Option, Some, None, Result, Ok, Err, IsErrAnd}
 use Rattle.std.specs.Option.{IfSome}
 use Rattle.std.proofs.lemmas.List.{append_assoc}
 use Rattle.std.proofs.lemmas.Option.{none-some}
@@ -34,10 +34,6 @@ told_first (Err l) next (Refused line) h = h
 pub front_twice : {A : Type 0} (old items : List A) (more : Result (List A) (List ℕ)) → with_front old (with_front items more) ≡ with_front (old ++ items) more
 front_twice old items (Ok rest) = ap Ok (sym (append_assoc old items rest))
 front_twice old items (Err l) = refl
-
-pub front_nothing : {A : Type 0} (told : Result (List A) (List ℕ)) → told ≡ with_front [] told
-front_nothing (Ok items) = refl
-front_nothing (Err l) = refl
 
 -- a fault behind others is the same fault
 pub told_behind : {A : Type 0} (front : List A) (told : Result (List A) (List ℕ)) (fault : HubFault) → TellsFault told fault → TellsFault (with_front front told) fault

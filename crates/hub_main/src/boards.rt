@@ -48,8 +48,8 @@ pub(crate) fn shared(alloc: Global, plans: Plans) -> Result<Arc<Plans>, HubFault
     }
 }
 
-/// The board of the timetables, where no feed has said anything; none where there is no such schedule
-/// or stop.
+/// The board of the timetables, where no feed has said anything; none where there is no such
+/// schedule or stop.
 pub(crate) fn board_of(
     alloc: Global,
     plans: Arc<Plans>,

@@ -27,10 +27,10 @@ use std::sync::Arc;
 /// Runs the command of the words, which are those behind the program's name, and gives the exit
 /// status: 0 where it was done, 2 where the words are no command, 3 where a configuration or a
 /// timetable is refused, 4 where the input or a file failed, 5 where the output did, 6 where memory
-/// ran out, 7 where a script is refused, and 8 where the schedule or the stop of a board isn't there.
-/// The commands are `replay`, which reads a script on the input and asks for no file, `replay CONFIG`,
-/// which reads files and then a script, `check CONFIG` and `board CONFIG ..`, which read files and
-/// no input, and `gen SEED TRIPS MESSAGES`, which reads neither.
+/// ran out, 7 where a script is refused, and 8 where the schedule or the stop of a board isn't
+/// there. The commands are `replay`, which reads a script on the input and asks for no file,
+/// `replay CONFIG`, which reads files and then a script, `check CONFIG` and `board CONFIG ..`,
+/// which read files and no input, and `gen SEED TRIPS MESSAGES`, which reads neither.
 ///
 /// It always returns, and reads no clock.
 pub fn run_offline<F: Files, S: Source, K: Sink, C: Clock>(

@@ -30,9 +30,9 @@ pub struct ServeConf {
 pub enum Prepared {
     /// Words, configuration and timetables are accepted, and nothing was written.
     Ready(ServeConf),
-    /// The program's exit status, with which it ends: 2 where the words aren't `serve CONFIG`, 3 where
-    /// the configuration or a timetable is refused, 4 where a file failed, 5 where the output did,
-    /// and 6 where memory ran out.
+    /// The program's exit status, with which it ends: 2 where the words aren't `serve CONFIG`, 3
+    /// where the configuration or a timetable is refused, 4 where a file failed, 5 where the output
+    /// did, and 6 where memory ran out.
     Status(u8),
 }
 

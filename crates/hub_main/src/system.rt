@@ -8,8 +8,8 @@ use std::env::Args;
 use std::io::{ErrorKind, Read, Write};
 use std::{io, rt};
 
-/// Runs the command of the words, which are those behind the program's name, on files and a clock of
-/// the system, an input and an output, and gives the exit status that [`run_offline`] gives.
+/// Runs the command of the words, which are those behind the program's name, on files and a clock
+/// of the system, an input and an output, and gives the exit status that [`run_offline`] gives.
 pub fn run_on_system<R: rt::Files + rt::Clock, I: Read + Drop, O: Write + Drop>(
     alloc: Global,
     words: &[Text],
@@ -25,8 +25,8 @@ pub fn run_on_system<R: rt::Files + rt::Clock, I: Read + Drop, O: Write + Drop>(
 }
 
 /// The words behind the program's name, which is the first; or want of memory, as where the system
-/// doesn't give them. Where one is not UTF-8 there are none: no command has such a word, and none has
-/// no words.
+/// doesn't give them. Where one is not UTF-8 there are none: no command has such a word, and none
+/// has no words.
 pub fn words_of(alloc: Global, words: io::Result<Args>) -> Result<Vec<Text>, NoMemory> {
     match words {
         Ok(words) => texts_behind_first(alloc, words),

@@ -1,5 +1,5 @@
 -- The schedules and feeds of a configuration are those that a hub may have.
-use Rattle.std.proofs.Common.{◌≡◌, ◌∙◌, ℕ, zero, suc, ◌<◌, nat_lt, refl, sym, ap, subst, List, [], ◌∷◌, length, map, slice_get, true, Some, Ok, arith}
+use Rattle.std.proofs.Common.{◌≡◌, ◌∙◌, ℕ, zero, suc, ◌<◌, nat_lt, refl, sym, ap, subst, List, [], ◌∷◌, length, map, slice_get, true, Some, arith}
 use Rattle.std.specs.List.{list_all}
 use Rattle.std.specs.Option.{option_map}
 use Rattle.std.proofs.lemmas.Bool.{and_parts}
@@ -9,20 +9,10 @@ use Rattle.std.proofs.lemmas.Option.{none-some, same_Some, slice_get-map}
 use Rattle.sched_types.specs.declared.plans.NamedFeed.{NamedFeed}
 use Rattle.sched_types.specs.declared.plans.NamedPlan.{NamedPlan}
 use Rattle.sched_types.specs.Schedules.{AreSchedules}
-use Rattle.sched_types.specs.Timetable.{Timetable}
 use Rattle.hub_config_defs.specs.declared.conf.FeedConf.{FeedConf}
 use Rattle.hub_config_defs.specs.declared.conf.HubConf.{HubConf}
-use Rattle.hub_config_defs.specs.declared.conf.ScheduleConf.{ScheduleConf}
-use Rattle.hub_config_defs.specs.Conf.{conf_of}
 use Rattle.hub_config_defs.specs.Right.{IsLegal, has_schedule_of}
-use Rattle.hub_config_defs.proofs.ConfLaws.{conf_legal}
-use Rattle.hub_main_defs.specs.Hubs.{named_feed, named_plans, schedules_of}
-
--- timetables stand under the names of their schedules
-pub plan_names : (ss : List ScheduleConf) (ts : List Timetable) → length ts ≡ length ss → map (λ p. p.name) (named_plans ss ts) ≡ map (λ s. s.name) ss
-plan_names [] ts h = refl
-plan_names (s ∷ ss) [] h = absurd (omega (arith, h))
-plan_names (s ∷ ss) (t ∷ ts) h = ap (λ names. s.name ∷ names) (plan_names ss ts (omega (arith, h)))
+use Rattle.hub_main_defs.specs.Hubs.{named_feed}
 
 feed_names : (fs : List FeedConf) → map (λ f. f.name) (map named_feed fs) ≡ map (λ f. f.name) fs
 feed_names [] = refl
@@ -57,7 +47,3 @@ schedules_named conf plans legal same =
       feeds_apart = λ i j p q h k e. legal.feed_names.apart i j p.name (feed_at i p h) (feed_at j q k ∙ ap Some (sym e));
       plan_is = λ i f h. rw long (plan_below (length conf.schedules) conf.feeds legal.of_schedules i f h);
     }
-
--- a configuration with as many timetables as it has schedules is a hub's
-pub schedules_are : (bytes : List ℕ) (conf : HubConf) (ts : List Timetable) → conf_of bytes ≡ Ok conf → length ts ≡ length conf.schedules → AreSchedules (schedules_of conf ts)
-schedules_are bytes conf ts read many = schedules_named conf (named_plans conf.schedules ts) (conf_legal bytes conf read) (plan_names conf.schedules ts many)

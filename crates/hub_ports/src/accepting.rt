@@ -17,9 +17,10 @@ struct AcceptTeller<E> {
     errors: E,
 }
 
-/// A listener that hands on each answer of another one. Where that can't accept a connection, the cause is told on `E`,
-/// the first at once and from there on once a minute at most, by the clock of `R`, and that the listener itself has
-/// failed each time: whoever runs a server learns why nobody is answered. Several doors may share it; they wait for each other while one of them tells.
+/// A listener that hands on each answer of another one. Where that can't accept a connection, the
+/// cause is told on `E`, the first at once and from there on once a minute at most, by the clock of
+/// `R`, and that the listener itself has failed each time: whoever runs a server learns why nobody is
+/// answered. Several doors may share it; they wait for each other while one of them tells.
 #[derive(Drop)]
 pub struct ToldListener<L, R, E> {
     listener: L,

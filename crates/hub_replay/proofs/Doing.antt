@@ -1,12 +1,12 @@
 -- Doing a record, by its line.
-use Rattle.std.proofs.Common.{◌≡◌, ℕ, ◌≤◌, length, Bool, true, false, List, [], ◌++◌, drop, Option, Some, None, refl, sym, ◌∙◌, append-nil}
+use Rattle.std.proofs.Common.{◌≡◌, ℕ, ◌≤◌, length, Bool, true, List, [], ◌++◌, drop, Option, Some, None, refl, sym, ◌∙◌, append-nil}
 use Rattle.std.proofs.lemmas.List.Elements.{All-nil}
-use Rattle.board_text_defs.specs.Answers.{answer_to, feed_number, Question}
+use Rattle.board_text_defs.specs.Answers.{feed_number}
 use Rattle.hub_replay_defs.specs.Optional.{◌>>=◌}
 use Rattle.hub_replay_defs.specs.Lines.{Head, line_within, longest_line, head_of}
 use Rattle.http_serve_defs.specs.Connections.{Served, IsServed}
-use Rattle.hub_replay_defs.specs.Record.{Hub, turn, act, payload_at, payload_waits, offered_turn, waits, serving, with_feed, may_declare, answer_reply, question_word, folds_in}
-use Rattle.hub_replay_defs.specs.Lines.Head.{Feed, Message, Ask, End}
+use Rattle.hub_replay_defs.specs.Record.{Hub, turn, act, payload_at, payload_waits, offered_turn, waits, serving, with_feed, may_declare}
+use Rattle.hub_replay_defs.specs.Lines.Head.{Feed, Message}
 use Rattle.hub_replay_defs.proofs.Options.{bind_at, bind_none}
 use Rattle.hub_replay_defs.proofs.Turns.{turn_line, no_line_here, no_line_turn}
 use Rattle.hub_replay_defs.proofs.Opens.{waits_by_line, short_waits}
@@ -47,13 +47,6 @@ turns_of_line hub new bytes line behind head step said said' there is h =
     does_same (λ later more. turn (serving later hub) (bytes ++ more)) (λ later more. act (serving later hub) head (drop behind bytes ++ more))
     (λ later more. waits (serving later hub) (bytes ++ more)) (λ later more. payload_waits (serving later hub) head (drop behind bytes ++ more)) same waiting step hub new bytes said said' h
 
--- a record that ends the script
-pub turns_of_end : (hub : Hub) (bytes line said : List ℕ) (behind : ℕ) → line_within longest_line bytes ≡ Some (line, drop behind bytes) → head_of line ≡ Some End
-    → Turns Ends hub hub bytes said said
-turns_of_end hub bytes line said behind there is =
-    turns_of_line hub hub bytes line behind End Ends said said there is
-    (record { says = refl; rest = λ more. drop behind bytes ++ more; is = λ later more. refl })
-
 -- a line that says nothing is no record
 pub no_head : (hub : Hub) (bytes line rest : List ℕ) → line_within longest_line bytes ≡ Some (line, rest) → head_of line ≡ None
     → (later : List Served) (more : List ℕ) → turn (serving later hub) (bytes ++ more) ≡ None
@@ -72,10 +65,6 @@ pub acts_of_number : (hub : Hub) (bytes name : List ℕ) (feed size behind : ℕ
 acts_of_number hub bytes name feed size behind is more =
     bind_at (feed_number hub.plans name) _ feed is ∙ message_of_found hub feed (payload_at size (drop behind bytes ++ more))
 
--- a message for a feed that isn't there
-pub no_feed : (hub : Hub) (name rest : List ℕ) (size : ℕ) → feed_number hub.plans name ≡ None → act hub (Message name size) rest ≡ None
-no_feed hub name rest size h = bind_none (feed_number hub.plans name) _ h
-
 -- bytes without a line among them wait, or are no record
 pub lacks_line : (hub : Hub) (bytes said : List ℕ) (step : Step) → line_within longest_line bytes ≡ None → LacksLine (length bytes) step → Turns step hub hub bytes said said
 lacks_line hub bytes said Short none few = (
@@ -89,19 +78,6 @@ lacks_line hub bytes said Ends none h = absurd h
 lacks_line hub bytes said (Long end size) none h = absurd h
 lacks_line hub bytes said NoMemory none h = absurd h
 
--- a question was asked, and its answer said
-pub question_asked : (hub new : Hub) (question : Question) (behind : ℕ) (bytes said said' : List ℕ) → behind ≤ length bytes
-    → said' ≡ said ++ answer_reply (question_word question) (answer_to hub.plans (folds_in hub) question) → new ≡ record hub { begun = true }
-    → Acts (Ask question) behind (Whole behind) hub new bytes said said'
-question_asked hub new question behind bytes said said' within says is = record {
-  reply = answer_reply (question_word question) (answer_to hub.plans (folds_in hub) question);
-  says = says;
-  within = within;
-  served = [];
-  are_served = All-nil IsServed;
-  is = λ later more. rw is refl;
-}
-
 -- a feed was declared
 pub feed_declared : (hub new : Hub) (name : List ℕ) (behind : ℕ) (bytes said : List ℕ) → behind ≤ length bytes → may_declare hub name ≡ true
     → new ≡ record hub { plans = with_feed hub.plans name } → Acts (Feed name) behind (Whole behind) hub new bytes said said
@@ -113,8 +89,3 @@ feed_declared hub new name behind bytes said within may is = record {
   are_served = All-nil IsServed;
   is = λ later more. rw (may, is) refl;
 }
-
--- no feed may be declared
-pub feed_refused : (hub new : Hub) (name : List ℕ) (behind : ℕ) (bytes said : List ℕ) → may_declare hub name ≡ false
-    → Acts (Feed name) behind Refused hub new bytes said said
-feed_refused hub new name behind bytes said may = (refl, λ later more. rw may refl)

@@ -1,10 +1,10 @@
 -- Letting go of bytes of the script.
-use Rattle.std.proofs.Common.{◌≡◌, ℕ, ◌+◌, ◌-◌, ◌≤◌, ◌<◌, List, [], ◌++◌, length, take, drop, Option, sym, ap, ◌∙◌, subst, arith, append-nil, append_assoc, length-drop, length-append, take-append-drop}
+use Rattle.std.proofs.Common.{◌≡◌, ℕ, ◌+◌, ◌-◌, ◌≤◌, ◌<◌, List, [], ◌++◌, length, take, drop, Option, sym, ap, ◌∙◌, arith, append-nil, append_assoc, length-drop, length-append, take-append-drop}
 use Rattle.std.specs.Io.KnownBytes.{Consumes}
 use Rattle.std.proofs.KnownBytes.{Consumes-nil, Consumes-trans}
 use Rattle.std.proofs.lemmas.List.{length-take-le, drop_all}
-use Rattle.script_lines.specs.Window.{Windowed, Grows, Stays}
-use Rattle.hub_replay.specs.Steps.{Passes, Lacks}
+use Rattle.script_lines.specs.Window.{Windowed, Grows}
+use Rattle.hub_replay.specs.Steps.{Passes}
 
 -- some bytes were let go, and so many are still to be
 pub record Skipping (old now : Windowed) (left left' : Option (List ℕ)) (count to_go : ℕ) : Type 0 where
@@ -55,20 +55,4 @@ skip_more old now mid new left left' left'' count to_go s few held allowed grew 
       size = omega arith;
       allowed = omega arith;
       read = Consumes-trans left left' left'' s.more grew.more s.read grew.read;
-    }
-
--- all bytes in hand were let go, and no more can be read
-pub skip_short : (old now mid new : Windowed) (left left' left'' : Option (List ℕ)) (count to_go : ℕ) → Skipping old now left left' count to_go → length now.held ≤ to_go
-    → mid.allowed ≡ now.allowed → Stays mid new left' left'' → Lacks old new left left'' count
-skip_short old now mid new left left' left'' count to_go s few allowed stays =
-    let joined = length-append s.gone now.held in
-    let whole = ap length s.all in
-    let sums = s.allowed in
-    let stay = stays.allowed in
-    let count_is = s.size in
-    record {
-      more = s.more;
-      short = omega arith;
-      allowed = omega arith;
-      read = subst (Consumes left left'') (append-nil s.more) (Consumes-trans left left' left'' s.more [] s.read stays.read);
     }

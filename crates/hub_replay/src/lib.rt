@@ -2,9 +2,9 @@
 //!
 //! [`replay`] reads a script in pieces, does its records in order and writes what they print. Its
 //! contract says which bytes were written and which status the command ends with, by the
-//! definitions of `hub_replay_defs`, which speak of the whole input as a list. A script works on the
-//! hub of a configuration that is given, or declares its feeds itself. [`parse_line`] says which
-//! record a line is.
+//! definitions of `hub_replay_defs`, which speak of the whole input as a list. A script works on
+//! the hub of a configuration that is given, or declares its feeds itself. [`parse_line`] says
+//! which record a line is.
 //!
 //! The parts by job: `feeds` (the hub that a script works on), `records` (one whole record),
 //! `connections` (the one that serves a connection), `steps` (one step of a replay), `running` (all

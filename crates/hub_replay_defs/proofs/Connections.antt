@@ -1,6 +1,6 @@
 -- Connections that a script serves.
 use Rattle.std.specs.Prelude.{◌≡◌, ℕ, ◌<◌, ◌≤◌, true, false, List, [], ◌∷◌, ◌++◌, length, Some, None, refl, codes}
-use Rattle.std.proofs.Common.{lit<, lit≤, arith, ap, sym, length-append}
+use Rattle.std.proofs.Common.{lit<, lit≤, arith, ap, length-append}
 use Rattle.std.proofs.lemmas.List.Elements.{All-nil}
 use Rattle.std.proofs.lemmas.List.Sums.{AllPass-from_list_all}
 use Rattle.std.proofs.lemmas.Str.{IsUtf8-from_is_utf8}
@@ -146,44 +146,24 @@ feed_is_head = record {
 
 post_is_head : IsRequestHead post_head
 unfolding http_on_literals
-post_is_head = record {
-  method = (lit< tt, AllPass-from_list_all is_token_byte post_head.method refl);
-  target = (lit< tt, AllPass-from_list_all is_uri_byte post_head.target refl);
-  target_text = IsUtf8-from_is_utf8 post_head.target refl;
-  minor = lit≤ tt;
-  fields = All-nil IsField;
-}
+post_is_head = grind (arith, All-nil, AllPass-from_list_all, IsUtf8-from_is_utf8)
 
 -- a head has a method, a space and a target at least
 head_long : (head : RequestHead) → IsRequestHead head → 3 ≤ length (print_request head)
 unfolding print_request
-head_long head is =
-    let method : 0 < length head.method = is.method.0 in
-    let target : 0 < length head.target = is.target.0 in
-    simp length-append (omega arith)
+head_long head is = grind (arith, length-append)
 
 -- two bytes are none
 no_head : NoHead (codes "GE")
-no_head head rest b =
-    let long = head_long head b.reads.0 in
-    let whole : length (print_request head ++ rest) ≡ 2 = ap length (sym b.reads.1) in
-    absurd (omega (arith, long, length-append (print_request head) rest))
+no_head head rest b = grind (arith, head_long head b.reads.0, length-append (print_request head) rest)
 
 one_is_served : IsServed one
 unfolding http_on_literals
-one_is_served = (
-  [],
-  record { head = feed_head; begins = record { reads = (feed_is_head, refl); short = lit≤ tt }; is = refl },
-  (refl, refl),
-)
+one_is_served = grind (arith, feed_is_head)
 
 post_is_served : IsServed post
 unfolding http_on_literals
-post_is_served = (
-  [],
-  record { head = post_head; begins = record { reads = (post_is_head, refl); short = lit≤ tt }; is = refl },
-  (refl, refl),
-)
+post_is_served = grind (arith, post_is_head)
 
 broken_is_served : IsServed broken
 unfolding http_on_literals

@@ -1,4 +1,5 @@
 -- The line in front of some bytes.
+use Rattle.std.proofs.lemmas.Bool.Decides.{nat_tests}
 use Rattle.std.proofs.Common.{◌≡◌, ℕ, zero, suc, ◌+◌, ◌-◌, ◌≤◌, ◌<◌, List, [], ◌∷◌, ◌++◌, length, take, drop, Option, Some, None, Bool, true, false, refl, ap, subst, arith}
 use Rattle.std.specs.Prelude.{◌==◌, if◌then◌else◌, cond}
 use Rattle.std.specs.List.{position_from}
@@ -28,18 +29,12 @@ line_more (suc most) [] more line rest h = cc
 line_more (suc most) (b ∷ bs) more line rest h =
     line_from_more (b == 10) b bs more line rest (line_within most bs) (line_within most (bs ++ more)) (λ l r e. line_more most bs more l r e) h
 
-line_from_none : (test : Bool) (b : ℕ) (bs more : List ℕ) (found longer : Found) → (found ≡ None → longer ≡ None) → line_from test b bs found ≡ None → line_from test b (bs ++ more) longer ≡ None
-line_from_none true b bs more found longer same h = cc
-line_from_none false b bs more None longer same h = rw (same refl) refl
-line_from_none false b bs more (Some f) longer same h = cc
-
 -- bytes with no line in front, as many as a line may have, have none when bytes follow
 pub no_line_more : (most : ℕ) (bytes more : List ℕ) → most ≤ length bytes → line_within most bytes ≡ None → line_within most (bytes ++ more) ≡ None
 unfolding line_within
 no_line_more zero bytes more long h = refl
 no_line_more (suc most) [] more long h = absurd (omega arith)
-no_line_more (suc most) (b ∷ bs) more long h =
-    line_from_none (b == 10) b bs more (line_within most bs) (line_within most (bs ++ more)) (λ e. no_line_more most bs more (omega arith) e) h
+no_line_more (suc most) (b ∷ bs) more long h = grind (arith, no_line_more most bs more (omega arith), nat_tests)
 
 line_from_rest : (test : Bool) (b : ℕ) (bs line rest : List ℕ) (found : Found) → ((l r : List ℕ) → found ≡ Some (l, r) → length r < length bs)
     → line_from test b bs found ≡ Some (line, rest) → length rest < length (b ∷ bs)
@@ -95,8 +90,7 @@ no_line_from : (most at b : ℕ) (bs : List ℕ) (test : Bool) → (b == 10) ≡
     → (position_from is_line_feed (at + 1) (take most bs) ≡ None → line_within most bs ≡ None)
     → cond test (Some at) (position_from is_line_feed (at + 1) (take most bs)) ≡ None → line_within (suc most) (b ∷ bs) ≡ None
 unfolding line_within
-no_line_from most at b bs true is rest h = cc
-no_line_from most at b bs false is rest h = rw (is, rest h) refl
+no_line_from most at b bs test is rest h = grind (arith, nat_tests)
 
 -- no LF, no line
 pub no_line : (most at : ℕ) (bytes : List ℕ) → position_from is_line_feed at (take most bytes) ≡ None → line_within most bytes ≡ None

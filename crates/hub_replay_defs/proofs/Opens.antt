@@ -1,6 +1,6 @@
 -- Which scripts go on behind their bytes, one record at a time.
 use Rattle.std.proofs.Common.{◌≡◌, ℕ, zero, suc, ◌+◌, ◌≤◌, ◌<◌, List, ◌++◌, length, Option, Some, None, Bool, true, false, refl, sym, ◌∙◌, arith}
-use Rattle.std.specs.Prelude.{if◌then◌else◌, nat_lt, nat_le}
+use Rattle.std.specs.Prelude.{if◌then◌else◌, nat_lt}
 use Rattle.std.proofs.lemmas.Bool.Decides.{nat_tests}
 use Rattle.board_text_defs.specs.Answers.{feed_number}
 use Rattle.hub_replay_defs.specs.Lines.{Head, head_of, line_within, longest_line}
@@ -18,8 +18,7 @@ step (Some t) waiting later = if t.ended then false else later t.hub t.rest
 open_unfolds_at : (most : ℕ) (hub : Hub) (bytes : List ℕ) (o : Option Turn) → turn hub bytes ≡ o
     → is_open_within (suc most) hub bytes ≡ step o (waits hub bytes) (is_open_within most)
 unfolding is_open_within
-open_unfolds_at most hub bytes None h = rw (h, is_open_within) refl
-open_unfolds_at most hub bytes (Some t) h = rw (h, is_open_within) refl
+open_unfolds_at most hub bytes o h = grind arith
 
 open_unfolds : (most : ℕ) (hub : Hub) (bytes : List ℕ)
     → is_open_within (suc most) hub bytes ≡ step (turn hub bytes) (waits hub bytes) (is_open_within most)
@@ -27,8 +26,7 @@ open_unfolds most hub bytes = open_unfolds_at most hub bytes (turn hub bytes) re
 
 step_same : (o : Option Turn) (waiting : Bool) (f g : Hub → List ℕ → Bool)
     → ((t : Turn) → o ≡ Some t → f t.hub t.rest ≡ g t.hub t.rest) → step o waiting f ≡ step o waiting g
-step_same None waiting f g same = refl
-step_same (Some t) waiting f g same = rw (same t refl) refl
+step_same o waiting f g same = grind arith
 
 -- as many records as there are bytes are enough
 open_enough : (m n : ℕ) (hub : Hub) (bytes : List ℕ) → length bytes < m → length bytes < n
@@ -43,11 +41,7 @@ open_enough (suc m) (suc n) hub bytes p q =
 
 open_turned : (hub : Hub) (bytes : List ℕ) → is_open hub bytes ≡ step (turn hub bytes) (waits hub bytes) is_open
 unfolding is_open
-open_turned hub bytes =
-    let same : (t : Turn) → turn hub bytes ≡ Some t → is_open_within (length bytes) t.hub t.rest ≡ is_open t.hub t.rest =
-    λ t h. let short = turn_rest hub bytes t h in open_enough (length bytes) (length t.rest + 1) t.hub t.rest short (omega arith) in
-    let next : length bytes + 1 ≡ suc (length bytes) = omega arith in
-    rw next (open_unfolds (length bytes) hub bytes) ∙ step_same (turn hub bytes) (waits hub bytes) (is_open_within (length bytes)) is_open same
+open_turned hub bytes = grind (arith, open_enough, open_unfolds, step_same, turn_rest)
 
 -- where no whole record stands in front, a script goes on if what stands there waits
 pub open_none : (hub : Hub) (bytes : List ℕ) → turn hub bytes ≡ None → is_open hub bytes ≡ waits hub bytes
@@ -69,15 +63,13 @@ pub waits_by_line : (hub : Hub) (bytes more line rest : List ℕ) (head : Head)
     → line_within longest_line bytes ≡ Some (line, rest) → head_of line ≡ Some head
     → waits hub (bytes ++ more) ≡ payload_waits hub head (rest ++ more)
 unfolding waits
-waits_by_line hub bytes more line rest head there is =
-    rw (line_more longest_line bytes more line rest there, is) refl
+waits_by_line hub bytes more line rest head there is = grind (arith, line_more)
 
 -- a message for a feed that is declared waits until its payload and the byte behind it are there
 pub payload_short : (hub : Hub) (name rest : List ℕ) (feed n : ℕ)
     → feed_number hub.plans name ≡ Some feed → length rest ≤ n
     → payload_waits hub (Message name n) rest ≡ true
-payload_short hub name rest feed n found few =
-    let e : nat_le (length rest) n ≡ true = grind (arith, nat_tests, few) in rw (found, e) refl
+payload_short hub name rest feed n found few = grind (arith, nat_tests)
 
 -- a connection waits until its input and the byte behind it are there
 pub input_short : (hub : Hub) (moment n : ℕ) (rest : List ℕ) → length rest ≤ n → payload_waits hub (Connection moment n) rest ≡ true

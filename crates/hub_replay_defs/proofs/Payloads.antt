@@ -1,5 +1,5 @@
 -- The payload behind a line.
-use Rattle.std.proofs.Common.{◌≡◌, ℕ, zero, suc, ◌+◌, ◌≤◌, ◌<◌, List, [], ◌∷◌, ◌++◌, length, take, drop, Option, Some, None, Bool, true, false, refl, sym, ap, ◌∙◌, subst, arith, length-drop}
+use Rattle.std.proofs.Common.{◌≡◌, ℕ, zero, suc, ◌+◌, ◌≤◌, ◌<◌, List, [], ◌∷◌, ◌++◌, length, take, drop, Option, Some, None, Bool, true, false, refl, ◌∙◌, arith, length-drop}
 use Rattle.std.specs.Prelude.{◌==◌, slice_get}
 use Rattle.std.proofs.lemmas.List.{take-append-le, drop-append-le}
 use Rattle.std.proofs.lemmas.Option.{slice_get_within, slice_get_past}
@@ -17,8 +17,7 @@ unfolding payload_at
 payload_is n bytes = refl
 
 fed_some : (o : Option ℕ) → is_fed o ≡ true → (b : ℕ) × (o ≡ Some b)
-fed_some None h = cc
-fed_some (Some b) h = (b, refl)
+fed_some o h = grind arith
 
 -- an LF stands within its list
 pub fed_within : (bytes : List ℕ) (n : ℕ) → is_fed (slice_get bytes n) ≡ true → n < length bytes
@@ -31,19 +30,11 @@ get_more (x ∷ xs) more (suc n) h = get_more xs more n (omega arith)
 
 -- a payload stays the payload when bytes follow
 pub payload_more : (n : ℕ) (bytes more : List ℕ) (found : List ℕ × List ℕ) → payload_at n bytes ≡ Some found → payload_at n (bytes ++ more) ≡ Some (found.0, found.1 ++ more)
-payload_more n bytes more found h =
-    let fed = passed (is_fed (slice_get bytes n)) (take n bytes, drop (n + 1) bytes) found (sym (payload_is n bytes) ∙ h) in
-    let within : n < length bytes = fed_within bytes n fed.0 in
-    let next : n + 1 ≤ length bytes = omega arith in
-    let front : n ≤ length bytes = omega arith in
-    let same = get_more bytes more n within in
-    payload_is n (bytes ++ more) ∙ rw (same, fed.0, take-append-le n bytes more front, drop-append-le (n + 1) bytes more next) (ap (λ f. Some (f.0, f.1 ++ more)) fed.1)
+payload_more n bytes more found h = grind (arith, drop-append-le, fed_within, get_more, passed, payload_is, take-append-le)
 
 -- no payload ends behind its bytes
 pub payload_rest : (n : ℕ) (bytes : List ℕ) (found : List ℕ × List ℕ) → payload_at n bytes ≡ Some found → length found.1 ≤ length bytes
-payload_rest n bytes found h =
-    let fed = passed (is_fed (slice_get bytes n)) (take n bytes, drop (n + 1) bytes) found (sym (payload_is n bytes) ∙ h) in
-    subst (λ f. length f.1 ≤ length bytes) fed.1 (rw (length-drop (n + 1) bytes) (omega arith))
+payload_rest n bytes found h = grind (arith, length-drop, passed, payload_is)
 
 -- a payload that isn't there
 pub no_payload : (n : ℕ) (bytes : List ℕ) → length bytes ≤ n → payload_at n bytes ≡ None

@@ -15,15 +15,13 @@ step (Some t) long later = if t.ended then record { out = t.said; taken = long -
 
 run_unfolds_at : (most : ℕ) (hub : Hub) (bytes : List ℕ) (o : Option Turn) → turn hub bytes ≡ o → run_within (suc most) hub bytes ≡ step o (length bytes) (run_within most)
 unfolding run_within
-run_unfolds_at most hub bytes None h = rw (h, run_within) refl
-run_unfolds_at most hub bytes (Some t) h = rw (h, run_within) refl
+run_unfolds_at most hub bytes o h = grind arith
 
 run_unfolds : (most : ℕ) (hub : Hub) (bytes : List ℕ) → run_within (suc most) hub bytes ≡ step (turn hub bytes) (length bytes) (run_within most)
 run_unfolds most hub bytes = run_unfolds_at most hub bytes (turn hub bytes) refl
 
 step_same : (o : Option Turn) (long : ℕ) (f g : Hub → List ℕ → Run) → ((t : Turn) → o ≡ Some t → f t.hub t.rest ≡ g t.hub t.rest) → step o long f ≡ step o long g
-step_same None long f g same = refl
-step_same (Some t) long f g same = rw (same t refl) refl
+step_same o long f g same = grind arith
 
 -- a run has an end: as many records as there are bytes are enough
 run_enough : (m n : ℕ) (hub : Hub) (bytes : List ℕ) → length bytes < m → length bytes < n → run_within m hub bytes ≡ run_within n hub bytes
@@ -37,11 +35,7 @@ run_enough (suc m) (suc n) hub bytes p q =
 -- a run is its first record and then the run of what stands behind it
 pub run_turned : (hub : Hub) (bytes : List ℕ) → run hub bytes ≡ step (turn hub bytes) (length bytes) run
 unfolding run
-run_turned hub bytes =
-    let same : (t : Turn) → turn hub bytes ≡ Some t → run_within (length bytes) t.hub t.rest ≡ run t.hub t.rest =
-    λ t h. let short = turn_rest hub bytes t h in run_enough (length bytes) (length t.rest + 1) t.hub t.rest short (omega arith) in
-    let next : length bytes + 1 ≡ suc (length bytes) = omega arith in
-    rw next (run_unfolds (length bytes) hub bytes) ∙ step_same (turn hub bytes) (length bytes) (run_within (length bytes)) run same
+run_turned hub bytes = grind (arith, run_enough, run_unfolds, step_same, turn_rest)
 
 pub run_none : (hub : Hub) (bytes : List ℕ) → turn hub bytes ≡ None → run hub bytes ≡ record { out = []; taken = 0; ended = false }
 run_none hub bytes h = run_turned hub bytes ∙ rw h refl

@@ -1,5 +1,5 @@
 -- That `waits` tells apart what more bytes may make a record and what stays none, whatever follows.
-use Rattle.std.proofs.Common.{◌≡◌, ℕ, zero, suc, ◌+◌, ◌-◌, ◌≤◌, ◌<◌, List, [], ◌∷◌, ◌++◌, length, take, drop, Option, Some, None, Bool, true, false, refl, ap, ◌∙◌, subst, sym, arith}
+use Rattle.std.proofs.Common.{◌≡◌, ℕ, zero, suc, ◌+◌, ◌-◌, ◌≤◌, ◌<◌, List, [], ◌∷◌, ◌++◌, length, take, drop, Option, Some, None, Bool, true, false, refl, ap, ◌∙◌, subst, arith}
 use Rattle.std.specs.Prelude.{◌&&◌, nat_lt, nat_le, replicate, slice_get}
 use Rattle.std.specs.Option.{is_some}
 use Rattle.std.proofs.lemmas.Bool.Decides.{nat_tests}
@@ -8,59 +8,40 @@ use Rattle.board_text_defs.specs.Answers.{feed_number}
 use Rattle.hub_replay_defs.specs.Lines.{Head, head_of, line_within, longest_line}
 use Rattle.hub_replay_defs.specs.Lines.Head.{Feed, Message, Ask, Connection, End}
 use Rattle.hub_replay_defs.specs.Optional.{◌>>=◌}
-use Rattle.hub_replay_defs.specs.Record.{Hub, Turn, act, connection_of, head_waits, line_waits, may_declare, offered_turn, payload_at, payload_waits, served_turn, turn, waits}
+use Rattle.hub_replay_defs.specs.Record.{Hub, Turn, act, connection_of, head_waits, line_waits, offered_turn, payload_at, payload_waits, served_turn, turn, waits}
 use Rattle.hub_replay_defs.proofs.Options.{bind_at, bind_none}
 use Rattle.hub_replay_defs.proofs.Payloads.{get_more, is_fed, payload_is}
 use Rattle.hub_replay_defs.proofs.Turns.{no_line_turn, turn_line}
 
 -- a value that a test held back
 held_back : {A : Type 0} (test : Bool) (x : A) → only_if test x ≡ None → test ≡ false
-held_back true x h = cc
-held_back false x h = refl
+held_back test x h = grind arith
 
 -- a step behind one that gave nothing
 gone : {A B : Type 0} (r : Option A) (f : A → B) → (r >>= λ x. Some (f x)) ≡ None → r ≡ None
-gone None f h = refl
-gone (Some x) f h = cc
+gone r f h = grind arith
 
 -- where another byte than LF stands behind a payload, none is there when bytes follow
 no_payload_later : (n : ℕ) (rest more : List ℕ) → n < length rest → payload_at n rest ≡ None
     → payload_at n (rest ++ more) ≡ None
-no_payload_later n rest more within none =
-    let other : is_fed (slice_get rest n) ≡ false =
-    held_back (is_fed (slice_get rest n)) (take n rest, drop (n + 1) rest) (sym (payload_is n rest) ∙ none) in
-    payload_is n (rest ++ more) ∙ rw (get_more rest more n within, other) refl
+no_payload_later n rest more within none = grind (arith, get_more, held_back, is_fed, payload_is)
 
 -- so no message stands there either, nor a connection
 no_message_later : (hub : Hub) (o : Option ℕ) (n : ℕ) (rest more : List ℕ)
     → (o >>= λ k. payload_at n rest >>= λ found. Some (offered_turn hub k found)) ≡ None
     → (is_some o && nat_le (length rest) n) ≡ false
     → (o >>= λ k. payload_at n (rest ++ more) >>= λ found. Some (offered_turn hub k found)) ≡ None
-no_message_later hub None n rest more none whole = refl
-no_message_later hub (Some k) n rest more none whole =
-    let within : n < length rest = grind (arith, nat_tests, whole) in
-    bind_none (payload_at n (rest ++ more)) _
-    (no_payload_later n rest more within (gone (payload_at n rest) (λ found. offered_turn hub k found) none))
+no_message_later hub o n rest more none whole = grind (arith, bind_none, gone, no_payload_later, nat_tests)
 
 -- the record of a line that doesn't wait for its payload, and isn't whole, is none when bytes follow
 no_act_later : (hub : Hub) (head : Head) (rest more : List ℕ) → act hub head rest ≡ None
     → payload_waits hub head rest ≡ false → act hub head (rest ++ more) ≡ None
-no_act_later hub (Feed name) rest more none whole =
-    rw (held_back (may_declare hub name) _ none) refl
-no_act_later hub (Message feed n) rest more none whole =
-    no_message_later hub (feed_number hub.plans feed) n rest more none whole
-no_act_later hub (Ask question) rest more none whole = cc
-no_act_later hub (Connection moment n) rest more none whole =
-    let within : n < length rest = grind (arith, nat_tests, whole) in
-    bind_none (payload_at n (rest ++ more)) _
-    (no_payload_later n rest more within (gone (payload_at n rest) (λ found. served_turn hub moment (connection_of found.0 hub.given) found.1) none))
-no_act_later hub End rest more none whole = cc
+no_act_later hub head rest more none whole = grind (arith, bind_none, gone, held_back, nat_tests, no_message_later, no_payload_later)
 
 no_head_later : (hub : Hub) (o : Option Head) (rest more : List ℕ)
     → (o >>= λ head. act hub head rest) ≡ None → head_waits hub o rest ≡ false
     → (o >>= λ head. act hub head (rest ++ more)) ≡ None
-no_head_later hub None rest more none whole = refl
-no_head_later hub (Some head) rest more none whole = no_act_later hub head rest more none whole
+no_head_later hub o rest more none whole = grind (arith, no_act_later)
 
 no_turn_later : (hub : Hub) (bytes more : List ℕ) (found : Option (List ℕ × List ℕ))
     → line_within longest_line bytes ≡ found → turn hub bytes ≡ None → waits hub bytes ≡ false
@@ -80,13 +61,11 @@ no_turn_later hub bytes more (Some line) there none whole =
 -- What is no record, and doesn't wait, is none whatever follows.
 pub never_a_record : (hub : Hub) (bytes : List ℕ) → turn hub bytes ≡ None → waits hub bytes ≡ false
     → (more : List ℕ) → turn hub (bytes ++ more) ≡ None
-never_a_record hub bytes none whole more =
-    no_turn_later hub bytes more (line_within longest_line bytes) refl none whole
+never_a_record hub bytes none whole more = grind (arith, no_turn_later)
 
 behind : (xs ys : List ℕ) (n : ℕ) → slice_get (xs ++ ys) (n + length xs) ≡ slice_get ys n
 behind [] ys n = ap (slice_get ys) (omega arith)
-behind (x ∷ xs) ys n = let more : n + length (x ∷ xs) ≡ suc (n + length xs) = omega arith in
-    ap (slice_get (x ∷ xs ++ ys)) more ∙ behind xs ys n
+behind (x ∷ xs) ys n = grind (arith, behind xs ys n)
 
 last_of_same : (n : ℕ) → slice_get {X = ℕ} (replicate (suc n) 10) n ≡ Some 10
 last_of_same zero = refl

@@ -74,18 +74,16 @@ module _ (hub : Ties) (ended : Told) where
   feeds_read words first (p ∷ ps) (p' ∷ ps') [] lasts ran feed low high = absurd ran
   feeds_read words first (p ∷ ps) (p' ∷ ps') (report ∷ reports) [] ran feed low high = absurd ran
   feeds_read words first (p ∷ ps) (p' ∷ ps') (report ∷ reports) (last ∷ lasts) ran feed low high =
-      by_feed (nat_eq first feed) refl (feeds_read words (first + 1) ps ps' reports lasts ran.1 feed)
-    where
-      by_feed : (b : Bool) → nat_eq first feed ≡ b
-          → (first + 1 ≤ feed → feed < first + 1 + length ps → AllByRecursion IsRead (messages_of feed (history_of ended)))
-          → AllByRecursion IsRead (messages_of feed (history_of ended))
-      by_feed true same others =
-          let is : first ≡ feed = grind (arith, nat_tests) in
-          subst (λ (f : ℕ). AllByRecursion IsRead (messages_of f (history_of ended))) is
-          (feed_read first (words.ahead p) (words.ahead p') (words.faults p) (words.faults p') report last ran.0)
-      by_feed false other others =
-          let next : first + 1 ≤ feed = grind (arith, nat_tests, low) in
-          others next (omega (arith, high))
+      by_feed (nat_eq first feed) refl (λ next. feeds_read words (first + 1) ps ps' reports lasts ran.1 feed next (omega (arith, high))) where
+        by_feed : (b : Bool) → nat_eq first feed ≡ b → (first + 1 ≤ feed → AllByRecursion IsRead (messages_of feed (history_of ended)))
+            → AllByRecursion IsRead (messages_of feed (history_of ended))
+        by_feed true same others =
+            let is : first ≡ feed = grind (arith, nat_tests) in
+            subst (λ (f : ℕ). AllByRecursion IsRead (messages_of f (history_of ended))) is
+            (feed_read first (words.ahead p) (words.ahead p') (words.faults p) (words.faults p') report last ran.0)
+        by_feed false other others =
+            let next : first + 1 ≤ feed = grind (arith, nat_tests, low) in
+            others next
 
 -- ---- of all feeds
 

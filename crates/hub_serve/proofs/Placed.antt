@@ -1,20 +1,21 @@
 -- Three lists, place by place.
 use Rattle.std.proofs.Common.{◌≡◌, ℕ, zero, suc, ◌+◌, List, [], ◌∷◌, length, map, refl, sym, ap, ◌∙◌, subst, arith}
-use Rattle.std.specs.List.{range_with_len}
+use Rattle.std.specs.List.{AllByRecursion, range_with_len}
 use Rattle.place_jobs.specs.Places.{ArePlaces, PlacesChanged}
 use Rattle.sched_types.specs.Schedules.{Schedules}
 use Rattle.hub_shared.specs.Seats.{Ties, SeatSeen, fresh_seat, fresh_seats}
 
--- lists of one length are places
-pub free_places : {A B C : Type 0} (place : ℕ) (xs : List A) (ys : List B) (zs : List C) → length xs ≡ length zs → length ys ≡ length zs
-    → ArePlaces (λ (k : ℕ) (x : A) (y : B) (z : C). Unit {0}) place xs ys zs
-free_places place [] [] [] p q = tt
-free_places place [] [] (z ∷ zs) p q = absurd (omega (arith, p))
-free_places place [] (y ∷ ys) [] p q = absurd (omega (arith, q))
-free_places place [] (y ∷ ys) (z ∷ zs) p q = absurd (omega (arith, p))
-free_places place (x ∷ xs) ys [] p q = absurd (omega (arith, p))
-free_places place (x ∷ xs) [] (z ∷ zs) p q = absurd (omega (arith, q))
-free_places place (x ∷ xs) (y ∷ ys) (z ∷ zs) p q = (tt, free_places (place + 1) xs ys zs (omega (arith, p)) (omega (arith, q)))
+-- items of lists of one length are places, and what is true of all of the third is true at each
+pub places_with : {A B C : Type 0} (P : C → Type 0) (place : ℕ) (xs : List A) (ys : List B) (zs : List C) → length xs ≡ length zs
+    → length ys ≡ length zs → AllByRecursion P zs → ArePlaces (λ (k : ℕ) (x : A) (y : B) (z : C). P z) place xs ys zs
+places_with P place [] [] [] p q all = tt
+places_with P place [] [] (z ∷ zs) p q all = absurd (omega (arith, p))
+places_with P place [] (y ∷ ys) [] p q all = absurd (omega (arith, q))
+places_with P place [] (y ∷ ys) (z ∷ zs) p q all = absurd (omega (arith, p))
+places_with P place (x ∷ xs) ys [] p q all = absurd (omega (arith, p))
+places_with P place (x ∷ xs) [] (z ∷ zs) p q all = absurd (omega (arith, q))
+places_with P place (x ∷ xs) (y ∷ ys) (z ∷ zs) p q all =
+    (all.0, places_with P (place + 1) xs ys zs (omega (arith, p)) (omega (arith, q)) all.1)
 
 -- the seats of a hub that was opened are its own
 seats_from : {P R : Type 0} (hub : Ties) (first place n : ℕ) (ps : List P) (rs : List R) → length ps ≡ n → length rs ≡ n

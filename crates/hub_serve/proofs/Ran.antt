@@ -9,6 +9,7 @@ use Rattle.exit_status.specs.Codes.{code_of}
 use Rattle.hub_history.specs.Log.{entries_of}
 use Rattle.hub_history.specs.Told.{Told, history_of}
 use Rattle.snapshot_cell.specs.Seen.{PassSeen}
+use Rattle.delta_defs.specs.Kept.{KeptView}
 use Rattle.http_door.specs.Doors.{ServesDoor}
 use Rattle.http_door.specs.Visits.{Ends as LinkEnds, Hub, hub}
 use Rattle.place_jobs.specs.Places.{PlacesChanged}
@@ -80,28 +81,29 @@ module _ {P : Type 0} (words : PortWords P) (hub : Ties) where
 
 module _ {D I O C : Type 0} (words : DoorWords D I O) (seen : LinkEnds I O) (ahead : C → Option (List ℕ)) (ties : Ties) where
   -- a pass that is fresh begins as a hub that nothing is known of
-  begins_fresh : (pass : PassSeen) (clock : Option (List ℕ)) → IsFresh ties pass → hub clock pass.shown.plans (history_of pass.line) pass.reads false ≡ hub clock ties.plans [] 0 false
-  begins_fresh pass clock fresh = λ i. hub clock (fresh.shown i).plans (entries_of (fresh.log i)) (fresh.reads i) false
+  begins_fresh : (pass : PassSeen) (clock : Option (List ℕ)) (kept : List KeptView) → IsFresh ties pass → kept ≡ []
+      → hub clock pass.shown.plans (history_of pass.line) pass.reads false kept ≡ hub clock ties.plans [] 0 false []
+  begins_fresh pass clock kept fresh none = λ i. hub clock (fresh.shown i).plans (entries_of (fresh.log i)) (fresh.reads i) false (none i)
 
   -- a door's reader, with a pass that was fresh
   pub doors_ran : (ending : Option Told) (place : ℕ) (ds : List D) (passes : List PassSeen) (posts : List (Post C)) (ds' : List D) (passes' : List PassSeen) (posts' : List (Post C))
       → PlacesChanged (serves_at words seen ahead) place ds passes posts ds' passes' posts' → AllByRecursion (IsFresh ties) passes
-      → IfSome ending (λ e. AllByRecursion (λ (pass : PassSeen). IsPrefix pass.line.log e.log) passes')
+      → AllByRecursion (λ (post : Post C). post.kept ≡ []) posts → IfSome ending (λ e. AllByRecursion (λ (pass : PassSeen). IsPrefix pass.line.log e.log) passes')
       → DoorsRan words seen ties.plans ending ds ds' (map (λ (post : Post C). ahead post.clock) posts) (map (λ (post : Post C). post.report) posts')
   doors_ran ending =
       by_places (serves_at words seen ahead)
-      (λ (place : ℕ) (ds : List D) (passes : List PassSeen) (posts : List (Post C)) (ds' : List D) (passes' : List PassSeen) (posts' : List (Post C)). AllByRecursion (IsFresh ties) passes → IfSome ending (λ e. AllByRecursion (λ (pass : PassSeen). IsPrefix pass.line.log e.log) passes') → DoorsRan words seen ties.plans ending ds ds' (map (λ (post : Post C). ahead post.clock) posts) (map (λ (post : Post C). post.report) posts'))
-      (λ place fresh begins. tt)
-      (λ place d s r d' s' r' ds ss rs ds' ss' rs' does rest fresh begins. (
+      (λ (place : ℕ) (ds : List D) (passes : List PassSeen) (posts : List (Post C)) (ds' : List D) (passes' : List PassSeen) (posts' : List (Post C)). AllByRecursion (IsFresh ties) passes → AllByRecursion (λ (post : Post C). post.kept ≡ []) posts → IfSome ending (λ e. AllByRecursion (λ (pass : PassSeen). IsPrefix pass.line.log e.log) passes') → DoorsRan words seen ties.plans ending ds ds' (map (λ (post : Post C). ahead post.clock) posts) (map (λ (post : Post C). post.report) posts'))
+      (λ place fresh none begins. tt)
+      (λ place d s r d' s' r' ds ss rs ds' ss' rs' does rest fresh none begins. (
         record {
-          left = hub (ahead r'.clock) s'.shown.plans (history_of s'.line) s'.reads false;
+          left = hub (ahead r'.clock) s'.shown.plans (history_of s'.line) s'.reads false r'.kept;
           line = s'.line;
           history = refl;
-          serves = subst (λ (x : Hub). ServesDoor seen (words.links d) (words.links d') (words.faults d) (words.faults d') x (hub (ahead r'.clock) s'.shown.plans (history_of s'.line) s'.reads false) r'.report)
-              (begins_fresh s (ahead r.clock) fresh.0) does;
+          serves = subst (λ (x : Hub). ServesDoor seen (words.links d) (words.links d') (words.faults d) (words.faults d') x (hub (ahead r'.clock) s'.shown.plans (history_of s'.line) s'.reads false r'.kept) r'.report)
+              (begins_fresh s (ahead r.clock) r.kept fresh.0 none.0) does;
           begins = first_told ending (λ (pass : PassSeen) (ended : Told). IsPrefix pass.line.log ended.log) s' ss' begins;
         },
-        rest fresh.1 (rest_told ending (λ (pass : PassSeen) (ended : Told). IsPrefix pass.line.log ended.log) s' ss' begins),
+        rest fresh.1 none.1 (rest_told ending (λ (pass : PassSeen) (ended : Told). IsPrefix pass.line.log ended.log) s' ss' begins),
       ))
 
 -- what is said of all of a list, by its items
@@ -112,13 +114,13 @@ under (Some e) P xs h = recursion_from_All (λ y. P y e) xs h
 module _ {P D I O C : Type 0} (ports : PortWords P) (doors : DoorWords D I O) (seen : LinkEnds I O) (ahead : C → Option (List ℕ)) (ties : Ties) (schedules : Schedules) (plans : ties.plans ≡ schedules) where
   -- a hub that was opened, and went through all steps of a run
   pub ran : (ps ps' : List P) (ss ss' : List SeatSeen) (rs rs' : List PortReport) (ds ds' : List D) (passes passes' : List PassSeen) (posts posts' : List (Post C))
-      → length ps ≡ length schedules.feeds → ss ≡ fresh_seats ties → All (IsFresh ties) passes
+      → length ps ≡ length schedules.feeds → ss ≡ fresh_seats ties → All (IsFresh ties) passes → All (λ (post : Post C). post.kept ≡ []) posts
       → PlacesChanged (ingests_at ports) 0 ps ss rs ps' ss' rs'
       → PlacesChanged (serves_at doors seen ahead) 0 ds passes posts ds' passes' posts'
       → (written written' : Option (List ℕ)) (faults faults' status : ℕ)
       → EndsRun ties schedules.feeds ss' rs' passes' (map (λ (post : Post C). post.report) posts') written written' faults faults' status
       → Ran ports doors seen schedules ps ps' ds ds' (map (λ (post : Post C). ahead post.clock) posts) written written' faults faults' status
-  ran ps ps' ss ss' rs rs' ds ds' passes passes' posts posts' count fresh known fed served written written' faults faults' status ends =
+  ran ps ps' ss ss' rs rs' ds ds' passes passes' posts posts' count fresh known none fed served written written' faults faults' status ends =
       let fed_by = feeds_ran ports ties ends.closes.ending 0 ps ss rs ps' ss' rs' fed (fresh_are ties ss fresh) (under ends.closes.ending (λ (seat : SeatSeen) (ended : Told). Ends seat ended) ss' ends.closes.ends) in
       record {
         hub = ties;
@@ -133,6 +135,7 @@ module _ {P D I O C : Type 0} (ports : PortWords P) (doors : DoorWords D I O) (s
         door_reports = map (λ (post : Post C). post.report) posts';
         doors_ran = subst (λ (s : Schedules). DoorsRan doors seen s ends.closes.ending ds ds' (map (λ (post : Post C). ahead post.clock) posts) (map (λ (post : Post C). post.report) posts')) plans
             (doors_ran doors seen ahead ties ends.closes.ending 0 ds passes posts ds' passes' posts' served (recursion_from_All (IsFresh ties) passes known)
+            (recursion_from_All (λ (post : Post C). post.kept ≡ []) posts none)
             (under ends.closes.ending (λ (pass : PassSeen) (ended : Told). IsPrefix pass.line.log ended.log) passes' ends.closes.begins));
         writing = ends.writing;
         wrote = ends.wrote;

@@ -16,19 +16,20 @@ abbrev pub serves_at : {D I O C : Type 0} → DoorWords D I O → Ends I O → (
     → D → PassSeen → Post C → D → PassSeen → Post C → Type 0
 serves_at words seen ahead place door pass post door' pass' post' =
     ServesDoor seen (words.links door) (words.links door') (words.faults door) (words.faults door')
-    (hub (ahead post.clock) pass.shown.plans (history_of pass.line) pass.reads false)
-    (hub (ahead post'.clock) pass'.shown.plans (history_of pass'.line) pass'.reads false)
+    (hub (ahead post.clock) pass.shown.plans (history_of pass.line) pass.reads false post.kept)
+    (hub (ahead post'.clock) pass'.shown.plans (history_of pass'.line) pass'.reads false post'.kept)
     post'.report
 
--- The connections of a door were served by a reader that knew nothing at first, at the readings of a
--- clock; what it knew in the end begins the ended history.
+-- The connections of a door were served by a reader that knew nothing and had kept no view at first,
+-- at the readings of a clock; what it knew in the end begins the ended history.
 pub record DoorRan {I O : Type 0} (seen : Ends I O) (plans : Schedules) (ending : Option Told)
     (links links' : Option (Links I O)) (faults faults' : ℕ) (ahead : Option (List ℕ))
     (report : DoorReport) : Type 0 where
   pub left : Hub
   pub line : Told
   pub history : left.history ≡ history_of line
-  pub serves : ServesDoor seen links links' faults faults' (hub ahead plans [] 0 false) left report
+  pub serves : ServesDoor seen links links' faults faults' (hub ahead plans [] 0 false []) left
+      report
   pub begins : IfSome ending (λ ended. IsPrefix line.log ended.log)
 
 -- each door, with what the readings of its clock were

@@ -13,8 +13,8 @@ use snapshot_cell::Ending;
 use std::marker::Model;
 use std::sync::Wait;
 
-/// What closing a hub came to. Only `close` makes one, and who tells what a run came to asks for it, so
-/// nothing is told before the hub is closed. A contract sees whether an ending was had.
+/// What closing a hub came to. Only `close` makes one, and who tells what a run came to asks for
+/// it, so nothing is told before the hub is closed. A contract sees whether an ending was had.
 #[derive(Drop)]
 pub(crate) struct Closed {
     has_ending: bool,
@@ -37,7 +37,8 @@ impl Closed {
     }
 }
 
-/// Closes the hub with its seats, and tells its readers. There is no ending where closing found no memory.
+/// Closes the hub with its seats, and tells its readers. There is no ending where closing found no
+/// memory.
 pub(crate) fn close<R: Wait, H: OfHub>(
     rt: &R,
     hub: Hub,

@@ -7,6 +7,7 @@ ghost use Rattle.hub_shared.specs.Seats.{IsOf};
 
 use crate::naming::{OfHub, number_of};
 use board_parts::{HubView, Oracle};
+use delta_out::Kept;
 use http_door::{DoorReport, serve_door};
 use hub_outside::{Clock, Door, Gate};
 use place_jobs::PlaceJob;
@@ -83,10 +84,11 @@ impl<H: OfHub> Oracle for HubPass<H> {
     }
 }
 
-/// Where a reader stands: its clock, and what it made of its door.
+/// Where a reader stands: its clock, the views of its last looks, and what it made of its door.
 #[derive(Drop)]
 pub(crate) struct Post<C> {
     pub(crate) clock: C,
+    pub(crate) kept: Kept,
     pub(crate) report: DoorReport,
 }
 
@@ -100,12 +102,12 @@ pub(crate) struct Serving<'a, R, G> {
 
 impl<'a, R: Wait, G: Gate, H: OfHub, C: Clock, D: Door> PlaceJob<D, HubPass<H>, Post<C>>
     for Serving<'a, R, G> {
-    ghost use Rattle.std.specs.Prelude.{⊤};
+    ghost use Rattle.std.specs.Prelude.{◌≡◌, []};
     ghost use Rattle.http_door.specs.Visits.{ends};
     ghost use Rattle.hub_serve.specs.Readers.{serves_at};
     ghost use Rattle.hub_serve.specs.Words.{door_words};
 
-    ghost accepts = { λ job place door pass post. ⊤ };
+    ghost accepts = { λ job place door pass post. post.kept ≡ [] };
 
     ghost does = { λ job. serves_at (door_words D.links D.faults)
         (ends D.In.left D.In.faults D.Out.written D.Out.faults) C.ahead };
@@ -119,6 +121,7 @@ impl<'a, R: Wait, G: Gate, H: OfHub, C: Clock, D: Door> PlaceJob<D, HubPass<H>, 
             &mut post.clock,
             self.gate,
             number_of(place),
+            &mut post.kept,
         );
     }
 }

@@ -1,6 +1,6 @@
 //! The run.
 
-ghost use Rattle.std.specs.Prelude.{◌≡◌, ◌≤◌, ◌⊎◌, length, vec_len, map, IfOk};
+ghost use Rattle.std.specs.Prelude.{◌≡◌, ◌≤◌, ◌⊎◌, [], length, vec_len, map, IfOk};
 ghost use Rattle.std.specs.Arc.{arc_value};
 ghost use Rattle.std.specs.List.{All};
 ghost use Rattle.hub_shared.specs.Calls.{IsFresh};
@@ -25,12 +25,12 @@ use std::marker::Brand;
 use std::sync::{Arc, Wait};
 use std::thread::Threads;
 
-/// Runs a hub with those timetables and feeds. It brings in the messages of each port, one for each feed,
-/// and serves the connections of each door with the clock of the same place, each in a thread of its own
-/// where one can be had. When all ports and doors have ended it closes the hub, and writes a line for
-/// each feed and one for the readers. It answers the exit status: 5 where the output failed, else 6 where
-/// memory was wanting to open or to close the hub or for an ingester's buffer, else 1 where a port or a
-/// door failed or a message was too long, else 0.
+/// Runs a hub with those timetables and feeds. It brings in the messages of each port, one for each
+/// feed, and serves the connections of each door with the clock of the same place, each in a thread
+/// of its own where one can be had. When all ports and doors have ended it closes the hub, and
+/// writes a line for each feed and one for the readers. It answers the exit status: 5 where the
+/// output failed, else 6 where memory was wanting to open or to close the hub or for an ingester's
+/// buffer, else 1 where a port or a door failed or a message was too long, else 0.
 pub fn run_serve<R, P, D, C, K, G>(
     rt: &R,
     alloc: Global,
@@ -159,6 +159,7 @@ fn begin<H: OfHub, C: Drop>(
     ensures reports { IfOk result (λ work. vec_len work.reports ≡ ports) }
     ensures passes { IfOk result (λ work. work.passes.items ≡ passes.items) }
     ensures posts { IfOk result (λ work. map (λ post. post.clock) work.posts.items ≡ clocks.items) }
+    ensures kept { IfOk result (λ work. All (λ post. post.kept ≡ []) work.posts.items) }
 {
     Ok(Work {
         seats,

@@ -18,7 +18,8 @@ use hub_shared::{FeedSeat, PortEnd, PortReport};
 use sched_types::{NamedFeed, Plans};
 use serve_lines::{FeedNumbers, ReaderNumbers, Writing, write_feed, write_readers};
 
-/// Writes a line for each feed of a hub that is closed, and one for the readers. It takes no memory.
+/// Writes a line for each feed of a hub that is closed, and one for the readers. It takes no
+/// memory.
 pub(crate) fn write_lines<K: Sink, C>(
     out: &mut K,
     _closed: &Closed,
@@ -91,9 +92,9 @@ fn sum_of<C>(posts: &[Post<C>]) -> ReaderNumbers
     sum
 }
 
-/// How a run ended: `OutputFault` where the output failed, else `NoMemory` where memory was wanting to close
-/// the hub or for an ingester's buffer, else `Failed` where a port or a door failed or a message was too long,
-/// else `Done`.
+/// How a run ended: `OutputFault` where the output failed, else `NoMemory` where memory was wanting
+/// to close the hub or for an ingester's buffer, else `Failed` where a port or a door failed or a
+/// message was too long, else `Done`.
 pub(crate) fn status_of<C>(
     writing: Writing,
     closed: &Closed,

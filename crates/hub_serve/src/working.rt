@@ -1,6 +1,6 @@
 //! The work of a run.
 
-ghost use Rattle.std.specs.Prelude.{◌≡◌, ◌≤◌, ⊤, length, map};
+ghost use Rattle.std.specs.Prelude.{◌≡◌, ◌≤◌, [], length, map};
 ghost use Rattle.std.specs.List.{All};
 ghost use denote.Param.Send.{IsSend, IsSync};
 ghost use Rattle.http_door.specs.Visits.{ends};
@@ -60,6 +60,7 @@ where
     requires reports { length reports.old ≡ length plans.now.feeds }
     requires doors { length doors.old ≡ length posts.old }
     requires posts { length passes.old ≡ length posts.old }
+    requires kept { All (λ post. post.kept ≡ []) posts.old }
     requires few { length doors.old ≤ 64 }
     ensures { Ran (port_words P.ahead P.faults) (door_words D.links D.faults)
         (ends D.In.left D.In.faults D.Out.written D.Out.faults) plans.now
@@ -98,7 +99,8 @@ where
     requires ports { ArePlaces (λ place port seat report. seat.ties ≡ hub.now) 0 ports.old seats.old
         reports.old }
     requires few_ports { length ports.old ≤ 64 }
-    requires doors { ArePlaces (λ place door pass post. ⊤) 0 doors.old passes.old posts.old }
+    requires doors { ArePlaces (λ place door pass post. post.kept ≡ []) 0 doors.old passes.old
+        posts.old }
     requires few_doors { length doors.old ≤ 64 }
     ensures ports { PlacesChanged (ingests_at (port_words P.ahead P.faults)) 0 ports.old seats.old
         reports.old ports.new seats.new reports.new }
@@ -122,7 +124,7 @@ where
     { each_place(rt, &ingesting, 0, ports, seats, reports) };
     let mut readers = ||
         requires { IsSync R.row × IsSync G.row × IsSync H.row × IsSend H.row × IsSend D.row × IsSend D.In.row × IsSend D.Out.row × IsSend C.row
-            × ArePlaces (λ place door pass post. ⊤) 0 doors.now passes.now posts.now
+            × ArePlaces (λ place door pass post. post.kept ≡ []) 0 doors.now passes.now posts.now
             × (length doors.now ≤ 64) }
         ensures { PlacesChanged (serves_at (door_words D.links D.faults)
             (ends D.In.left D.In.faults D.Out.written D.Out.faults) C.ahead) 0 doors.entry.now

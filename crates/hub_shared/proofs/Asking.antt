@@ -1,17 +1,16 @@
 -- A port that is asked for one message after another.
-use Rattle.std.proofs.Common.{◌≡◌, ℕ, ◌+◌, ◌<◌, ◌≤◌, Bool, true, false, cond, List, [], ◌∷◌, ◌++◌, length, map, Option, Some, None, refl, sym, ap, ◌∙◌, subst, arith, append-nil, append_assoc}
-use Rattle.std.specs.List.{All}
+use Rattle.std.proofs.Common.{◌≡◌, ℕ, ◌+◌, ◌<◌, ◌≤◌, List, [], ◌∷◌, ◌++◌, length, Some, None, refl, sym, ap, ◌∙◌, subst, arith, append-nil, append_assoc}
 use Rattle.std.proofs.lemmas.List.{map-append, length-map}
 use Rattle.std.proofs.lemmas.List.Elements.{All-nil}
 use Rattle.feed_defs.specs.declared.history.Entry.{Entry}
 use Rattle.feed_defs.specs.History.{messages_of}
-use Rattle.hub_outside.specs.Count.{Rose, last_count}
+use Rattle.hub_outside.specs.Count.{Rose}
 use Rattle.feed_port.specs.Ports.{Ahead, Gives, GoesOnToTell, IsDone}
 use Rattle.hub_shared.specs.declared.report.PortEnd.{PortEnd}
 use Rattle.hub_shared.specs.declared.report.PortEnd.TheVariants.{Ended, PortFault, Spent, NoMemory}
 use Rattle.hub_shared.specs.declared.report.Tally.{Tally}
 use Rattle.hub_shared.specs.Seats.{SeatSeen, history_at, Begins}
-use Rattle.hub_shared.specs.Feeding.{Given, IsFit, IsOfBytes, Sorts, Goes, Stops, StopsAs, AreFirst, AreAll, EndsAs, Ingests, Asks, newer_of, last_after, bytes_of, judged_of, most_answers, tally_of, total}
+use Rattle.hub_shared.specs.Feeding.{Given, IsFit, IsOfBytes, Sorts, StopsAs, AreFirst, AreAll, EndsAs, Ingests, Asks, newer_of, last_after, bytes_of, most_answers, tally_of, total}
 use Rattle.hub_shared.proofs.Fronts.{begins_append}
 
 -- what was handed in first, and then
@@ -124,9 +123,6 @@ spent first now before ahead faults faults' tally way all = record {
   ends = many_are first now way.given tally way.sorts ∙ all;
   fallen = way.fallen;
 }
-
-pub stops_asked : (end : PortEnd) (before after : Ahead) (faults faults' : ℕ) → StopsAs end before after faults faults' → end ≡ NoMemory → ⊥
-stops_asked end before after faults faults' is same = subst (λ (e : PortEnd). StopsAs e before after faults faults') same is
 
 -- the same of a tally and an end that are these
 pub ingests_as : (old new : SeatSeen) (before after : Ahead) (faults faults' : ℕ) (tally t : Tally) (end e : PortEnd) → t ≡ tally → e ≡ end → Ingests old new before after faults faults' tally end → Ingests old new before after faults faults' t e

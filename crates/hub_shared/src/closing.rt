@@ -14,8 +14,8 @@ use feed_permits::Desk;
 use snapshot_cell::{Ending, Publisher};
 use std::sync::Wait;
 
-/// Ends the hub's history, which is legal and has what each of its seats brought in; or want of memory,
-/// and the hub is gone. The seats stay as they are.
+/// Ends the hub's history, which is legal and has what each of its seats brought in; or want of
+/// memory, and the hub is gone. The seats stay as they are.
 pub fn close_hub<R: Wait>(rt: &R, hub: Hub, seats: &mut [FeedSeat]) -> Result<Ending, NoMemory>
     requires ties { (i : ℕ) (none : SeatSeen) → i < length seats.old
         → (slice_index_or seats.old i none).ties ≡ hub }

@@ -21,11 +21,11 @@ use std::sync::Wait;
 /// The most messages that one call asks a port for.
 const MOST_ANSWERS: u64 = 1_000_000_000_000;
 
-/// Brings in what the port hands in, message after message in their order, for the seat's feed, until
-/// the port has none left or fails, or has handed in 1,000,000,000,000. A message that is refused, or
-/// for which there is no memory, is counted and left, and the port hears why. Memory for the longest
-/// message is taken before the port is asked for the first, and none for those that follow. It may wait
-/// as [`ingest`](crate::ingest) does.
+/// Brings in what the port hands in, message after message in their order, for the seat's feed,
+/// until the port has none left or fails, or has handed in 1,000,000,000,000. A message that is
+/// refused, or for which there is no memory, is counted and left, and the port hears why. Memory
+/// for the longest message is taken before the port is asked for the first, and none for those that
+/// follow. It may wait as [`ingest`](crate::ingest) does.
 pub fn ingest_port<R: Wait, P: FeedPort>(
     rt: &R,
     alloc: Global,

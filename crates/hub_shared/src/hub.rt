@@ -5,7 +5,8 @@ use crate::tag::Tag;
 use keyed_lock::KeyedLock;
 use std::marker::Model;
 
-/// A hub that threads share. A contract sees which one it is. It is not dropped: it ends by `close_hub`.
+/// A hub that threads share. A contract sees which one it is. It is not dropped: it ends by
+/// `close_hub`.
 pub struct Hub {
     pub(crate) lock: KeyedLock<Locked, Tag>,
 }

@@ -10,9 +10,9 @@ use snapshot_cell::Receipt;
 use std::alloc::Global;
 use std::sync::Wait;
 
-/// Takes the message of the bytes for the seat's feed, and gives a receipt of it; or refuses it, and the
-/// seat is as it was. It reads and judges the message before it takes the hub's lock, for which it may
-/// wait, as for readers that stand within a look.
+/// Takes the message of the bytes for the seat's feed, and gives a receipt of it; or refuses it,
+/// and the seat is as it was. It reads and judges the message before it takes the hub's lock, for
+/// which it may wait, as for readers that stand within a look.
 pub fn ingest<R: Wait>(
     rt: &R,
     alloc: Global,

@@ -20,7 +20,8 @@ use std::marker::Model;
 use std::snapshot::Snapshot;
 use std::sync::{Arc, Wait};
 
-/// The newest view, who shows it, and how many messages each feed has. A contract sees which hub it is.
+/// The newest view, who shows it, and how many messages each feed has. A contract sees which hub it
+/// is.
 pub(crate) struct Locked {
     pub(crate) core: HubCore,
     pub(crate) publisher: Publisher,
@@ -49,8 +50,8 @@ impl Keyed<Tag> for Locked {
 }
 
 impl Locked {
-    /// Takes the message in: shows the view with it, tells the seat its receipt and raises the feed's
-    /// count. Where no memory is found, nothing was published and the seat is as it was.
+    /// Takes the message in: shows the view with it, tells the seat its receipt and raises the
+    /// feed's count. Where no memory is found, nothing was published and the seat is as it was.
     pub(crate) fn take_in<R: Wait>(
         &mut self,
         rt: &R,

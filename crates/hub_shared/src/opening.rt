@@ -24,8 +24,8 @@ use std::alloc::Global;
 use std::snapshot::Snapshot;
 use std::sync::{Arc, Wait};
 
-/// A hub with those timetables and feeds that accepted nothing, a seat for each feed, and so many passes
-/// for readers, 1 to 64; or want of memory.
+/// A hub with those timetables and feeds that accepted nothing, a seat for each feed, and so many
+/// passes for readers, 1 to 64; or want of memory.
 pub fn open_hub<R: Wait>(
     rt: &R,
     alloc: Global,

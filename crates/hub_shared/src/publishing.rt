@@ -15,8 +15,8 @@ use std::alloc::Global;
 use std::snapshot::Snapshot;
 use std::sync::{Arc, Wait};
 
-/// Shows the view with that message of the feed at the end of what was published. The message itself is
-/// in the view by now; contracts alone see which one it was.
+/// Shows the view with that message of the feed at the end of what was published. The message
+/// itself is in the view by now; contracts alone see which one it was.
 pub(crate) fn publish<R: Wait>(
     rt: &R,
     publisher: &mut Publisher,

@@ -11,8 +11,9 @@ use feed_permits::{Desk, Key};
 use snapshot_cell::{Pass, Publisher, Receipt};
 use std::marker::Model;
 
-/// The right to bring in messages of one feed. A contract sees which hub's it is, the feed's number, how
-/// many of its messages were accepted, the stamp of the last one, and what its receipt knows.
+/// The right to bring in messages of one feed. A contract sees which hub's it is, the feed's
+/// number, how many of its messages were accepted, the stamp of the last one, and what its receipt
+/// knows.
 #[derive(Drop)]
 pub struct FeedSeat {
     key: Key,

@@ -1,8 +1,8 @@
 //! A hub on one thread that keeps its history.
 
-ghost use Rattle.std.specs.Prelude.{◌≡◌, ◌<◌, ◌+◌, [], length, true, false, Ok, IfOk, IfErr};
+ghost use Rattle.std.specs.Prelude.{◌≡◌, ℕ, ◌<◌, ◌+◌, [], length, true, false, Ok, IfOk, IfErr};
 ghost use Rattle.std.specs.Arc.{arc_value};
-ghost use Rattle.feed_defs.specs.History.{IsLegal, WereRead};
+ghost use Rattle.feed_defs.specs.History.{IsLegal, WereRead, is_rising, stamps_of};
 ghost use Rattle.sched_types.specs.Schedules.{AreSchedules};
 ghost use Rattle.board_defs.specs.Views.{StandsFor, feed_at, hub_first};
 ghost use Rattle.board_parts.specs.Looks.{Looked};
@@ -39,7 +39,8 @@ impl Model for ReplayHub {
 }
 
 impl ReplayHub {
-    /// A hub with those timetables and feeds that accepted nothing and was never looked at; or want of memory.
+    /// A hub with those timetables and feeds that accepted nothing and was never looked at; or want
+    /// of memory.
     pub fn new(alloc: Global, plans: Arc<Plans>) -> Result<ReplayHub, NoMemory>
         ensures { IfOk result (λ hub. hub
             ≡ record { history = []; shown = hub_first (arc_value plans); reads = 0 }) }
@@ -51,8 +52,8 @@ impl ReplayHub {
         })
     }
 
-    /// Takes the message of the bytes for the feed of that number, and answers how many messages the hub
-    /// has accepted with it; or refuses it, and stays as it was.
+    /// Takes the message of the bytes for the feed of that number, and answers how many messages
+    /// the hub has accepted with it; or refuses it, and stays as it was.
     pub fn offer(&mut self, feed: u32, bytes: &[u8]) -> Result<u64, Refusal>
         requires { feed < length self.old.shown.plans.feeds }
         ensures offered { Offers feed bytes.now self.old self.new result }
@@ -100,6 +101,7 @@ impl Oracle for ReplayHub {
     fn look(&mut self) -> Result<u64, NoMemory>
         ensures looked { Looked self.old.history self.new.history self.old.shown self.new.shown
             self.old.reads self.new.reads true result }
+        ensures rising { (feed : ℕ) → is_rising (stamps_of feed self.new.history) ≡ true }
         ensures plans { self.new.shown.plans ≡ self.old.shown.plans }
         ensures held { IfErr result (λ none. false ≡ false) }
         ensures steady { true ≡ true }
@@ -107,6 +109,7 @@ impl Oracle for ReplayHub {
         ensures same { self.new ≡ record self.old { reads = self.old.reads + 1 } }
     {
         self.looks.tick();
+        self.sound();
         Ok(self.core.view().entries())
     }
 
@@ -118,7 +121,8 @@ impl Oracle for ReplayHub {
     fn release(&mut self) {}
 }
 
-/// The stamp of the last message of the feed of that number, in seconds since 1970; 0 if it sent none.
+/// The stamp of the last message of the feed of that number, in seconds since 1970; 0 if it sent
+/// none.
 fn last_stamp(view: &HubView, feed: u32) -> u64
     requires { feed < length view.now.plans.feeds }
     ensures { result ≡ (feed_at view.now feed).fold.stamp }

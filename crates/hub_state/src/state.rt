@@ -41,8 +41,8 @@ impl HubCore {
         })
     }
 
-    /// The view after one message more of the feed of that number, whose stamp is a moment behind that feed's
-    /// last one; or want of memory. The state stays as it is.
+    /// The view after one message more of the feed of that number, whose stamp is a moment behind
+    /// that feed's last one; or want of memory. The state stays as it is.
     pub fn prepare(
         &self,
         alloc: Global,

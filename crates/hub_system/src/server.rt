@@ -17,12 +17,11 @@ use std::rt;
 use std::sync::{Arc, Wait};
 use std::thread::Threads;
 
-/// Opens what the configuration names, and runs a hub on these timetables until all its ports and doors
-/// have ended: gives the exit status of [`run_serve`], or want of memory for what it opens. `out` gets the
-/// lines at the end of the run, and `errors` those of `hub_ports`; several threads write to it, a whole
-/// line at once.
-/// Nothing that is opened is taken for standard input, output or error, also where the program was
-/// started without them.
+/// Opens what the configuration names, and runs a hub on these timetables until all its ports and
+/// doors have ended: gives the exit status of [`run_serve`], or want of memory for what it opens.
+/// `out` gets the lines at the end of the run, and `errors` those of `hub_ports`; several threads
+/// write to it, a whole line at once. Nothing that is opened is taken for standard input, output or
+/// error, also where the program was started without them.
 pub fn serve_on_system<R, K, E>(
     rt: &R,
     alloc: Global,

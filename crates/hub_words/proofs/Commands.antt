@@ -1,6 +1,6 @@
 -- Which lists of words clap takes, and which command is read of them.
-use Rattle.std.proofs.Common.{◌≡◌, ◌∙◌, ℕ, codes, ◌||◌, Bool, true, false, cond, refl, sym, ap, List, [], ◌∷◌, map, Option, Some, None, is_some, true≢false, subst}
-use Rattle.std.proofs.lemmas.Option.{none-some, same_Some}
+use Rattle.std.proofs.Common.{◌≡◌, ◌∙◌, ℕ, codes, ◌||◌, Bool, true, false, cond, refl, sym, ap, List, [], ◌∷◌, map, Option, Some, None, is_some, true≢false, subst, arith}
+use Rattle.std.proofs.lemmas.Option.{none-some}
 use Rattle.std.specs.Prelude.{find, fold, option_map}
 use Rattle.std.specs.List.{list_any}
 use Rattle.std.specs.Option.{option_map_or}
@@ -9,10 +9,9 @@ use Rattle.std.proofs.lemmas.Slice.Eq.{bytes_eq-Decides}
 use Rattle.clap.specs.Words.{fault_of, is_simple_and_free, subcommand_of}
 use Rattle.clap.specs.Kinds.{IsAmong, Kinds, or_else}
 use Rattle.clap.specs.declared.error.kind.ErrorKind.{ErrorKind}
-use Rattle.clap.specs.Walk.{Held, Names, Row, Text, Walk, answers_to, finished, idle, nothing_held, rows_after, settled, subcommand_met, walk_from, walked, subcommand_or_other, after_step, Step}
-use Rattle.clap.specs.Simple.{App, Shape, built, entered, label_of, names_of, new_shape, rows_at}
-use Rattle.clap.specs.Faults.{built_fault, check_fault, defaults_fault, entered_fault, level_fault, other_fault, settle_fault, step_fault, stray_fault, turn_fault, walk_fault}
-use Rattle.clap.specs.declared.error.kind.ErrorKind.TheVariants as kind
+use Rattle.clap.specs.Walk.{Names, Row, Text, Walk, answers_to, finished, idle, nothing_held, rows_after, settled, subcommand_met, walk_from, walked}
+use Rattle.clap.specs.Simple.{App, Shape, entered, label_of, names_of, new_shape, rows_at}
+use Rattle.clap.specs.Faults.{built_fault, check_fault, defaults_fault, entered_fault, level_fault, settle_fault, stray_fault, turn_fault, walk_fault}
 use Rattle.clap.proofs.FaultLemmas.{stopped_fault}
 use Rattle.clap.proofs.WalkLemmas.{walk_stopped}
 use Rattle.hub_main_defs.specs.Words.{Command, board_command, check_command, command_by_name, command_of, command_with, gen_command, is_option, replay_command}
@@ -31,23 +30,14 @@ AllGood (f ∷ fs) = Good f × AllGood fs
 
 form_named : (fs : List Form) (word : Text) (f : Form) → form_of fs word ≡ Some f → f.name ≡ word
 form_named [] word f h = absurd (none-some f h)
-form_named (x ∷ fs) word f h = go (bytes_eq x.name word) refl h (form_named fs word f)
-  where
-    go : (b : Bool) → bytes_eq x.name word ≡ b → cond b (Some x) (form_of fs word) ≡ Some f → (form_of fs word ≡ Some f → f.name ≡ word) → f.name ≡ word
-    go true e is rest = sym (ap (λ (y : Form). y.name) (same_Some x f is)) ∙ (bytes_eq-Decides x.name word).0 e
-    go false e is rest = rest is
+form_named (x ∷ fs) word f h = grind (arith, form_named fs word f, bytes_eq-Decides x.name word)
 
 form_good : (fs : List Form) (word : Text) (f : Form) → AllGood fs → form_of fs word ≡ Some f → Good f
 form_good [] word f good h = absurd (none-some f h)
-form_good (x ∷ fs) word f good h = go (bytes_eq x.name word) h (form_good fs word f good.1)
-  where
-    go : (b : Bool) → cond b (Some x) (form_of fs word) ≡ Some f → (form_of fs word ≡ Some f → Good f) → Good f
-    go true is rest = subst Good (same_Some x f is) good.0
-    go false is rest = rest is
+form_good (x ∷ fs) word f good h = grind (arith, form_good fs word f good.1)
 
 or_none : (b : Bool) → (b || false) ≡ b
-or_none true = refl
-or_none false = refl
+or_none b = grind arith
 
 name_met : (fs : List Form) (word : Text) → subcommand_met (map label_of (map leaf fs)) idle word ≡ option_map (λ f. f.name) (form_of fs word)
 name_met [] word = refl
@@ -130,21 +120,13 @@ module _ (fs : List Form) (word : Text) (f : Form) (args : List Text) (known : f
 
   first_walked : walked [] names start word ≡ stopped []
   unfolding walked
-  first_walked = ap (λ o. stepped (subcommand_or_other [] o idle 1 word nothing_held)) met
-    where
-      stepped : Held × Step → Walk
-      stepped m = after_step [] word start m.0 m.1
+  first_walked = grind (arith, met)
 
   all_walked : fold (walked [] names) start (word ∷ args) ≡ stopped args
   all_walked = ap (λ w. fold (walked [] names) w args) first_walked ∙ sym (walk_stopped [] names start f.name [] args)
 
   turn : turn_fault built_top names start word ≡ []
-  turn =
-      ap (λ o. judged (other_fault built_top o word nothing_held) (subcommand_or_other [] o idle 1 word nothing_held)) met
-      ∙ ap (λ b. or_else (cond b (kind.DisplayHelp ∷ kind.InvalidSubcommand ∷ []) []) []) (and_false (bytes_eq f.name (codes "help")))
-    where
-      judged : Kinds → Held × Step → Kinds
-      judged k m = or_else k (step_fault built_top 1 m.0 m.1)
+  turn = grind (arith, and_false, met)
 
   walk_passes : walk_fault built_top names start (word ∷ args) ≡ []
   unfolding walk_fault
@@ -156,8 +138,7 @@ module _ (fs : List Form) (word : Text) (f : Form) (args : List Text) (known : f
   below = level_fault (leaf f) [] nothing_held args false []
 
   passes_below : (k : Kinds) → passes (or_else k []) ≡ passes k
-  passes_below [] = refl
-  passes_below (x ∷ xs) = refl
+  passes_below k = grind arith
 
   pub named_judged : passes (built_fault (built_for fs) nothing_held (word ∷ args)) ≡ passes below
   unfolding defaults_fault
@@ -209,23 +190,8 @@ parsed fs (word ∷ args) good plain = parsed_of fs word args (form_of fs word) 
 pub is_simple_hub : is_simple_and_free (app_for forms) ≡ true
 is_simple_hub = refl
 
-built_is : built (app_for forms) ≡ built_for forms
-built_is = refl
-
 all_good : AllGood forms
-all_good = (((refl, refl, refl), (refl, tt)), (((refl, refl, refl), (refl, tt)), ((board_looks, board_distinct), ((gen_looks, gen_distinct), tt))))
-  where
-    board_looks : Looks (placed 1 board_form.positionals) 1 board_form.positionals
-    board_looks = (refl, refl, (refl, refl, (refl, refl, (refl, refl, (refl, refl, (refl, refl, (refl, refl, refl)))))))
-
-    board_distinct : Distinct board_form.positionals
-    board_distinct = (refl, (refl, (refl, (refl, (refl, (refl, (refl, tt)))))))
-
-    gen_looks : Looks (placed 1 gen_form.positionals) 1 gen_form.positionals
-    gen_looks = (refl, refl, (refl, refl, (refl, refl, refl)))
-
-    gen_distinct : Distinct gen_form.positionals
-    gen_distinct = (refl, (refl, (refl, tt)))
+all_good = grind (arith, Distinct, Looks, placed)
 
 hub_parsed : (words : List Text) → list_any is_option words ≡ false
     → (passes (fault_of (app_for forms) words) ≡ takes_words forms words) × (takes_words forms words ≡ true → subcommand_of (app_for forms) words ≡ read_rows forms words)
@@ -234,12 +200,7 @@ hub_parsed words plain =
     (all.judged, all.found)
 
 bytes_eq_swap : (xs ys : List ℕ) (b : Bool) → bytes_eq xs ys ≡ b → bytes_eq ys xs ≡ b
-bytes_eq_swap xs ys true e = (bytes_eq-Decides ys xs).1 (sym ((bytes_eq-Decides xs ys).0 e))
-bytes_eq_swap xs ys false e = go (bytes_eq ys xs) refl
-  where
-    go : (b : Bool) → bytes_eq ys xs ≡ b → b ≡ false
-    go false back = refl
-    go true back = absurd (true≢false (sym ((bytes_eq-Decides xs ys).1 (sym ((bytes_eq-Decides ys xs).0 back))) ∙ e))
+bytes_eq_swap xs ys b e = grind (arith, bytes_eq-Decides, true≢false)
 
 -- the same words are taken, and read as the same command
 abbrev Knows : Bool → Option (Text × List Row) → Option Command → Type 0
@@ -260,37 +221,12 @@ KnowsBy form args command =
 
 knows : (replay check board sample : Bool) (args : List Text) → KnowsBy (form_by replay check board sample) args (command_by replay check board sample args)
 unfolding word_under number_under
-knows true check board sample [] = refl
-knows true check board sample (a ∷ []) = refl
-knows true check board sample (a ∷ b ∷ more) = refl
-knows false true board sample [] = refl
-knows false true board sample (a ∷ []) = refl
-knows false true board sample (a ∷ b ∷ more) = refl
-knows false false true sample [] = refl
-knows false false true sample (a ∷ []) = refl
-knows false false true sample (a ∷ b ∷ []) = refl
-knows false false true sample (a ∷ b ∷ c ∷ []) = refl
-knows false false true sample (a ∷ b ∷ c ∷ d ∷ []) = refl
-knows false false true sample (a ∷ b ∷ c ∷ d ∷ e ∷ []) = refl
-knows false false true sample (a ∷ b ∷ c ∷ d ∷ e ∷ f ∷ []) = refl
-knows false false true sample (a ∷ b ∷ c ∷ d ∷ e ∷ f ∷ g ∷ []) = refl
-knows false false true sample (a ∷ b ∷ c ∷ d ∷ e ∷ f ∷ g ∷ h ∷ more) = refl
-knows false false false true [] = refl
-knows false false false true (a ∷ []) = refl
-knows false false false true (a ∷ b ∷ []) = refl
-knows false false false true (a ∷ b ∷ c ∷ []) = refl
-knows false false false true (a ∷ b ∷ c ∷ d ∷ more) = refl
-knows false false false false args = refl
+knows replay check board sample args = grind arith
 
 -- the definition asks the names the other way round
 by_names : (word : Text) (args : List Text)
     → command_by (bytes_eq (codes "replay") word) (bytes_eq (codes "check") word) (bytes_eq (codes "board") word) (bytes_eq (codes "gen") word) args ≡ command_by_name word args
-by_names word args =
-    let swapped : (name : Text) → bytes_eq name word ≡ bytes_eq word name = λ name. sym (bytes_eq_swap name word (bytes_eq name word) refl) in
-    ap (λ b. command_by b (bytes_eq (codes "check") word) (bytes_eq (codes "board") word) (bytes_eq (codes "gen") word) args) (swapped (codes "replay"))
-    ∙ ap (λ b. command_by (bytes_eq word (codes "replay")) b (bytes_eq (codes "board") word) (bytes_eq (codes "gen") word) args) (swapped (codes "check"))
-    ∙ ap (λ b. command_by (bytes_eq word (codes "replay")) (bytes_eq word (codes "check")) b (bytes_eq (codes "gen") word) args) (swapped (codes "board"))
-    ∙ ap (λ b. command_by (bytes_eq word (codes "replay")) (bytes_eq word (codes "check")) (bytes_eq word (codes "board")) b args) (swapped (codes "gen"))
+by_names word args = grind (arith, bytes_eq_swap)
 
 knows_all : (words : List Text) → Knows (takes_words forms words) (read_rows forms words) (command_with words)
 knows_all [] = refl

@@ -1,36 +1,30 @@
 -- What clap makes of the words behind a command's name, for any list of positionals: it takes them exactly where their
 -- number is right, and then each stands under its positional's id.
-use Rattle.std.proofs.Common.{◌≡◌, ◌∙◌, ℕ, ◌+◌, ◌&&◌, ◌||◌, Bool, true, false, not, cond, if◌then◌else◌, min, refl, sym, ap, List, [], ◌∷◌, ◌++◌, Option, Some, None, true≢false}
-use Rattle.std.specs.Prelude.{find, fold}
+use Rattle.std.proofs.Common.{◌≡◌, ◌∙◌, ℕ, ◌+◌, ◌&&◌, ◌||◌, Bool, true, false, not, cond, min, refl, sym, ap, List, [], ◌∷◌, ◌++◌, Option, Some, None, true≢false, arith}
+use Rattle.std.specs.Prelude.{fold}
 use Rattle.std.proofs.lemmas.List.{append-nil, append_assoc}
 use Rattle.std.proofs.lemmas.Slice.Eq.{bytes_eq-Decides}
 use Rattle.std.specs.List.{list_any}
-use Rattle.std.specs.Option.{option_map_or}
 use Rattle.std.specs.Str.{bytes_eq}
 use Rattle.clap.specs.Lexer.{usize_max, long_of, short_of}
-use Rattle.clap.specs.Facts.{explicit_source}
 use Rattle.clap.specs.Kinds.{Kinds, or_else}
-use Rattle.clap.specs.Walk.{Held, Names, Row, Rule, subcommand_met, subcommand_or_other, default_rows, reading_by, more_values, with_values, Step, Text, Walk, value, idle, arg_by_id, arg_by_index, at_row, after_step, finished, has_row, is_empty, is_pending, long_or_other, nothing_held, pushed, rows_after, settled, short_or_plain, to_positional, trailing, used, used_by_id, walked, with_default, word_met, without}
+use Rattle.clap.specs.Walk.{Held, Names, Row, Rule, subcommand_met, default_rows, reading_by, Text, Walk, value, idle, arg_by_id, arg_by_index, at_row, finished, has_row, nothing_held, rows_after, settled, used, used_by_id, walked, with_default, word_met}
 use Rattle.clap.specs.Simple.{Shape, new_rule, new_shape}
 use Rattle.clap.specs.Takes.{is_given}
-use Rattle.clap.specs.Faults.{bundle_fault, other_fault, given_default_fault, check_fault, default_fault, defaults_fault, flag_word_fault, level_fault, positional_fault, settle_fault, step_fault, stray_fault, turn_fault, use_fault, walk_fault, word_fault}
+use Rattle.clap.specs.Faults.{check_fault, default_fault, defaults_fault, level_fault, settle_fault, step_fault, stray_fault, turn_fault, walk_fault, word_fault}
 use Rattle.clap.specs.declared.builder.action.ArgAction.TheVariants.{Set}
 use Rattle.clap.specs.declared.builder.value_parser.ValueParser.TheVariants as vp
 use Rattle.clap.specs.declared.error.kind.ErrorKind.TheVariants as kind
-use Rattle.clap.specs.declared.parser.matches.ValueSource.TheVariants.{CommandLine}
-use Rattle.clap.specs.Values.{reading_of}
 use Rattle.hub_main_defs.specs.Words.{is_option}
 use Rattle.hub_words.specs.Forms.{Positional, Form, fits, given, given_row}
 
 -- ---- truth values
 
 pub or_false : (a b : Bool) → (a || b) ≡ false → (a ≡ false) × (b ≡ false)
-or_false true b h = absurd (true≢false h)
-or_false false b h = (refl, h)
+or_false a b h = grind (arith, true≢false)
 
 pub and_false : (a : Bool) → (a && false) ≡ false
-and_false true = refl
-and_false false = refl
+and_false a = grind arith
 
 -- no error
 abbrev pub passes : Kinds → Bool
@@ -78,9 +72,7 @@ Distinct (p ∷ ps) = (list_any (λ q. bytes_eq p.id q.id) ps ≡ false) × Dist
 
 no_row_at : (id : Text) (change : Row → List Row) (missing rows : List Row) → has_row id rows ≡ false → at_row id change missing rows ≡ rows ++ missing
 no_row_at id change missing [] h = refl
-no_row_at id change missing (r ∷ rs) h =
-    let parts = or_false (bytes_eq r.id id) (has_row id rs) h in
-    ap (λ b. cond b (change r ++ rs) (r ∷ at_row id change missing rs)) parts.0 ∙ ap (λ t. r ∷ t) (no_row_at id change missing rs parts.1)
+no_row_at id change missing (r ∷ rs) h = grind (arith, no_row_at id change missing rs, or_false (bytes_eq r.id id) (has_row id rs) h)
 
 no_row_more : (id : Text) (rows : List Row) (x : Row) → has_row id rows ≡ false → bytes_eq x.id id ≡ false → has_row id (rows ++ x ∷ []) ≡ false
 no_row_more id [] x h differs = ap (λ b. b || false) differs
@@ -90,17 +82,11 @@ no_row_more id (r ∷ rs) x h differs =
 
 not_given : (id : Text) (rows : List Row) → has_row id rows ≡ false → is_given id rows ≡ false
 not_given id [] h = refl
-not_given id (r ∷ rs) h =
-    let parts = or_false (bytes_eq r.id id) (has_row id rs) h in
-    ap (λ b. option_map_or (λ (x : Row). explicit_source x.source) (cond b (Some r) (find (λ (x : Row). bytes_eq x.id id) rs)) false) parts.0 ∙ not_given id rs parts.1
+not_given id (r ∷ rs) h = grind (arith, not_given id rs, or_false (bytes_eq r.id id) (has_row id rs) h)
 
 is_given_there : (id word : Text) (rows more : List Row) → bytes_eq id id ≡ true → has_row id rows ≡ false → is_given id (rows ++ given_row id word ∷ more) ≡ true
-is_given_there id word [] more own h =
-    ap (λ b. option_map_or (λ (x : Row). explicit_source x.source) (cond b (Some (given_row id word)) (find (λ (x : Row). bytes_eq x.id id) more)) false) own
-is_given_there id word (r ∷ rs) more own h =
-    let parts = or_false (bytes_eq r.id id) (has_row id rs) h in
-    ap (λ b. option_map_or (λ (x : Row). explicit_source x.source) (cond b (Some r) (find (λ (x : Row). bytes_eq x.id id) (rs ++ given_row id word ∷ more))) false) parts.0
-    ∙ is_given_there id word rs more own parts.1
+is_given_there id word [] more own h = grind arith
+is_given_there id word (r ∷ rs) more own h = grind (arith, is_given_there id word rs more own, or_false (bytes_eq r.id id) (has_row id rs) h)
 
 -- ---- between two words
 
@@ -131,10 +117,7 @@ Waits c rows None = Unit {0}
 Waits c rows (Some l) = (arg_by_id c l.positional.id ≡ Some (placed_rule l.index l.positional)) × (has_row l.positional.id rows ≡ false)
 
 used_is : (i : ℕ) (q : Positional) (word : Text) (rows : List Row) → has_row q.id rows ≡ false → used (placed_rule i q) (word ∷ []) rows ≡ rows ++ given_row q.id word ∷ []
-used_is i q word rows h =
-    let gone : without q.id rows ≡ rows = no_row_at q.id (λ _. []) [] rows h ∙ append-nil rows in
-    ap (λ rs. with_values q.id (reading_of vp.String) CommandLine (word ∷ []) rs) gone
-    ∙ no_row_at q.id (more_values CommandLine (word ∷ [])) (given_row q.id word ∷ []) rows h
+used_is i q word rows h = grind (arith, append-nil, no_row_at)
 
 settled_is : (c : List Rule) (rows : List Row) (last : Option Last) → Waits c rows last → settled c (holds rows last) ≡ holds (rows_with rows last) None
 settled_is c rows None w = refl
@@ -143,69 +126,40 @@ settled_is c rows (Some l) w =
     ap (λ o. change (used_by_id o (l.word ∷ []) rows)) w.0 ∙ ap change (used_is l.index l.positional l.word rows w.1)
 
 settle_passes : (c : List Rule) (again : Bool) (rows : List Row) (last : Option Last) → Waits c rows last → settle_fault c again (holds rows last) ≡ []
-settle_passes c again rows None w = refl
-settle_passes c again rows (Some l) w =
-    ap (λ o. option_map_or (λ a. use_fault again a (l.word ∷ []) rows) o []) w.0
-    ∙ ap (λ b. or_else (if b && not again then kind.ArgumentConflict ∷ [] else []) []) w.1
+settle_passes c again rows last w = grind arith
 
 -- ---- a word that is no option
 
 pub is_value : (word : Text) → is_option word ≡ false → (bytes_eq word (45 ∷ 45 ∷ []) ≡ false) × (long_of word ≡ None) × (short_of word ≡ None)
-is_value [] h = (refl, refl, refl)
-is_value (b ∷ bs) h = (rw h refl, rw h refl, rw h refl)
+is_value word h = grind arith
 
 word_met_is : (c : List Rule) (names : Names) (i : ℕ) (word : Text) (h : Held) → is_option word ≡ false → subcommand_met names idle word ≡ None
     → word_met c names false idle i word h ≡ (h, value)
-word_met_is c names i word h plain none =
-    let v = is_value word plain in
-    let dashes : subcommand_or_other c None idle i word h ≡ long_or_other c idle word (long_of word) h = ap (λ b. cond b (h, trailing i) (long_or_other c idle word (long_of word) h)) v.0 in
-    ap (λ o. subcommand_or_other c o idle i word h) none ∙ dashes ∙ ap (λ o. long_or_other c idle word o h) v.1 ∙ ap (λ o. short_or_plain c idle word o h) v.2
+word_met_is c names i word h plain none = grind (arith, is_value)
 
 word_passes : (s : Shape) (names : Names) (word : Text) (h : Held) → is_option word ≡ false → subcommand_met names idle word ≡ None → word_fault s names false idle word h ≡ []
-word_passes s names word h plain none =
-    let v = is_value word plain in
-    ap (λ o. other_fault s o word h) none
-    ∙ ap (λ b. cond b [] (flag_word_fault s.rules s.args_override_self (long_of word) word h)) v.0
-    ∙ ap (λ o. flag_word_fault s.rules s.args_override_self o word h) v.1
-    ∙ ap (λ o. option_map_or (λ flags. bundle_fault s.rules s.args_override_self flags h) o []) v.2
+word_passes s names word h plain none = grind (arith, is_value)
 
 -- it goes to a positional, unless it names a subcommand
 pub turn_is : (s : Shape) (names : Names) (i : ℕ) (word : Text) (h : Held) → is_option word ≡ false → subcommand_met names idle word ≡ None
     → turn_fault s names (at h i) word ≡ step_fault s i h value
-turn_is s names i word h plain none =
-    ap (λ k. or_else k (step_fault s i (word_met s.rules names false idle i word h).0 (word_met s.rules names false idle i word h).1)) (word_passes s names word h plain none)
-    ∙ ap (λ (m : Held × Step). step_fault s i m.0 m.1) (word_met_is s.rules names i word h plain none)
+turn_is s names i word h plain none = grind (arith, word_met_is, word_passes)
 
 -- the next positional takes the word
 abbrev read_as : ℕ → Positional → Text → Last
 read_as i p word = record { index = i; positional = p; word = word }
 
-abbrev next_walk : List Rule → ℕ → Positional → Text → Held → Walk
-next_walk c i p word h = at (pushed p.id word h) (min (i + 1) usize_max)
-
 pub turn_passes : (s : Shape) (i : ℕ) (p : Positional) (word : Text) (rows : List Row) (last : Option Last) → is_option word ≡ false → arg_by_index s.rules i ≡ Some (placed_rule i p)
     → Waits s.rules rows last → turn_fault s [] (at (holds rows last) i) word ≡ []
-turn_passes s i p word rows last plain found w =
-    let again = s.args_override_self in
-    let h = holds rows last in
-    turn_is s [] i word h plain refl
-    ∙ ap (λ o. option_map_or (λ a. positional_fault s.rules again a h) o (stray_fault s)) found
-    ∙ ap (λ b. cond b [] (settle_fault s.rules again h)) (and_false (is_pending (placed_rule i p) h.pending))
-    ∙ settle_passes s.rules again rows last w
+turn_passes s i p word rows last plain found w = grind (arith, and_false, settle_passes, turn_is)
 
 pub walked_is : (c : List Rule) (i : ℕ) (p : Positional) (word : Text) (rows : List Row) (last : Option Last) → is_option word ≡ false → arg_by_index c i ≡ Some (placed_rule i p)
     → Waits c rows last → walked c [] (at (holds rows last) i) word ≡ at (holds (rows_with rows last) (Some (read_as i p word))) (min (i + 1) usize_max)
 unfolding walked
-walked_is c i p word rows last plain found w =
-    let h = holds rows last in
-    ap (λ (m : Held × Step). after_step c word (at h i) m.0 m.1) (word_met_is c [] i word h plain refl)
-    ∙ ap (λ o. to_positional c o word (at h i) h) found
-    ∙ ap (λ b. next_walk c i p word (cond b h (settled c h))) (and_false (is_pending (placed_rule i p) h.pending))
-    ∙ ap (λ k. next_walk c i p word k) (settled_is c rows last w)
+walked_is c i p word rows last plain found w = grind (arith, and_false, settled_is, word_met_is)
 
 pub stray : (s : Shape) (i : ℕ) (word : Text) (h : Held) → is_option word ≡ false → arg_by_index s.rules i ≡ None → turn_fault s [] (at h i) word ≡ stray_fault s
-stray s i word h plain none =
-    turn_is s [] i word h plain refl ∙ ap (λ o. option_map_or (λ a. positional_fault s.rules s.args_override_self a h) o (stray_fault s)) none
+stray s i word h plain none = grind (arith, turn_is)
 
 -- ---- behind the last word
 
@@ -226,19 +180,13 @@ placed_bare i [] = tt
 placed_bare i (p ∷ ps) = (refl, placed_bare (min (i + 1) usize_max) ps)
 
 both_same : {A : Type 0} (b : Bool) (x y : A) → y ≡ x → cond b x y ≡ x
-both_same true x y e = refl
-both_same false x y e = e
+both_same b x y e = grind arith
 
 default_same : (rows : List Row) (a : Rule) → a.defaults ≡ [] → with_default rows a ≡ rows
 default_same rows a none = both_same (has_row a.id rows) rows _ (ap (λ ds. default_rows a.id (reading_by a) ds rows) none)
 
 default_passes : (rows : List Row) (a : Rule) → a.defaults ≡ [] → default_fault rows a ≡ []
-default_passes rows a none =
-    ap (λ ds. cond (has_row a.id rows || is_empty ds) [] (given_default_fault a a.defaults)) none ∙ ap (λ b. cond b [] (given_default_fault a a.defaults)) (or_true (has_row a.id rows))
-  where
-    or_true : (b : Bool) → (b || true) ≡ true
-    or_true true = refl
-    or_true false = refl
+default_passes rows a none = grind arith
 
 defaults_same : (rows : List Row) (c : List Rule) → Bare c → fold with_default rows c ≡ rows
 defaults_same rows [] h = refl
@@ -247,8 +195,7 @@ defaults_same rows (a ∷ c) h = ap (λ rs. fold with_default rs c) (default_sam
 defaults_pass : (rows : List Row) (c : List Rule) → Bare c → defaults_fault rows c ≡ []
 unfolding defaults_fault
 defaults_pass rows [] h = refl
-defaults_pass rows (a ∷ c) h =
-    ap (λ k. or_else k (defaults_fault (with_default rows a) c)) (default_passes rows a h.0) ∙ ap (λ rs. defaults_fault rs c) (default_same rows a h.0) ∙ defaults_pass rows c h.1
+defaults_pass rows (a ∷ c) h = grind (arith, defaults_pass rows c h.1, default_passes rows a h.0, default_same rows a h.0)
 
 pub finished_is : (c : List Rule) (rows : List Row) (last : Option Last) → Bare c → Waits c rows last → finished c (holds rows last) ≡ rows_with rows last
 finished_is c rows last bare w = ap (λ (h : Held). fold with_default h.rows c) (settled_is c rows last w) ∙ defaults_same (rows_with rows last) c bare
@@ -278,29 +225,14 @@ fresh_behind id word rows (q ∷ qs) h differs =
 
 missing_all : (i : ℕ) (rows : List Row) (ps : List Positional) → Fresh rows ps → list_any (is_missing rows) (placed i ps) ≡ list_any (λ q. q.required) ps
 missing_all i rows [] h = refl
-missing_all i rows (p ∷ ps) h =
-    ap (λ b. (p.required && not b) || list_any (is_missing rows) (placed (min (i + 1) usize_max) ps)) (not_given p.id rows h.0)
-    ∙ ap (λ b. b || list_any (is_missing rows) (placed (min (i + 1) usize_max) ps)) (and_true p.required)
-    ∙ ap (λ b. p.required || b) (missing_all (min (i + 1) usize_max) rows ps h.1)
-  where
-    and_true : (b : Bool) → (b && true) ≡ b
-    and_true true = refl
-    and_true false = refl
+missing_all i rows (p ∷ ps) h = grind (arith, missing_all (min (i + 1) usize_max) rows ps h.1, not_given p.id rows h.0)
 
 passed_one : (c : List Rule) (i : ℕ) (p : Positional) (ps : List Positional) (word : Text) (rows : List Row) → Passed c (placed i (p ∷ ps)) rows → has_row p.id rows ≡ false
     → Passed c (placed (min (i + 1) usize_max) ps) (rows ++ given_row p.id word ∷ [])
-passed_one c i p ps word rows passed fresh more =
-    let x = given_row p.id word in
-    let tail = placed (min (i + 1) usize_max) ps in
-    let all = rows ++ x ∷ more in
-    let same : (rows ++ x ∷ []) ++ more ≡ all = append_assoc rows (x ∷ []) more in
-    let there : is_missing all (placed_rule i p) ≡ false =
-    ap (λ b. p.required && not b) (is_given_there p.id word rows more ((bytes_eq-Decides p.id p.id).1 refl) fresh) ∙ and_false p.required in
-    ap (λ rs. list_any (is_missing rs) c) same ∙ passed (x ∷ more) ∙ ap (λ b. b || list_any (is_missing all) tail) there ∙ ap (λ rs. list_any (is_missing rs) tail) (sym same)
+passed_one c i p ps word rows passed fresh more = grind (arith, append_assoc, is_given_there p.id word rows more ((bytes_eq-Decides p.id p.id).1 refl) fresh, bytes_eq-Decides p.id p.id, and_false p.required)
 
 passes_missing : (b : Bool) → passes (cond b (kind.MissingRequiredArgument ∷ []) []) ≡ not b
-passes_missing true = refl
-passes_missing false = refl
+passes_missing b = grind arith
 
 -- behind the words only a required positional may be missing
 behind_is : (name : Text) (c : List Rule) (i : ℕ) (ps : List Positional) (rows : List Row) (last : Option Last) → Bare c → Waits c rows last → Fresh (rows_with rows last) ps
@@ -336,18 +268,11 @@ level_ends s w = refl
 level_steps : (s : Shape) (w after : Walk) (word : Text) (words : List Text) → turn_fault s [] w word ≡ [] → walked s.rules [] w word ≡ after
     → level_at s w (word ∷ words) ≡ level_at s after words
 unfolding walk_fault
-level_steps s w after word words passed next =
-    ap (λ k. or_else (or_else k (walk_fault s [] (walked s.rules [] w word) words)) (behind s (fold (walked s.rules []) (walked s.rules [] w word) words).held)) passed
-    ∙ ap (λ v. level_at s v words) next
+level_steps s w after word words passed next = grind arith
 
 level_strays : (s : Shape) (w : Walk) (word : Text) (words : List Text) → passes (turn_fault s [] w word) ≡ false → passes (level_at s w (word ∷ words)) ≡ false
 unfolding walk_fault
-level_strays s w word words h = go (turn_fault s [] w word) h
-  where
-    go : (k : Kinds) → passes k ≡ false
-        → passes (or_else (or_else k (walk_fault s [] (walked s.rules [] w word) words)) (behind s (fold (walked s.rules []) (walked s.rules [] w word) words).held)) ≡ false
-    go [] e = absurd (true≢false e)
-    go (x ∷ xs) e = refl
+level_strays s w word words h = grind (arith, true≢false)
 
 pub fitted : (name : Text) (c : List Rule) (i : ℕ) (ps : List Positional) (rows : List Row) (last : Option Last) (words : List Text) → Bare c → Looks c i ps → Distinct ps
     → Waits c rows last → Fresh (rows_with rows last) ps → Passed c (placed i ps) (rows_with rows last) → list_any is_option words ≡ false

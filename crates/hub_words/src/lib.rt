@@ -13,7 +13,7 @@
 //! [`asks_for_server`] and [`serve_path`] tell the words of the server, which is no command that runs
 //! once and ends; `clap` has no part in it.
 //!
-//! The crate stands on `clap` for the parsing, on `texts` for numbers, on `script_lines` for the form of a
+//! The crate stands on `clap` for the parsing, on `long_numbers` for numbers, on `script_lines` for the form of a
 //! board and on `rt_types` for the words.
 #![tactic(auto)]
 

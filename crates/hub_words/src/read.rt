@@ -9,7 +9,7 @@ ghost use Rattle.hub_words.specs.Forms.{board_in, command_in, gen_in, named, rep
 ghost use Rattle.hub_words.specs.Answer.{IsCommandOf, IsFaultOf, Parses, seen};
 
 use crate::board::asked_in;
-use crate::given::{number_under, seed_under, word_under};
+use crate::given::{number_under, word_under};
 use crate::parser::parser;
 use board_text_defs::BoardAsked;
 use clap::error::ErrorKind;
@@ -183,7 +183,7 @@ fn board_in<'a>(words: &ArgMatches<'a>) -> Option<Command<'a>>
 fn gen_in<'a>(words: &ArgMatches<'a>) -> Option<Command<'a>>
     ensures { option_map seen result ≡ gen_in (rows_of (found_of words.now)) }
 {
-    let seed = seed_under(words, "seed")?;
+    let seed = number_under(words, "seed", 0, u64::MAX)?;
     let trips = number_under(words, "trips", 1, MOST_TRIPS)?;
     let messages = number_under(words, "messages", 1, MOST_MESSAGES)?;
     Some(Command::Gen {

@@ -1,10 +1,11 @@
 -- Of items each of which has a key of its own, only those go and come that are not the same at their places.
-use Rattle.std.proofs.Common.{◌≡◌, ℕ, ◌+◌, ◌<◌, ◌≤◌, length, get_or, append-nil, append_assoc, List, [], ◌∷◌, ◌++◌, Bool, true, false, cond, Option, Some, None, map, drop, count_by, refl, sym, ap, subst, ◌∙◌, inl, inr, arith}
+use Rattle.std.proofs.Common.{◌≡◌, ℕ, ◌+◌, ◌<◌, ◌≤◌, length, get_or, append-nil, append_assoc, List, [], ◌∷◌, ◌++◌, Bool, true, false, cond, Option, Some, None, map, drop, drop-drop, slice_get, count_by, refl, sym, ap, subst, ◌∙◌, inl, inr, arith}
 use Rattle.std.specs.Prelude.{◌⊎◌, if◌then◌else◌}
 use Rattle.std.specs.List.{AllByRecursion}
 use Rattle.std.specs.Ordering.{eq_by_cmp}
 use Rattle.std.specs.declared.cmp.Ordering.{Ordering}
 use Rattle.std.proofs.lemmas.List.{drop_all, drop_more}
+use Rattle.std.proofs.lemmas.Option.{slice_get_cases}
 use Rattle.order.proofs.Counts.{count-cons, one_is}
 use Rattle.shared_list.specs.declared.change.Change.TheVariants.{Put, Remove}
 use Rattle.keyed_lists.specs.Keyed.{stands_first, turned, unlike}
@@ -152,11 +153,31 @@ module _ {K X : Type 0} (cmp : K → K → Ordering) (key : X → K) (same : X �
       ∙ ap (puts (unlike same new old)) (removes_apart cmp key k (unlike same old new) (apart_unlike old new apart) found)
       ∙ puts_apart cmp key k (unlike same new old) (apart_unlike new old others) found
 
+-- ---- what stands at a place
+
+module _ {X : Type 0} (same : X → X → Bool) (x : X) where
+  abbrev pub stands : Option X → Bool
+  stands None = false
+  stands (Some y) = same x y
+
+  -- an item is the first of others from a place on where it is the same as the one there
+  pub stands_there : (others : List X) (i : ℕ) → stands_first same x (drop i others) ≡ stands (slice_get others i)
+  stands_there others i = by_place (slice_get_cases others i).1 where
+    by_place : ((y : X) × (i < length others) × (slice_get others i ≡ Some y) × (get_or others i y ≡ y)) ⊎ ((length others ≤ i) × (slice_get others i ≡ None))
+        → stands_first same x (drop i others) ≡ stands (slice_get others i)
+    by_place (inl there) =
+        ap (stands_first same x) (drop_more others i there.0 there.1)
+        ∙ ap (same x) there.3
+        ∙ sym (ap stands there.2)
+    by_place (inr past) =
+        ap (stands_first same x) (drop_all i others past.0)
+        ∙ sym (ap stands past.1)
+
 -- ---- what is written of unlike items, one after another
 
 module _ {X Y : Type 0} (f : X → Y) (same : X → X → Bool) where
   -- what is written of an item
-  abbrev pub written : X → List X → List Y
+  abbrev written : X → List X → List Y
   written x others = if stands_first same x others then [] else f x ∷ []
 
   unlike_first : (x : X) (xs others : List X) → map f (unlike same (x ∷ xs) others) ≡ written x others ++ map f (unlike same xs (drop 1 others))
@@ -168,18 +189,20 @@ module _ {X Y : Type 0} (f : X → Y) (same : X → X → Bool) where
     by_test true = refl
     by_test false = refl
 
-  module _ (xs : List X) (i : ℕ) (others : List X) (old all : List Y) (so_far : old ++ map f (unlike same (drop i xs) others) ≡ all) where
-    pub written_more : (d : X) (new : List Y) (left : List X) → i < length xs → new ≡ old ++ written (get_or xs i d) others → left ≡ drop 1 others → new ++ map f (unlike same (drop (i + 1) xs) left) ≡ all
-    written_more d new left h pushed cut =
-        ap (λ ys. new ++ map f (unlike same (drop (i + 1) xs) ys)) cut
-        ∙ ap (λ ys. ys ++ map f (unlike same (drop (i + 1) xs) (drop 1 others))) pushed
-        ∙ append_assoc old (written (get_or xs i d) others) (map f (unlike same (drop (i + 1) xs) (drop 1 others)))
-        ∙ ap (λ ys. old ++ ys) (sym (unlike_first (get_or xs i d) (drop (i + 1) xs) others))
-        ∙ ap (λ ys. old ++ map f (unlike same ys others)) (sym (drop_more xs i d h))
+  module _ (xs others : List X) (i : ℕ) (old all : List Y) (so_far : old ++ map f (unlike same (drop i xs) (drop i others)) ≡ all) where
+    -- the one at the next place was gone over: nothing is written of it where it stands there too
+    pub written_more : (d : X) (new : List Y) (stands : Bool) → i < length xs → stands ≡ stands_first same (get_or xs i d) (drop i others) → new ≡ old ++ (if stands then [] else f (get_or xs i d) ∷ [])
+        → new ++ map f (unlike same (drop (i + 1) xs) (drop (i + 1) others)) ≡ all
+    written_more d new stands h is pushed =
+        ap (λ ys. new ++ map f (unlike same (drop (i + 1) xs) ys)) (sym (drop-drop 1 i others))
+        ∙ ap (λ ys. ys ++ map f (unlike same (drop (i + 1) xs) (drop 1 (drop i others)))) (pushed ∙ ap (λ b. old ++ (if b then [] else f (get_or xs i d) ∷ [])) is)
+        ∙ append_assoc old (written (get_or xs i d) (drop i others)) (map f (unlike same (drop (i + 1) xs) (drop 1 (drop i others))))
+        ∙ ap (λ ys. old ++ ys) (sym (unlike_first (get_or xs i d) (drop (i + 1) xs) (drop i others)))
+        ∙ ap (λ ys. old ++ map f (unlike same ys (drop i others))) (sym (drop_more xs i d h))
         ∙ so_far
 
     pub written_all : length xs ≤ i → old ≡ all
     written_all h =
         sym (append-nil old)
-        ∙ ap (λ ys. old ++ map f (unlike same ys others)) (sym (drop_all i xs h))
+        ∙ ap (λ ys. old ++ map f (unlike same ys (drop i others))) (sym (drop_all i xs h))
         ∙ so_far

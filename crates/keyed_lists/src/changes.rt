@@ -34,8 +34,9 @@ fn items_put<T: Keyed, K: KeyFor<T>>(changes: Vec<Change<T, K>>) -> Result<Vec<T
     Ok(items)
 }
 
-/// The list after the changes, one after another; or out of memory. The given list stays as it is, and the two share what
-/// is not changed. Where items are put into a list of none, they are not searched for one by one.
+/// The list after the changes, one after another; or out of memory. The given list stays as it is,
+/// and the two share what is not changed. Where items are put into a list of none, they are not
+/// searched for one by one.
 pub fn changed<T: Keyed, K: KeyFor<T>>(
     list: &SharedList<T>,
     changes: Vec<Change<T, K>>,

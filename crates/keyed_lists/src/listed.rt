@@ -31,8 +31,9 @@ fn put_all<T: Keyed>(items: Vec<T>) -> Result<SharedList<T>, NoMemory>
     Ok(list)
 }
 
-/// The list of the items by their keys, of several with one key the last; or out of memory. The items are sorted first,
-/// since they may be in any order. Where each key is there once, as it mostly is, they are not searched for.
+/// The list of the items by their keys, of several with one key the last; or out of memory. The
+/// items are sorted first, since they may be in any order. Where each key is there once, as it
+/// mostly is, they are not searched for.
 pub(crate) fn listed<T: Keyed>(items: Vec<T>) -> Result<SharedList<T>, NoMemory>
     ensures { IfOk result (λ list. list ≡ by_key T.key_cmp T.key_of items.items) }
 {
@@ -45,8 +46,8 @@ pub(crate) fn listed<T: Keyed>(items: Vec<T>) -> Result<SharedList<T>, NoMemory>
     }
 }
 
-/// The list of the items by their keys, of several with one key the last; or out of memory. Those whose keys rise are
-/// compared once with their neighbours, and others are sorted.
+/// The list of the items by their keys, of several with one key the last; or out of memory. Those
+/// whose keys rise are compared once with their neighbours, and others are sorted.
 pub fn listed_by_key<T: Keyed>(items: Vec<T>) -> Result<SharedList<T>, NoMemory>
     ensures { IfOk result (λ list. list ≡ by_key T.key_cmp T.key_of items.items) }
 {

@@ -1,4 +1,5 @@
 -- How many items of a list pass a test, and lists that have the same items, each as often.
+use Rattle.std.proofs.lemmas.Bool.Decides.{nat_tests}
 use Rattle.std.proofs.Common.{◌≡◌, ℕ, zero, suc, ◌+◌, ◌<◌, ◌≤◌, Bool, true, false, cond, ◌&&◌, nat_eq, List, [], ◌∷◌, ◌++◌, map, filter, count_by, refl, sym, ap, ◌∙◌, inl, inr, arith}
 use Rattle.std.specs.List.{enumerate_from, flat_map, range_with_len}
 use Rattle.std.proofs.lemmas.Bool.{cases_eq, eq-eqb, ne_eqb}
@@ -14,12 +15,10 @@ pub one_not : (b : Bool) → b ≡ false → one b ≡ 0
 one_not b e = ap one e
 
 pub not_one : (b : Bool) → one b ≡ 0 → b ≡ false
-not_one true e = absurd (omega (arith, e))
-not_one false e = refl
+not_one b e = grind arith
 
 fewer_one : (a b : Bool) → (b ≡ true → a ≡ true) → one b ≤ one a
-fewer_one a true h = omega (arith, one_is a (h refl))
-fewer_one a false h = omega arith
+fewer_one a b h = grind arith
 
 module _ {X : Type 0} where
   pub count-cons : (p : X → Bool) (x : X) (xs : List X) → count_by p (x ∷ xs) ≡ one (p x) + count_by p xs
@@ -41,8 +40,7 @@ module _ {X : Type 0} where
   count_never p (x ∷ xs) never = omega (arith, count-cons p x xs, one_not (p x) (never x), count_never p xs never)
 
   count_tested : (p q : X → Bool) (x : X) (xs : List X) → count_by q (filter p xs) ≡ count_by (λ y. p y && q y) xs → (b : Bool) → count_by q (cond b (x ∷ filter p xs) (filter p xs)) ≡ one (b && q x) + count_by (λ y. p y && q y) xs
-  count_tested p q x xs rest true = omega (arith, count-cons q x (filter p xs), rest)
-  count_tested p q x xs rest false = omega (arith, rest)
+  count_tested p q x xs rest b = grind (arith, count-cons, false, filter, true)
 
   pub count-filter : (p q : X → Bool) (xs : List X) → count_by q (filter p xs) ≡ count_by (λ x. p x && q x) xs
   count-filter p q [] = refl
@@ -55,13 +53,7 @@ module _ {X : Type 0} where
 
   pub count_range_none : (p : X → Bool) (f : ℕ → List X) (a n : ℕ) → ((k : ℕ) → a ≤ k → k < a + n → count_by p (f k) ≡ 0) → count_by p (flat_map f (range_with_len a n)) ≡ 0
   count_range_none p f a zero none = refl
-  count_range_none p f a (suc n) none =
-      omega (
-        arith,
-        count-append p (f a) (flat_map f (range_with_len (a + 1) n)),
-        none a (omega arith) (omega arith),
-        count_range_none p f (a + 1) n (λ k h l. none k (omega arith) (omega arith)),
-      )
+  count_range_none p f a (suc n) none = grind (arith, count_range_none p f (a + 1) n (λ k h l. none k (omega arith) (omega arith)), arith, count-append p (f a) (flat_map f (range_with_len (a + 1) n)))
 
 pub count-map : {X Y : Type 0} (p : Y → Bool) (f : X → Y) (xs : List X) → count_by p (map f xs) ≡ count_by (λ x. p (f x)) xs
 count-map p f [] = refl
@@ -74,10 +66,7 @@ count-map p f (x ∷ xs) = omega (arith, count-cons p (f x) (map f xs), count-co
 module _ {A X : Type 0} (is : X → Bool) (key : A → Bool) (f : A → List X) (outside : (a : A) → key a ≡ false → count_by is (f a) ≡ 0) (inside : (a : A) → count_by is (f a) ≤ 1) where
   none_keyed : (items : List A) → count_by key items ≡ 0 → count_by is (flat_map f items) ≡ 0
   none_keyed [] none = refl
-  none_keyed (a ∷ items) none =
-      let parts = count-cons key a items in
-      let here : key a ≡ false = not_one (key a) (omega (arith, parts, none)) in
-      omega (arith, count-append is (f a) (flat_map f items), outside a here, none_keyed items (omega (arith, parts, none)))
+  none_keyed (a ∷ items) none = grind (arith, none_keyed items, count-cons key a items, false, not_one (key a), arith, count-append is (f a) (flat_map f items))
 
   pub once_flat : (items : List A) → count_by key items ≤ 1 → count_by is (flat_map f items) ≤ 1
   once_flat [] once = omega arith
@@ -91,8 +80,7 @@ module _ {A X : Type 0} (is : X → Bool) (key : A → Bool) (f : A → List X) 
 -- a number occurs at most once among numbers one after another
 range_above : (z a n : ℕ) → z < a → count_by (λ k. nat_eq k z) (range_with_len a n) ≡ 0
 range_above z a zero h = refl
-range_above z a (suc n) h =
-    omega (arith, count-cons (λ k. nat_eq k z) a (range_with_len (a + 1) n), one_not (nat_eq a z) (ne_eqb a z (λ e. omega arith)), range_above z (a + 1) n (omega arith))
+range_above z a (suc n) h = grind (arith, range_above z (a + 1) n (omega arith), nat_tests)
 
 pub range_once : (z a n : ℕ) → count_by (λ k. nat_eq k z) (range_with_len a n) ≤ 1
 range_once z a zero = omega arith
@@ -108,8 +96,7 @@ module _ {X : Type 0} (z : ℕ) where
 
   numbers_above : (a : ℕ) (xs : List X) → z < a → count_by numbered (enumerate_from a xs) ≡ 0
   numbers_above a [] h = refl
-  numbers_above a (x ∷ xs) h =
-      omega (arith, count-cons numbered (a, x) (enumerate_from (a + 1) xs), one_not (nat_eq a z) (ne_eqb a z (λ e. omega arith)), numbers_above (a + 1) xs (omega arith))
+  numbers_above a (x ∷ xs) h = grind (arith, numbers_above (a + 1) xs (omega arith), nat_tests)
 
   pub numbers_once : (a : ℕ) (xs : List X) → count_by numbered (enumerate_from a xs) ≤ 1
   numbers_once a [] = omega arith
@@ -143,8 +130,4 @@ same_map f xs ys same = record { counts = λ p. count-map p f xs ∙ same.counts
 
 pub same_flat : {A X : Type 0} (f g : A → List X) (items : List A) → ((a : A) → SameItems (f a) (g a)) → SameItems (flat_map f items) (flat_map g items)
 same_flat f g [] same = same_are [] [] refl
-same_flat f g (a ∷ items) same =
-    record {
-      counts = λ p. count-append p (f a) (flat_map f items) ∙ ap (λ n. n + count_by p (flat_map f items)) ((same a).counts p)
-          ∙ ap (λ n. count_by p (g a) + n) ((same_flat f g items same).counts p) ∙ sym (count-append p (g a) (flat_map g items));
-    }
+same_flat f g (a ∷ items) same = grind (arith, same_flat f g items same, count-append, ap, count_by, sym)

@@ -1,23 +1,19 @@
 -- What is true of the greatest of some items.
-use Rattle.std.proofs.Common.{◌≡◌, List, [], ◌∷◌, Bool, true, false, Some, None, refl, sym, ap, ◌∙◌, Less, Equal, Greater}
-use Rattle.std.specs.Prelude.{if◌then◌else◌, fold}
+use Rattle.std.proofs.Common.{◌≡◌, List, [], ◌∷◌, false, Some, None, ap, ◌∙◌, Equal, arith}
+use Rattle.std.specs.Prelude.{fold}
 use Rattle.std.specs.Cmp.{IsTotalOrder}
 use Rattle.std.specs.List.{AllByRecursion}
-use Rattle.std.specs.Ordering.{is_gt, ordering_reverse}
+use Rattle.std.specs.Ordering.{is_gt}
 use Rattle.std.specs.declared.cmp.Ordering.{Ordering}
-use Rattle.std.proofs.lemmas.Cmp.{tied_itself, upto}
+use Rattle.std.proofs.lemmas.Cmp.{tied_itself}
 use Rattle.order.specs.Order.{greater, greatest}
-use Rattle.order.proofs.Ordered.{not_above_back}
 
 -- ---- where there is none, there are no items
 
 module _ {X : Type 0} (cmp : X → X → Ordering) where
   one_stays : (best : X) (xs : List X) → fold (greater cmp) (Some best) xs ≡ None → ⊥
   one_stays best [] none = cc
-  one_stays best (x ∷ xs) none = by_test (is_gt (cmp x best)) none (one_stays x xs) (one_stays best xs) where
-    by_test : (t : Bool) → fold (greater cmp) (if t then Some x else Some best) xs ≡ None → (fold (greater cmp) (Some x) xs ≡ None → ⊥) → (fold (greater cmp) (Some best) xs ≡ None → ⊥) → ⊥
-    by_test true none this other = this none
-    by_test false none this other = other none
+  one_stays best (x ∷ xs) none = grind (arith, one_stays x xs, one_stays best xs)
 
   pub none_greatest : (P : X → Type 0) (xs : List X) → greatest cmp xs ≡ None → AllByRecursion P xs
   none_greatest P [] none = tt
@@ -34,17 +30,7 @@ module _ {X : Type 0} {cmp : X → X → Ordering} (o : IsTotalOrder cmp) where
 
   above_folded : (best : X) (xs : List X) (last : X) → fold (greater cmp) (Some best) xs ≡ Some last → IsUpTo last best × AllByRecursion (IsUpTo last) xs
   above_folded best [] last same = (up_to_itself best last same, tt)
-  above_folded best (x ∷ xs) last same = by_test (is_gt (cmp x best)) refl same (above_folded x xs last) (above_folded best xs last) where
-    by_test : (t : Bool) → is_gt (cmp x best) ≡ t → fold (greater cmp) (if t then Some x else Some best) xs ≡ Some last
-        → (fold (greater cmp) (Some x) xs ≡ Some last → IsUpTo last x × AllByRecursion (IsUpTo last) xs)
-        → (fold (greater cmp) (Some best) xs ≡ Some last → IsUpTo last best × AllByRecursion (IsUpTo last) xs)
-        → IsUpTo last best × AllByRecursion (IsUpTo last) (x ∷ xs)
-    by_test true above same this other =
-        let rest = this same in
-        (upto o best x last (not_above_back o x best above) rest.0, (rest.0, rest.1))
-    by_test false up same this other =
-        let rest = other same in
-        (rest.0, (upto o x best last up rest.0, rest.1))
+  above_folded best (x ∷ xs) last same = grind (arith, above_folded x xs last, above_folded best xs last)
 
   pub above_greatest : (xs : List X) (best : X) → greatest cmp xs ≡ Some best → AllByRecursion (λ x. is_gt (cmp x best) ≡ false) xs
   above_greatest [] best same = tt
@@ -52,8 +38,4 @@ module _ {X : Type 0} {cmp : X → X → Ordering} (o : IsTotalOrder cmp) where
 
   -- two of which neither is above the other tie
   pub neither_above : (x y : X) → is_gt (cmp x y) ≡ false → is_gt (cmp y x) ≡ false → cmp x y ≡ Equal
-  neither_above x y up down = by_order (cmp x y) up (ap is_gt (sym (o.antisymm y x)) ∙ down) where
-    by_order : (r : Ordering) → is_gt r ≡ false → is_gt (ordering_reverse r) ≡ false → r ≡ Equal
-    by_order Less up down = cc
-    by_order Equal up down = refl
-    by_order Greater up down = cc
+  neither_above x y up down = grind arith

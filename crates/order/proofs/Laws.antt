@@ -1,5 +1,5 @@
 -- Laws of lists in order: a stable sort gives the list that insertion gives, and the greatest of one item more.
-use Rattle.std.proofs.Common.{◌≡◌, ℕ, zero, suc, ◌+◌, Bool, true, false, not, ◌&&◌, cond, List, [], ◌∷◌, ◌++◌, filter, take, refl, sym, ap, subst, ◌∙◌, Less, Equal, Greater, arith}
+use Rattle.std.proofs.Common.{◌≡◌, ℕ, zero, suc, ◌+◌, Bool, true, false, not, ◌&&◌, cond, List, [], ◌∷◌, ◌++◌, filter, take, refl, sym, ap, subst, ◌∙◌, Equal, arith}
 use Rattle.std.specs.Prelude.{if◌then◌else◌, None}
 use Rattle.std.specs.Cmp.{IsTotalOrder}
 use Rattle.std.specs.List.{AllByRecursion}
@@ -13,14 +13,10 @@ use Rattle.order.specs.Order.{inserted, ordered, greater, greatest}
 -- ---- what an Ordering says
 
 reversed_gt : (o : Ordering) → is_gt (ordering_reverse o) ≡ is_lt o
-reversed_gt Less = refl
-reversed_gt Equal = refl
-reversed_gt Greater = refl
+reversed_gt o = grind arith
 
 neither_is_equal : (o : Ordering) → is_gt o ≡ false → is_lt o ≡ false → o ≡ Equal
-neither_is_equal Less a b = cc
-neither_is_equal Equal a b = refl
-neither_is_equal Greater a b = cc
+neither_is_equal o a b = grind arith
 
 module _ {X : Type 0} {cmp : X → X → Ordering} (o : IsTotalOrder cmp) where
   -- x is above y just where y is below x
@@ -32,14 +28,7 @@ module _ {X : Type 0} {cmp : X → X → Ordering} (o : IsTotalOrder cmp) where
   tied x y = ties (λ a b. is_lt (cmp a b)) x y
 
   not_both : (a b : Bool) → (not a && not b) ≡ true → (a ≡ false) × (b ≡ false)
-  not_both true b e = cc
-  not_both false true e = cc
-  not_both false false e = (refl, refl)
-
-  tied_equal : (x y : X) → tied x y ≡ true → cmp x y ≡ Equal
-  tied_equal x y e =
-      let both = not_both (is_lt (cmp x y)) (is_lt (cmp y x)) e in
-      neither_is_equal (cmp x y) (gt_is x y ∙ both.1) both.0
+  not_both a b e = grind arith
 
   equal_tied : (x y : X) → cmp x y ≡ Equal → tied x y ≡ true
   equal_tied x y e = rw (e, tied_back o x y e) refl
@@ -100,16 +89,10 @@ module _ {X : Type 0} {cmp : X → X → Ordering} (o : IsTotalOrder cmp) where
 
   -- the first of one list is not above the first of the other
   first_not_above : (x y : X) (xs ys : List X) → IsLeast y ys → filter (tied x) (x ∷ xs) ≡ filter (tied x) (y ∷ ys) → is_gt (cmp y x) ≡ false
-  first_not_above x y xs ys least same =
-      of_filtered (λ z. is_gt (cmp y z) ≡ false) (tied x) (y ∷ ys) x (filter (tied x) xs)
-      (ap is_gt (tied_itself o y), least)
-      (sym same ∙ first_kept (tied x) x xs (tied_self x))
+  first_not_above x y xs ys least same = grind (arith, ap, false, filter, first_kept, of_filtered, sym, tied_itself, tied_self)
 
   same_rest : (p : X → Bool) (x : X) (xs ys : List X) → filter p (x ∷ xs) ≡ filter p (x ∷ ys) → filter p xs ≡ filter p ys
-  same_rest p x xs ys e = by_test (p x) e where
-    by_test : (b : Bool) → cond b (x ∷ filter p xs) (filter p xs) ≡ cond b (x ∷ filter p ys) (filter p ys) → filter p xs ≡ filter p ys
-    by_test true at = cc
-    by_test false at = at
+  same_rest p x xs ys e = grind arith
 
   none_left : (y : X) (ys : List X) → [] ≡ filter (tied y) (y ∷ ys) → ⊥
   none_left y ys e = let at = e ∙ first_kept (tied y) y ys (tied_self y) in cc
@@ -134,17 +117,10 @@ module _ {X : Type 0} {cmp : X → X → Ordering} (o : IsTotalOrder cmp) where
   least_inserted : (z x : X) (ys : List X) → is_gt (cmp z x) ≡ false → IsLeast z ys → IsLeast z (inserted cmp x ys)
   unfolding inserted
   least_inserted z x [] h least = (h, tt)
-  least_inserted z x (y ∷ ys) h least = by_test (is_gt (cmp x y)) (least_inserted z x ys h least.1) where
-    by_test : (b : Bool) → IsLeast z (inserted cmp x ys) → IsLeast z (if b then y ∷ inserted cmp x ys else x ∷ y ∷ ys)
-    by_test true rest = (least.0, rest)
-    by_test false rest = (h, least)
+  least_inserted z x (y ∷ ys) h least = grind (arith, least_inserted z x ys h least.1)
 
   not_above_back : (x y : X) → is_gt (cmp x y) ≡ true → is_gt (cmp y x) ≡ false
-  not_above_back x y e = gt_is y x ∙ by_ordering (cmp x y) e where
-    by_ordering : (r : Ordering) → is_gt r ≡ true → is_lt r ≡ false
-    by_ordering Less e = cc
-    by_ordering Equal e = cc
-    by_ordering Greater e = refl
+  not_above_back x y e = grind arith
 
   rising_inserted : (x : X) (ys : List X) → IsRising ys → IsRising (inserted cmp x ys)
   unfolding inserted
@@ -162,29 +138,12 @@ module _ {X : Type 0} {cmp : X → X → Ordering} (o : IsTotalOrder cmp) where
 
   -- one that is above another does not tie with what that ties with
   apart : (z x y : X) → is_gt (cmp x y) ≡ true → tied z y ≡ true → tied z x ≡ false
-  apart z x y e ties_y = by_test (tied z x) refl where
-    by_test : (b : Bool) → tied z x ≡ b → b ≡ false
-    by_test false at = refl
-    by_test true at =
-        let from_x : cmp x y ≡ cmp z y = sym (o.congr z x y (tied_equal z x at)) in
-        let is : is_gt (cmp x y) ≡ false = ap is_gt (from_x ∙ tied_equal z y ties_y) in
-        cc
+  apart z x y e ties_y = grind arith
 
   kept_inserted : (z x : X) (ys : List X) → filter (tied z) (inserted cmp x ys) ≡ filter (tied z) (x ∷ ys)
   unfolding inserted
   kept_inserted z x [] = refl
-  kept_inserted z x (y ∷ ys) = by_test (is_gt (cmp x y)) refl (kept_inserted z x ys) where
-    moved : (a b : Bool) → (b ≡ true → a ≡ false) → filter (tied z) (inserted cmp x ys) ≡ cond a (x ∷ filter (tied z) ys) (filter (tied z) ys)
-        → cond b (y ∷ filter (tied z) (inserted cmp x ys)) (filter (tied z) (inserted cmp x ys))
-        ≡ cond a (x ∷ cond b (y ∷ filter (tied z) ys) (filter (tied z) ys)) (cond b (y ∷ filter (tied z) ys) (filter (tied z) ys))
-    moved true true not_both rest = let e = not_both refl in cc
-    moved false true not_both rest = ap (λ r. y ∷ r) rest
-    moved a false not_both rest = rest
-
-    by_test : (b : Bool) → is_gt (cmp x y) ≡ b → filter (tied z) (inserted cmp x ys) ≡ filter (tied z) (x ∷ ys)
-        → filter (tied z) (if b then y ∷ inserted cmp x ys else x ∷ y ∷ ys) ≡ filter (tied z) (x ∷ y ∷ ys)
-    by_test true e rest = moved (tied z x) (tied z y) (λ tie. apart z x y e tie) rest
-    by_test false e rest = refl
+  kept_inserted z x (y ∷ ys) = grind (arith, kept_inserted z x ys)
 
   -- those that tie stand in an ordered list as they stood
   pub kept_ordered : (z : X) (xs : List X) → filter (tied z) (ordered cmp xs) ≡ filter (tied z) xs

@@ -1,40 +1,29 @@
 -- Lists in an order that only equal items tie in: known by their items alone.
-use Rattle.std.proofs.Common.{◌≡◌, ℕ, zero, suc, ◌+◌, ◌<◌, Bool, true, false, not, ◌&&◌, cond, List, [], ◌∷◌, length, filter, drop, get_or, replicate, count_by, refl, sym, ap, ◌∙◌, Less, Equal, Greater, arith}
+use Rattle.std.proofs.Common.{◌≡◌, ℕ, zero, suc, ◌+◌, ◌<◌, Bool, true, false, not, ◌&&◌, cond, List, [], ◌∷◌, length, filter, drop, get_or, replicate, count_by, refl, sym, ap, ◌∙◌, Equal, arith}
 use Rattle.std.specs.Prelude.{if◌then◌else◌}
 use Rattle.std.specs.Cmp.{IsTotalOrder}
 use Rattle.std.specs.List.Sorted.{IsPermutation, IsSorted, ties}
 use Rattle.std.specs.Ordering.{is_eq, is_gt, is_lt, ordering_reverse}
 use Rattle.std.specs.declared.cmp.Ordering.{Ordering}
-use Rattle.std.proofs.lemmas.Cmp.{upto}
 use Rattle.std.proofs.lemmas.List.Sorted.{sum_by-IsPermutation}
 use Rattle.order.specs.Order.{inserted, ordered}
 use Rattle.order.proofs.Laws.{IsLeast, IsRising, rising_only, rising_ordered, rising_from_sorted}
 use Rattle.order.proofs.Counts.{one, one_is, one_not, not_one, count-cons, SameItems, same_cons, same_back, same_on}
 
 reversed_gt : (r : Ordering) → is_gt (ordering_reverse r) ≡ is_lt r
-reversed_gt Less = refl
-reversed_gt Equal = refl
-reversed_gt Greater = refl
+reversed_gt r = grind arith
 
 tie_is : (r : Ordering) → (not (is_lt r) && not (is_lt (ordering_reverse r))) ≡ true → r ≡ Equal
-tie_is Less e = cc
-tie_is Equal e = refl
-tie_is Greater e = cc
+tie_is r e = grind arith
 
 pub is_equal : (r : Ordering) → is_eq r ≡ true → r ≡ Equal
-is_equal Less e = cc
-is_equal Equal e = refl
-is_equal Greater e = cc
+is_equal r e = grind arith
 
 pub below_not_above : (r : Ordering) → is_lt r ≡ true → is_gt r ≡ false
-below_not_above Less e = refl
-below_not_above Equal e = cc
-below_not_above Greater e = cc
+below_not_above r e = grind arith
 
 above_not_below : (r : Ordering) → is_gt r ≡ true → is_lt r ≡ false
-above_not_below Less e = cc
-above_not_below Equal e = cc
-above_not_below Greater e = refl
+above_not_below r e = grind arith
 
 pub permuted : {X : Type 0} (xs ys : List X) → IsPermutation xs ys → SameItems xs ys
 permuted xs ys moved = record { counts = λ p. sym (sum_by-IsPermutation (λ x. one (p x)) xs ys moved) }
@@ -47,13 +36,7 @@ module _ {X : Type 0} {cmp : X → X → Ordering} (o : IsTotalOrder cmp) where
 
   -- what is below one that is not above another is below that
   pub below_through : (x y z : X) → is_lt (cmp x y) ≡ true → is_gt (cmp y z) ≡ false → is_lt (cmp x z) ≡ true
-  below_through x y z below up = by_test (is_lt (cmp x z)) refl where
-    by_test : (b : Bool) → is_lt (cmp x z) ≡ b → b ≡ true
-    by_test true e = refl
-    by_test false e =
-        let back : is_gt (cmp y x) ≡ false = upto o y z x up (above_is z x ∙ e) in
-        let clash : is_gt (cmp y x) ≡ true = above_is y x ∙ below in
-        cc
+  below_through x y z below up = grind arith
 
   pub not_above_back : (x y : X) → is_gt (cmp x y) ≡ true → is_gt (cmp y x) ≡ false
   not_above_back x y e = above_is y x ∙ above_not_below (cmp x y) e
@@ -63,9 +46,7 @@ module _ {X : Type 0} {cmp : X → X → Ordering} (o : IsTotalOrder cmp) where
   -- a list of which none is below x, and the other way round
   pub least_from_none : (x : X) (xs : List X) → count_by (λ y. is_gt (cmp x y)) xs ≡ 0 → IsLeast o x xs
   least_from_none x [] none = tt
-  least_from_none x (y ∷ ys) none =
-      let parts = count-cons (λ z. is_gt (cmp x z)) y ys in
-      (not_one (is_gt (cmp x y)) (omega (arith, parts, none)), least_from_none x ys (omega (arith, parts, none)))
+  least_from_none x (y ∷ ys) none = grind (arith, least_from_none x ys, count-cons (λ z. is_gt (cmp x z)) y ys, not_one (is_gt (cmp x y)), arith)
 
   pub none_from_least : (x : X) (xs : List X) → IsLeast o x xs → count_by (λ y. is_gt (cmp x y)) xs ≡ 0
   none_from_least x [] least = refl
@@ -73,17 +54,11 @@ module _ {X : Type 0} {cmp : X → X → Ordering} (o : IsTotalOrder cmp) where
 
   least_filter : (p : X → Bool) (x : X) (xs : List X) → IsLeast o x xs → IsLeast o x (filter p xs)
   least_filter p x [] least = tt
-  least_filter p x (y ∷ ys) least = by_test (p y) (least_filter p x ys least.1) where
-    by_test : (b : Bool) → IsLeast o x (filter p ys) → IsLeast o x (cond b (y ∷ filter p ys) (filter p ys))
-    by_test true rest = (least.0, rest)
-    by_test false rest = rest
+  least_filter p x (y ∷ ys) least = grind (arith, least_filter p x ys least.1)
 
   pub rising_filter : (p : X → Bool) (xs : List X) → IsRising o xs → IsRising o (filter p xs)
   rising_filter p [] up = tt
-  rising_filter p (x ∷ xs) up = by_test (p x) (rising_filter p xs up.1) where
-    by_test : (b : Bool) → IsRising o (filter p xs) → IsRising o (cond b (x ∷ filter p xs) (filter p xs))
-    by_test true rest = (least_filter p x xs up.0, rest)
-    by_test false rest = rest
+  rising_filter p (x ∷ xs) up = grind (arith, rising_filter p xs up.1, Bool, IsRising o (filter p xs), filter p xs, IsRising, cond, true, least_filter p x xs up.0, false)
 
   pub rising_drop : (n : ℕ) (xs : List X) → IsRising o xs → IsRising o (drop n xs)
   rising_drop zero xs up = up
@@ -94,9 +69,7 @@ module _ {X : Type 0} {cmp : X → X → Ordering} (o : IsTotalOrder cmp) where
   sorted_at [] up k d h = absurd (omega arith)
   sorted_at (x ∷ []) up k d h = absurd (omega arith)
   sorted_at (x ∷ y ∷ ys) up zero d h = sym (above_is x y) ∙ up.0.0
-  sorted_at (x ∷ y ∷ ys) up (suc k) d h =
-      let more : suc k + 1 ≡ suc (k + 1) = omega arith in
-      rw more (sorted_at (y ∷ ys) up.1 k d (omega arith))
+  sorted_at (x ∷ y ∷ ys) up (suc k) d h = grind (arith, sorted_at (y ∷ ys) up.1 k d (omega arith))
 
   pub sorted_from_rising : (xs : List X) → IsRising o xs → IsSorted cmp xs
   sorted_from_rising xs up = λ k d low within. sorted_at xs up k d within

@@ -1,9 +1,8 @@
 -- What becomes of items that are put in order, or of the greatest of them, where each becomes another.
-use Rattle.std.proofs.Common.{◌≡◌, Bool, true, false, Option, Some, None, List, [], ◌∷◌, map, IfSome, refl, sym, ap, ◌∙◌}
-use Rattle.std.specs.Prelude.{if◌then◌else◌, fold}
+use Rattle.std.proofs.Common.{◌≡◌, Option, None, List, [], ◌∷◌, map, IfSome, refl, ap, ◌∙◌, arith}
+use Rattle.std.specs.Prelude.{fold}
 use Rattle.std.specs.List.{AllByRecursion}
 use Rattle.std.specs.Option.{option_map}
-use Rattle.std.specs.Ordering.{is_gt}
 use Rattle.std.specs.declared.cmp.Ordering.{Ordering}
 use Rattle.order.specs.Order.{inserted, ordered, greater, greatest}
 
@@ -12,10 +11,7 @@ module _ {X Y : Type 0} (f : X → Y) (cmp : X → X → Ordering) (other : Y �
     each_inserted : (x : X) (xs : List X) → P x → AllByRecursion P xs → AllByRecursion P (inserted cmp x xs)
     unfolding inserted
     each_inserted x [] p all = (p, tt)
-    each_inserted x (y ∷ ys) p all = by_test (is_gt (cmp x y)) (each_inserted x ys p all.1) where
-      by_test : (b : Bool) → AllByRecursion P (inserted cmp x ys) → AllByRecursion P (if b then y ∷ inserted cmp x ys else x ∷ y ∷ ys)
-      by_test true rest = (all.0, rest)
-      by_test false rest = (p, all)
+    each_inserted x (y ∷ ys) p all = grind (arith, each_inserted x ys p all.1)
 
     pub each_ordered : (xs : List X) → AllByRecursion P xs → AllByRecursion P (ordered cmp xs)
     unfolding ordered
@@ -26,14 +22,7 @@ module _ {X Y : Type 0} (f : X → Y) (cmp : X → X → Ordering) (other : Y �
       map_inserted : (x : X) (xs : List X) → P x → AllByRecursion P xs → map f (inserted cmp x xs) ≡ inserted other (f x) (map f xs)
       unfolding inserted
       map_inserted x [] p all = refl
-      map_inserted x (y ∷ ys) p all =
-          by_test (is_gt (cmp x y)) (map_inserted x ys p all.1)
-          ∙ ap (λ o. if is_gt o then f y ∷ inserted other (f x) (map f ys) else f x ∷ f y ∷ map f ys) (sym (same x y p all.0))
-        where
-          by_test : (b : Bool) → map f (inserted cmp x ys) ≡ inserted other (f x) (map f ys)
-              → map f (if b then y ∷ inserted cmp x ys else x ∷ y ∷ ys) ≡ (if b then f y ∷ inserted other (f x) (map f ys) else f x ∷ f y ∷ map f ys)
-          by_test true rest = ap (λ zs. f y ∷ zs) rest
-          by_test false rest = refl
+      map_inserted x (y ∷ ys) p all = grind (arith, map_inserted x ys p all.1)
 
       -- items in order, each of which becomes another that stands to the others as it did
       pub map_ordered : (xs : List X) → AllByRecursion P xs → map f (ordered cmp xs) ≡ ordered other (map f xs)
@@ -44,21 +33,9 @@ module _ {X Y : Type 0} (f : X → Y) (cmp : X → X → Ordering) (other : Y �
           ∙ ap (inserted other (f x)) (map_ordered xs all.1)
 
   module _ (same : (x y : X) → other (f x) (f y) ≡ cmp x y) where
-    map_greater : (best : Option X) (x : X) → option_map f (greater cmp best x) ≡ greater other (option_map f best) (f x)
-    map_greater None x = refl
-    map_greater (Some best) x =
-        by_test (is_gt (cmp x best))
-        ∙ ap (λ o. if is_gt o then Some (f x) else Some (f best)) (sym (same x best))
-      where
-        by_test : (b : Bool) → option_map f (if b then Some x else Some best) ≡ (if b then Some (f x) else Some (f best))
-        by_test true = refl
-        by_test false = refl
-
     fold_greater : (best : Option X) (xs : List X) → option_map f (fold (greater cmp) best xs) ≡ fold (greater other) (option_map f best) (map f xs)
     fold_greater best [] = refl
-    fold_greater best (x ∷ xs) =
-        fold_greater (greater cmp best x) xs
-        ∙ ap (λ o. fold (greater other) o (map f xs)) (map_greater best x)
+    fold_greater best (x ∷ xs) = grind (arith, fold_greater (greater cmp best x) xs)
 
     -- the greatest of items that become others
     pub map_greatest : (xs : List X) → option_map f (greatest cmp xs) ≡ greatest other (map f xs)
@@ -68,11 +45,7 @@ module _ {X Y : Type 0} (f : X → Y) (cmp : X → X → Ordering) (other : Y �
 
 module _ {X : Type 0} (cmp : X → X → Ordering) (P : X → Type 0) where
   each_greater : (best : Option X) (x : X) → IfSome best P → P x → IfSome (greater cmp best x) P
-  each_greater None x b p = p
-  each_greater (Some best) x b p = by_test (is_gt (cmp x best)) where
-    by_test : (t : Bool) → IfSome (if t then Some x else Some best) P
-    by_test true = p
-    by_test false = b
+  each_greater best x b p = grind arith
 
   each_folded : (best : Option X) (xs : List X) → IfSome best P → AllByRecursion P xs → IfSome (fold (greater cmp) best xs) P
   each_folded best [] b all = b

@@ -15,10 +15,10 @@ at_most n m lt = omega arith
 remains : (n : ℕ) → n < 128 → n % 128 ≡ n
 remains n lt = omega arith
 
-pub five : (n : ℕ) → 268435456 ≤ n → n < 34359738368
+nested : (n : ℕ) → 268435456 ≤ n → n < 34359738368
     → (n % 128 + 128) ∷ (n / 128 % 128 + 128) ∷ (n / 128 / 128 % 128 + 128) ∷ (n / 128 / 128 / 128 % 128 + 128) ∷ (n / 128 / 128 / 128 / 128 % 128) ∷ [] ≡ varint n
 unfolding varint
-five n from below =
+nested n from below =
     let second = n / 128 in
     let third = second / 128 in
     let fourth = third / 128 in
@@ -35,6 +35,15 @@ five n from below =
     ∙ ap (λ xs. (second % 128 + 128) ∷ xs) (more_groups 7 third (omega (arith, from_3))
     ∙ ap (λ xs. (third % 128 + 128) ∷ xs) (more_groups 6 fourth from_4
     ∙ ap (λ xs. (fourth % 128 + 128) ∷ xs) (last_group 5 last below_5 ∙ ap (λ m. m ∷ []) (sym (remains last below_5)))))))
+
+pub five : (n last : ℕ) → last ≡ n / 268435456 → 0 < last → last < 128
+    → (n % 128 + 128) ∷ (n / 128 % 128 + 128) ∷ (n / 16384 % 128 + 128) ∷ (n / 2097152 % 128 + 128) ∷ last ∷ [] ≡ varint n
+five n last is some few =
+    let third : n / 16384 ≡ n / 128 / 128 = omega arith in
+    let fourth : n / 2097152 ≡ n / 128 / 128 / 128 = omega arith in
+    let end : last ≡ n / 128 / 128 / 128 / 128 % 128 = omega (arith, is, few) in
+    (λ i. (n % 128 + 128) ∷ (n / 128 % 128 + 128) ∷ (third i % 128 + 128) ∷ (fourth i % 128 + 128) ∷ end i ∷ [])
+    ∙ nested n (omega (arith, is, some)) (omega (arith, is, few))
 
 -- ---- group by group
 

@@ -1,6 +1,6 @@
 //! The one spelling that a writer chooses: the shortest varints.
 
-ghost use Rattle.std.specs.Prelude.{◌≡◌, ℕ, List, ◌+◌, ◌++◌, ◌<◌, ◌≤◌, length, take, drop, OnOk, OnErr};
+ghost use Rattle.std.specs.Prelude.{◌≡◌, ℕ, List, ◌+◌, ◌/◌, ◌++◌, ◌<◌, ◌≤◌, length, take, drop, OnOk, OnErr};
 ghost use Rattle.pb_wire_defs.specs.Field.Payload.{Varint, Span, Four};
 ghost use Rattle.pb_wire_defs.specs.Writing.{varint, field_bytes};
 
@@ -11,9 +11,6 @@ const LONGEST_VARINT: usize = 10;
 
 /// The least number whose varint has five groups. Instants of our time, in seconds since 1970, have as many.
 const LEAST_OF_FIVE: u64 = 268_435_456;
-
-/// The least number whose varint has six groups.
-const LEAST_OF_SIX: u64 = 34_359_738_368;
 
 /// Appends the shortest varint of the value (Protocol Buffers, "Encoding", "Base 128 Varints"). Want of memory
 /// leaves `out` as it was.
@@ -37,30 +34,28 @@ fn write_long(value: u64, out: &mut Vec<u8>) -> Result<(), NoMemory>
     ensures written { OnOk result (out.new.items ≡ out.old.items ++ varint value) }
     ensures kept { OnErr result (out.new.items ≡ out.old.items) }
 {
-    if LEAST_OF_FIVE <= value && value < LEAST_OF_SIX {
-        out.extend_from_slice(&five_groups(value))
+    let last = value / LEAST_OF_FIVE;
+    if 0 < last && last < 128 {
+        out.extend_from_slice(&five_groups(value, last))
     } else {
         write_groups(value, out)
     }
 }
 
-/// The varint of a number that has five groups.
+/// The varint of a number that has five groups, the last of which is given.
 #[inline(always)]
-fn five_groups(value: u64) -> [u8; 5]
-    requires from { 268435456 ≤ value }
-    requires below { value < 34359738368 }
+fn five_groups(value: u64, last: u64) -> [u8; 5]
+    requires last { last ≡ value / 268435456 }
+    requires some { 0 < last }
+    requires below { last < 128 }
     ensures { result ≡ varint value }
 {
-    let second = value / 128;
-    let third = second / 128;
-    let fourth = third / 128;
-    let last = fourth / 128;
     [
         (value % 128) as u8 + 128,
-        (second % 128) as u8 + 128,
-        (third % 128) as u8 + 128,
-        (fourth % 128) as u8 + 128,
-        (last % 128) as u8,
+        (value / 128 % 128) as u8 + 128,
+        (value / 16_384 % 128) as u8 + 128,
+        (value / 2_097_152 % 128) as u8 + 128,
+        last as u8,
     ]
 }
 

@@ -1,16 +1,13 @@
 -- Lists of bytes, and what a reader takes from the front of one.
-use Rattle.std.proofs.Common.{◌≡◌, ℕ, zero, suc, ◌+◌, ◌-◌, List, [], ◌∷◌, ◌++◌, length, take, drop, ap, subst, arith, inl, inr}
+use Rattle.std.proofs.Common.{◌≡◌, ℕ, zero, suc, ◌+◌, ◌-◌, List, [], ◌∷◌, ◌++◌, length, take, ap, subst, arith, inl, inr}
 use Rattle.std.proofs.lemmas.Bool.{cases_lt}
-use Rattle.std.proofs.lemmas.List.{length-append, length-take, get_or-drop, get_or-take, get_or_past}
+use Rattle.std.proofs.lemmas.List.{length-append, length-take, get_or-take, get_or_past}
 use Rattle.std.proofs.Math.Seq.{take-append_seam}
 pub use Rattle.pb_wire_defs.specs.Spelling.{AreBytes}
 
 pub AreBytes-behind : (front back : List ℕ) → AreBytes (front ++ back) → AreBytes back
 AreBytes-behind [] back h = h
 AreBytes-behind (b ∷ bs) back h = AreBytes-behind bs back (λ i. h (suc i))
-
-pub AreBytes-drop : (n : ℕ) (bytes : List ℕ) → AreBytes bytes → AreBytes (drop n bytes)
-AreBytes-drop n bytes h i = rw get_or-drop (h (n + i))
 
 pub AreBytes-take : (n : ℕ) (bytes : List ℕ) → AreBytes bytes → AreBytes (take n bytes)
 AreBytes-take n bytes h i =

@@ -31,10 +31,6 @@ pub field_with-tag : (group : ℕ → List ℕ → Result (List ℕ) Fault) (byt
 unfolding field_with
 field_with-tag group bytes tag e = rw e refl
 
-pub field_with-no_tag : (group : ℕ → List ℕ → Result (List ℕ) Fault) (bytes : List ℕ) (fault : Fault) → tag_at bytes ≡ Err fault → field_with group bytes ≡ Err fault
-unfolding field_with
-field_with-no_tag group bytes fault e = rw e refl
-
 -- ---- the fields up to an end
 
 -- what stands where a group's fields stand: its end, or a field and then `behind` it

@@ -1,5 +1,5 @@
 -- Whether two departures are the same: a test that is true of equal ones alone.
-use Rattle.std.proofs.Common.{◌≡◌, ℕ, zero, suc, Bool, true, false, ◌&&◌, nat_eq, Option, Some, None, ℤ, refl, sym, ap, ◌∙◌}
+use Rattle.std.proofs.Common.{◌≡◌, ℕ, zero, suc, Bool, true, false, ◌&&◌, nat_eq, Option, Some, None, ℤ, refl, sym, ap, ◌∙◌, arith}
 use Rattle.std.specs.FinMap.{int_cmp-IsAntisymmetric}
 use Rattle.std.specs.Ordering.{int_cmp, is_eq}
 use Rattle.std.proofs.lemmas.Bool.{and_from, and_parts, eq-eqb, eqb-true}
@@ -42,14 +42,10 @@ same_option same (Some x) None = false
 same_option same (Some x) (Some y) = same x y
 
 option_self : {X : Type 0} (p : Test X) (o : Option X) → same_option p.same o o ≡ true
-option_self p None = refl
-option_self p (Some x) = p.self x
+option_self p o = grind arith
 
 option_exact : {X : Type 0} (p : Test X) (a b : Option X) → same_option p.same a b ≡ true → a ≡ b
-option_exact p None None e = refl
-option_exact p None (Some y) e = cc
-option_exact p (Some x) None e = cc
-option_exact p (Some x) (Some y) e = ap Some (p.exact x y e)
+option_exact p a b e = grind arith
 
 options : {X : Type 0} → Test X → Test (Option X)
 options p = record { same = same_option p.same; self = option_self p; exact = option_exact p }
@@ -79,11 +75,7 @@ state_numbered (suc (suc (suc zero))) = state.Canceled
 state_numbered (suc (suc (suc (suc n)))) = state.Added
 
 state_back : (s : RowState) → state_numbered (state_number s) ≡ s
-state_back state.Scheduled = refl
-state_back state.Live = refl
-state_back state.Skipped = refl
-state_back state.Canceled = refl
-state_back state.Added = refl
+state_back s = grind arith
 
 states : Test RowState
 states = through state_number state_numbered state_back numbers

@@ -1,5 +1,5 @@
 -- The greatest of the offers of one feed more.
-use Rattle.std.proofs.Common.{◌≡◌, ℕ, ◌+◌, ◌<◌, ◌≤◌, Option, Some, None, List, [], ◌∷◌, ◌++◌, length, take, get_or, sym, ap, ◌∙◌, append-nil}
+use Rattle.std.proofs.Common.{◌≡◌, ℕ, ◌+◌, ◌<◌, ◌≤◌, Option, Some, None, List, [], ◌∷◌, ◌++◌, length, take, get_or, sym, ap, ◌∙◌, append-nil, arith}
 use Rattle.std.specs.List.{cons_option, filter_map}
 use Rattle.std.specs.Option.{option_map}
 use Rattle.std.proofs.lemmas.List.{take_all, take_more}
@@ -28,6 +28,4 @@ more_bids at run feeds i feed best bid new h there so_far is more =
 -- the greatest of all is the one that counts
 pub all_bids : (at : ℕ) (run : Run) (feeds : List LiveFeed) (i : ℕ) (best : Option Bid) → length feeds ≤ i → best ≡ greatest bid_cmp (filter_map (bid_of at run) (take i feeds)) → option_map (λ bid. bid.number) best ≡ winning at feeds run
 unfolding winner
-all_bids at run feeds i best all so_far =
-    ap (option_map (λ (bid : Bid). bid.number))
-    (so_far ∙ ap (λ fs. greatest bid_cmp (filter_map (bid_of at run) fs)) (take_all i feeds all))
+all_bids at run feeds i best all so_far = grind (arith, take_all)

@@ -1,5 +1,5 @@
 -- What comes of lists, one step after another.
-use Rattle.std.proofs.Common.{◌≡◌, ℕ, zero, suc, ◌+◌, ◌<◌, Bool, true, false, cond, Option, Some, None, List, [], ◌∷◌, ◌++◌, length, map, filter, take, refl, sym, ap, subst, ◌∙◌, append_assoc, length-append, arith}
+use Rattle.std.proofs.Common.{◌≡◌, ℕ, zero, suc, ◌+◌, ◌<◌, Bool, true, false, cond, Option, Some, None, List, [], ◌∷◌, ◌++◌, length, map, filter, take, refl, ap, subst, ◌∙◌, append_assoc, length-append, arith}
 use Rattle.std.specs.Prelude.{if◌then◌else◌, slice_get}
 use Rattle.std.specs.List.{AllByRecursion, cons_option, enumerate_from, filter_map, flat_map}
 use Rattle.std.specs.Option.{option_and_then, option_map}
@@ -16,40 +16,19 @@ given_of_map f g (a ∷ items) = ap (cons_option (f (g a))) (given_of_map f g it
 
 pub given_of_filter : {A X : Type 0} (f : A → Option X) (p : A → Bool) (items : List A) → filter_map f (filter p items) ≡ filter_map (λ a. if p a then f a else None) items
 given_of_filter f p [] = refl
-given_of_filter f p (a ∷ items) = by_test (p a) (given_of_filter f p items) where
-  by_test : (b : Bool) → filter_map f (filter p items) ≡ filter_map (λ x. if p x then f x else None) items
-      → filter_map f (cond b (a ∷ filter p items) (filter p items)) ≡ cons_option (if b then f a else None) (filter_map (λ x. if p x then f x else None) items)
-  by_test true rest = ap (cons_option (f a)) rest
-  by_test false rest = rest
+given_of_filter f p (a ∷ items) = grind (arith, given_of_filter f p items)
 
 pub given_of_given : {A B X : Type 0} (f : B → Option X) (g : A → Option B) (items : List A) → filter_map f (filter_map g items) ≡ filter_map (λ a. option_and_then f (g a)) items
 given_of_given f g [] = refl
-given_of_given {B = B} f g (a ∷ items) = by_option (g a) (given_of_given f g items) where
-  by_option : (given : Option B) → filter_map f (filter_map g items) ≡ filter_map (λ x. option_and_then f (g x)) items
-      → filter_map f (cons_option given (filter_map g items)) ≡ cons_option (option_and_then f given) (filter_map (λ x. option_and_then f (g x)) items)
-  by_option None rest = rest
-  by_option (Some b) rest = ap (cons_option (f b)) rest
+given_of_given {B = B} f g (a ∷ items) = grind (arith, given_of_given f g items)
 
 pub filter_of_given : {A X : Type 0} (p : X → Bool) (f : A → Option X) (items : List A) → filter p (filter_map f items) ≡ filter_map (λ a. passing p (f a)) items
 filter_of_given p f [] = refl
-filter_of_given {X = X} p f (a ∷ items) = by_option (f a) (filter_of_given p f items) where
-  by_test : (x : X) (b : Bool) → filter p (filter_map f items) ≡ filter_map (λ y. passing p (f y)) items
-      → cond b (x ∷ filter p (filter_map f items)) (filter p (filter_map f items)) ≡ cons_option (if b then Some x else None) (filter_map (λ y. passing p (f y)) items)
-  by_test x true rest = ap (λ xs. x ∷ xs) rest
-  by_test x false rest = rest
-
-  by_option : (given : Option X) → filter p (filter_map f items) ≡ filter_map (λ y. passing p (f y)) items
-      → filter p (cons_option given (filter_map f items)) ≡ cons_option (passing p given) (filter_map (λ y. passing p (f y)) items)
-  by_option None rest = rest
-  by_option (Some x) rest = by_test x (p x) rest
+filter_of_given {X = X} p f (a ∷ items) = grind (arith, filter_of_given p f items, passing p)
 
 pub map_of_given : {A X Y : Type 0} (g : X → Y) (f : A → Option X) (items : List A) → map g (filter_map f items) ≡ filter_map (λ a. option_map g (f a)) items
 map_of_given g f [] = refl
-map_of_given {X = X} g f (a ∷ items) = by_option (f a) (map_of_given g f items) where
-  by_option : (given : Option X) → map g (filter_map f items) ≡ filter_map (λ x. option_map g (f x)) items
-      → map g (cons_option given (filter_map f items)) ≡ cons_option (option_map g given) (filter_map (λ x. option_map g (f x)) items)
-  by_option None rest = rest
-  by_option (Some x) rest = ap (λ xs. g x ∷ xs) rest
+map_of_given {X = X} g f (a ∷ items) = grind (arith, map_of_given g f items)
 
 pub none_given : {A X : Type 0} (f : A → Option X) → ((a : A) → f a ≡ None) → (items : List A) → filter_map f items ≡ []
 none_given f none [] = refl
@@ -101,42 +80,26 @@ all_flat {X = X} P R f each (a ∷ items) all = both (f a) (each a all.0) (all_f
 
 pub filter_twice : {X : Type 0} (p q : X → Bool) (xs : List X) → filter p (filter q xs) ≡ filter (λ x. if q x then p x else false) xs
 filter_twice p q [] = refl
-filter_twice p q (x ∷ xs) = by_test (q x) (filter_twice p q xs) where
-  by_test : (b : Bool) → filter p (filter q xs) ≡ filter (λ y. if q y then p y else false) xs
-      → filter p (cond b (x ∷ filter q xs) (filter q xs)) ≡ cond (if b then p x else false) (x ∷ filter (λ y. if q y then p y else false) xs) (filter (λ y. if q y then p y else false) xs)
-  by_test true rest = ap (λ ys. cond (p x) (x ∷ ys) ys) rest
-  by_test false rest = rest
+filter_twice p q (x ∷ xs) = grind (arith, filter_twice p q xs)
 
 either_way : (a b : Bool) → (if a then b else false) ≡ (if b then a else false)
-either_way true true = refl
-either_way true false = refl
-either_way false true = refl
-either_way false false = refl
+either_way a b = grind arith
 
 pub filter_alike : {X : Type 0} (p q : X → Bool) → ((x : X) → p x ≡ q x) → (xs : List X) → filter p xs ≡ filter q xs
 filter_alike p q same [] = refl
 filter_alike p q same (x ∷ xs) = ap (λ b. cond b (x ∷ filter p xs) (filter p xs)) (same x) ∙ ap (λ ys. cond (q x) (x ∷ ys) ys) (filter_alike p q same xs)
 
 pub filter_turned : {X : Type 0} (p q : X → Bool) (xs : List X) → filter p (filter q xs) ≡ filter q (filter p xs)
-filter_turned p q xs =
-    filter_twice p q xs
-    ∙ filter_alike (λ x. if q x then p x else false) (λ x. if p x then q x else false) (λ x. either_way (q x) (p x)) xs
-    ∙ sym (filter_twice q p xs)
+filter_turned p q xs = grind (arith, either_way, filter_alike, filter_twice)
 
 pub filter_of_map : {X Y : Type 0} (p : Y → Bool) (f : X → Y) (xs : List X) → filter p (map f xs) ≡ map f (filter (λ x. p (f x)) xs)
 filter_of_map p f [] = refl
-filter_of_map p f (x ∷ xs) = by_test (p (f x)) (filter_of_map p f xs) where
-  by_test : (b : Bool) → filter p (map f xs) ≡ map f (filter (λ y. p (f y)) xs) → cond b (f x ∷ filter p (map f xs)) (filter p (map f xs)) ≡ map f (cond b (x ∷ filter (λ y. p (f y)) xs) (filter (λ y. p (f y)) xs))
-  by_test true rest = ap (λ ys. f x ∷ ys) rest
-  by_test false rest = rest
+filter_of_map p f (x ∷ xs) = grind (arith, filter_of_map p f xs)
 
 -- those that pass do pass
 pub all_passing : {X : Type 0} (p : X → Bool) (xs : List X) → AllByRecursion (λ x. p x ≡ true) (filter p xs)
 all_passing p [] = tt
-all_passing p (x ∷ xs) = by_test (p x) refl (all_passing p xs) where
-  by_test : (b : Bool) → p x ≡ b → AllByRecursion (λ y. p y ≡ true) (filter p xs) → AllByRecursion (λ y. p y ≡ true) (cond b (x ∷ filter p xs) (filter p xs))
-  by_test true e rest = (e, rest)
-  by_test false e rest = rest
+all_passing p (x ∷ xs) = grind (arith, all_passing p xs)
 
 pub all_filter : {X : Type 0} (R : X → Type 0) (p : X → Bool) (xs : List X) → AllByRecursion R xs → AllByRecursion R (filter p xs)
 all_filter R p [] all = tt

@@ -56,21 +56,11 @@ module _ {X : Type 0} {cmp : X → X → Ordering} (o : IsTotalOrder cmp) where
 
   -- what x is not above is above what x is above
   over : (x a y : X) → is_gt (cmp x a) ≡ false → is_gt (cmp x y) ≡ true → is_gt (cmp a y) ≡ true
-  over x a y up above = by_test (is_gt (cmp a y)) refl where
-    by_test : (b : Bool) → is_gt (cmp a y) ≡ b → b ≡ true
-    by_test true e = refl
-    by_test false e = let clash : is_gt (cmp x y) ≡ false = upto o x a y up e in cc
+  over x a y up above = grind (arith, upto)
 
   -- the first is above none of them
   first_least : (lists : List (List X)) (best : Headed X) → IsFirst lists best → IsLeast o best.1 (joined lists)
-  first_least lists best first =
-      let P : X → Type 0 = λ a. is_gt (cmp best.1 a) ≡ false in
-      let Q : List (List X) → Type 0 = λ ls. AllByRecursion P (joined ls) in
-      subst Q (sym first.parts)
-      (subst (AllByRecursion P) (sym (flat_map-append (λ xs. xs) first.before ((best.1 ∷ first.rest) ∷ first.after)))
-      (all_append P (joined first.before) ((best.1 ∷ first.rest) ++ joined first.after)
-      (all_weaker (λ a. is_gt (cmp a best.1) ≡ true) P (λ a above. not_above_back o a best.1 above) (joined first.before) first.above)
-      (all_append P (best.1 ∷ first.rest) (joined first.after) (ap is_gt (tied_itself o best.1), first.behind) first.least)))
+  first_least lists best first = grind (arith, all_append, all_weaker, flat_map-append, not_above_back, tied_itself)
 
   -- one list more
   with_more : (done : List (List X)) (best : Option (Headed X)) (list : List X) → IsRising o list → FirstIs done best → FirstIs (done ++ list ∷ []) (sooner cmp best (length done) (slice_get list 0))
@@ -147,33 +137,16 @@ module _ {X : Type 0} {cmp : X → X → Ordering} (o : IsTotalOrder cmp) where
   first_of_all : (x : X) (before after : List X) → AllByRecursion (λ a. is_gt (cmp a x) ≡ true) before → IsLeast o x after → ordered cmp (before ++ x ∷ after) ≡ x ∷ ordered cmp (before ++ after)
   unfolding ordered inserted
   first_of_all x [] after above least = front x (ordered cmp after) (least_ordered x after least)
-  first_of_all x (a ∷ before) after above least =
-      ap (inserted cmp a) (first_of_all x before after above.1 least)
-      ∙ ap (λ b. if b then x ∷ inserted cmp a (ordered cmp (before ++ after)) else a ∷ x ∷ ordered cmp (before ++ after)) above.0
+  first_of_all x (a ∷ before) after above least = grind (arith, first_of_all x before after above.1 least)
 
   module _ (lists : List (List X)) (best : Headed X) (first : IsFirst lists best) where
     -- the list at that place begins with it
     pub place_within : best.0 < length lists
-    place_within =
-        let size = ap length first.parts ∙ length-append first.before ((best.1 ∷ first.rest) ∷ first.after) in
-        omega (arith, size, first.place)
+    place_within = grind (arith, length-append)
 
     pub list_there : get_or lists best.0 [] ≡ best.1 ∷ first.rest
-    list_there =
-        ap (λ ls. get_or ls best.0 []) first.parts
-        ∙ get_or_at first.before (best.1 ∷ first.rest) first.after [] best.0 (sym first.place)
+    list_there = grind (arith, get_or_at)
 
     -- with what is left of it in its place, what is left of all follows
     pub merged : (rest : List X) → rest ≡ first.rest → ordered cmp (joined lists) ≡ best.1 ∷ ordered cmp (joined (set lists best.0 rest))
-    merged rest is =
-        let x = best.1 in
-        let left : joined (set lists best.0 rest) ≡ joined first.before ++ (first.rest ++ joined first.after) =
-        ap (λ r. joined (set lists best.0 r)) is
-        ∙ ap (λ ls. joined (set ls best.0 first.rest)) first.parts
-        ∙ ap joined (set_at first.before (x ∷ first.rest) first.after first.rest best.0 (sym first.place))
-        ∙ flat_map-append (λ xs. xs) first.before (first.rest ∷ first.after) in
-        ap (λ ls. ordered cmp (joined ls)) first.parts
-        ∙ ap (ordered cmp) (flat_map-append (λ xs. xs) first.before ((x ∷ first.rest) ∷ first.after))
-        ∙ first_of_all x (joined first.before) (first.rest ++ joined first.after) first.above
-        (all_append (λ a. is_gt (cmp x a) ≡ false) first.rest (joined first.after) first.behind first.least)
-        ∙ ap (λ xs. x ∷ ordered cmp xs) (sym left)
+    merged rest is = grind (arith, all_append, first_of_all, flat_map-append, set_at)

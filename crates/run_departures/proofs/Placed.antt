@@ -1,4 +1,5 @@
 -- The departures of a run by the update that counts for it, and what each source of a stop has of them.
+use Rattle.std.proofs.lemmas.Bool.Decides.{nat_tests}
 use Rattle.std.proofs.Common.{◌≡◌, ℕ, ◌-◌, Bool, true, false, ◌&&◌, nat_eq, Option, Some, None, List, [], length, map, filter, ℤ, pos, ◌+ℤ◌, int_le, int_lt, refl, sym, ap, ◌∙◌, arith}
 use Rattle.std.specs.Prelude.{if◌then◌else◌, IfSome, slice_get, unwrap_or}
 use Rattle.std.specs.List.{AllByRecursion, filter_map}
@@ -6,7 +7,6 @@ use Rattle.std.specs.Option.{option_and_then, option_map}
 use Rattle.std.proofs.lemmas.Bool.{eqb-true}
 use Rattle.std.proofs.lemmas.Int.{ints}
 use Rattle.rt_types.specs.declared.enums.TripRelation.{TripRelation}
-use Rattle.rt_types.specs.declared.enums.TripRelation.TheVariants as relation
 use Rattle.sched_types.specs.declared.rows.Place.{Place}
 use Rattle.sched_types.specs.declared.rows.Run.{Run}
 use Rattle.sched_types.specs.Runs.{departures_of}
@@ -21,10 +21,10 @@ use Rattle.board_defs.specs.Choice.{Update}
 use Rattle.board_defs.specs.Rows.{Shown, as_scheduled, by_delay, by_relation, by_state, may_board, scheduled_at, shown_at, stands_at}
 use Rattle.run_overlay.specs.declared.slot.LiveSlot.{LiveSlot}
 use Rattle.run_overlay.specs.Live as live
-use Rattle.run_overlay.specs.Live.{live_place, live_row, live_rows, rows_by, sign_of, slot_state}
+use Rattle.run_overlay.specs.Live.{live_place, live_row, rows_by, sign_of, slot_state}
 use Rattle.run_departures.specs.declared.departure.Departure.{Departure}
 use Rattle.run_departures.specs.Bids.{LiveFeed, winning}
-use Rattle.run_departures.specs.Sources.{by_timetable, by_update, if_boarding, if_told_by, if_untold, live_departure, row_state, scheduled_departure}
+use Rattle.run_departures.specs.Sources.{by_timetable, by_update, if_told_by, live_departure, row_state, scheduled_departure}
 use Rattle.run_departures.proofs.Fusion.{given_of_map, given_of_filter, given_of_given, filter_of_given, none_given, given_same_on, numbered_there}
 use Rattle.run_departures.proofs.Greatests.{passing}
 
@@ -71,14 +71,10 @@ all_numbered t run = let places = places_of t run.trip in numbered_there (length
 
 there_fused : (t : Timetable) (best : Option Update) (run : Run) (start end : ℤ) (stop : ℕ)
     → there_by t best run start end stop ≡ filter_map (λ numbered. passing (at_stop stop) (passing (in_window start end) (place_departure t run best numbered))) (departures_of t run.trip)
-there_fused t best run start end stop =
-    ap (filter (at_stop stop)) (filter_of_given (in_window start end) (place_departure t run best) (departures_of t run.trip))
-    ∙ filter_of_given (at_stop stop) (λ numbered. passing (in_window start end) (place_departure t run best numbered)) (departures_of t run.trip)
+there_fused t best run start end stop = grind (arith, filter_of_given, passing)
 
 none_both : {X : Type 0} (x : X) (a b : Bool) → (if a then (if b then x else x) else x) ≡ x
-none_both x true true = refl
-none_both x true false = refl
-none_both x false b = refl
+none_both x a b = grind arith
 
 plus_nothing : (z : ℤ) → z +ℤ pos 0 ≡ z
 plus_nothing z = omega (arith, ints)
@@ -97,10 +93,7 @@ module _ (t : Timetable) (feeds : List LiveFeed) (at : ℕ) (start end : ℤ) (s
   from_place numbered = if times.is_at stop numbered then from_slot (times.slot_of t run numbered) else None
 
   scheduled_fused : scheduled_of_run ≡ filter_map from_place (departures_of t run.trip)
-  scheduled_fused =
-      given_of_filter (scheduled_departure t feeds at stop) (times.is_between start end) (times.run_slots t stop run)
-      ∙ given_of_map from_slot (times.slot_of t run) (filter (times.is_at stop) (departures_of t run.trip))
-      ∙ given_of_filter (λ numbered. from_slot (times.slot_of t run numbered)) (times.is_at stop) (departures_of t run.trip)
+  scheduled_fused = grind (arith, given_of_filter, given_of_map)
 
   module _ (numbered : ℕ × Place) where
     abbrev slot : Slot
@@ -110,43 +103,20 @@ module _ (t : Timetable) (feeds : List LiveFeed) (at : ℕ) (start end : ℤ) (s
     timely = by_timetable numbered.1.stop slot
 
     as_timely : placed t run numbered as_scheduled ≡ timely
-    as_timely =
-        ap
-        (λ z. record {
-          expected = z;
-          run = run;
-          place = numbered.0;
-          stop = numbered.1.stop;
-          scheduled = slot.at;
-          delay = None;
-          state = as_scheduled.state;
-        })
-        (plus_nothing slot.at)
+    as_timely = grind (arith, plus_nothing)
 
     by_both : (a b : Bool) → nat_eq numbered.1.stop stop ≡ a → (if a then (if b then Some (by_timetable stop slot) else None) else None) ≡ passing (at_stop stop) (if b then Some timely else None)
-    by_both true true e =
-        ap (λ s. Some (by_timetable s slot)) (sym (eqb-true numbered.1.stop stop e)) ∙ sym (ap (λ c. if c then Some timely else None) e)
-    by_both true false e = refl
-    by_both false true e = sym (ap (λ c. if c then Some timely else None) e)
-    by_both false false e = refl
+    by_both a b e = grind (arith, eqb-true, nat_tests)
 
     by_boarding : (m : Bool) → (if nat_eq numbered.1.stop stop then (if times.is_between start end slot then (if m then Some (by_timetable stop slot) else None) else None) else None)
         ≡ passing (at_stop stop) (passing (in_window start end) (if m then Some (placed t run numbered as_scheduled) else None))
-    by_boarding true =
-        by_both (nat_eq numbered.1.stop stop) (times.is_between start end slot) refl
-        ∙ sym (ap (λ d. passing (at_stop stop) (passing (in_window start end) (Some d))) as_timely)
-    by_boarding false = none_both None (nat_eq numbered.1.stop stop) (times.is_between start end slot)
+    by_boarding m = grind (arith, as_timely, by_both, none_both, passing, nat_tests)
 
     untold_place : winning at feeds run ≡ None → IsNumbered t run numbered → from_place numbered ≡ passing (at_stop stop) (passing (in_window start end) (place_departure t run None numbered))
-    untold_place untold there =
-        ap (λ o. if nat_eq numbered.1.stop stop then (if times.is_between start end slot then if_untold o (if_boarding stop slot (slice_get (places_of t run.trip) numbered.0)) else None) else None) untold
-        ∙ ap (λ o. if nat_eq numbered.1.stop stop then (if times.is_between start end slot then if_boarding stop slot o else None) else None) there
-        ∙ by_boarding (may_board numbered.1)
+    untold_place untold there = grind (arith, by_boarding, nat_tests)
 
     told_place : (number : ℕ) → winning at feeds run ≡ Some number → from_place numbered ≡ None
-    told_place number told =
-        ap (λ o. if nat_eq numbered.1.stop stop then (if times.is_between start end slot then if_untold o (if_boarding stop slot (slice_get (places_of t run.trip) numbered.0)) else None) else None) told
-        ∙ none_both None (nat_eq numbered.1.stop stop) (times.is_between start end slot)
+    told_place number told = grind (arith, none_both, nat_tests)
 
   -- where no update counts it has what there is
   pub scheduled_untold : winning at feeds run ≡ None → scheduled_of_run ≡ there_by t None run start end stop
@@ -166,24 +136,13 @@ abbrev IsKept : Shown → Type 0
 IsKept shown = row_state (slot_state shown.state) ≡ shown.state
 
 kept_delay : (delay : Option ℤ) (stop : Option ℕ) → IsKept (by_delay delay stop)
-kept_delay None stop = refl
-kept_delay (Some delay) stop = refl
+kept_delay delay stop = grind arith
 
 kept_state : (s : Option StopState) → IsKept (by_state s)
-kept_state None = refl
-kept_state (Some s) = by_test s.skipped where
-  by_test : (b : Bool) → IsKept (if b then record { state = state.Skipped; delay = None; stop = s.stop } else by_delay s.departure s.stop)
-  by_test true = refl
-  by_test false = kept_delay s.departure s.stop
+kept_state s = grind (arith, kept_delay)
 
 kept_relation : (kind : TripRelation) (s : Option StopState) → IfSome (by_relation kind s) IsKept
-kept_relation relation.Scheduled s = kept_state s
-kept_relation relation.Added s = kept_state s
-kept_relation relation.Unscheduled s = kept_state s
-kept_relation relation.Canceled s = refl
-kept_relation relation.Replacement s = kept_state s
-kept_relation relation.Duplicated s = kept_state s
-kept_relation relation.Deleted s = tt
+kept_relation kind s = grind (arith, kept_state)
 
 module _ (t : Timetable) (feeds : List LiveFeed) (at : ℕ) (start end : ℤ) (stop : ℕ) (run : Run) (number : ℕ) where
   -- what the source of a feed has of the run, where its update is that one
@@ -200,12 +159,7 @@ module _ (t : Timetable) (feeds : List LiveFeed) (at : ℕ) (start end : ℤ) (s
   rows_fused : {R : Type 0} (there : R → Bool) (slot : R → LiveSlot) (place_row : ℕ × Place → Option R) (places : List (ℕ × Place))
       → filter_map (live_departure t feeds at number stop) (filter (live.is_between start end) (map slot (filter there (filter_map place_row places))))
       ≡ filter_map (λ numbered. from_rows there slot (place_row numbered)) places
-  rows_fused there slot place_row places =
-      let rows = filter_map place_row places in
-      given_of_filter (live_departure t feeds at number stop) (live.is_between start end) (map slot (filter there rows))
-      ∙ given_of_map from_live slot (filter there rows)
-      ∙ given_of_filter (λ row. from_live (slot row)) there rows
-      ∙ given_of_given (λ row. if there row then from_live (slot row) else None) place_row places
+  rows_fused there slot place_row places = grind (arith, given_of_filter, given_of_given, given_of_map)
 
   abbrev from_update : Update → ℕ × Place → Option Departure
   from_update u numbered = from_rows (live.is_at stop) (λ row. row.slot) (live_place t run u numbered)
@@ -250,31 +204,18 @@ module _ (t : Timetable) (feeds : List LiveFeed) (at : ℕ) (start end : ℤ) (s
 
       shown_both : (a b : Bool) → nat_eq (stands_at numbered.1 shown) stop ≡ a → IsKept shown
           → (if a then (if b then Some moved_here else None) else None) ≡ passing (at_stop stop) (if b then Some (placed t run numbered shown) else None)
-      shown_both true true e kept =
-          ap Some (here_is (eqb-true (stands_at numbered.1 shown) stop e) kept)
-          ∙ sym (ap (λ c. if c then Some (placed t run numbered shown) else None) e)
-      shown_both true false e kept = refl
-      shown_both false true e kept = sym (ap (λ c. if c then Some (placed t run numbered shown) else None) e)
-      shown_both false false e kept = refl
+      shown_both a b e kept = grind (arith, eqb-true, here_is, nat_tests)
 
       won_shown : (won : ℕ) → winning at feeds run ≡ Some won → nat_eq number won ≡ true → IsNumbered t run numbered → IsKept shown
           → with_winner (winning at feeds run) (slice_get (places_of t run.trip) numbered.0) ≡ passing (at_stop stop) (passing (in_window start end) (Some (placed t run numbered shown)))
-      won_shown won wins own there kept =
-          ap (λ w. with_winner w (slice_get (places_of t run.trip) numbered.0)) wins
-          ∙ ap (λ c. if nat_eq (stands_at numbered.1 shown) stop then (if live.is_between start end shown_slot then (if c then by_update t stop shown_slot (slice_get (places_of t run.trip) numbered.0) else None) else None) else None) own
-          ∙ ap (λ o. if nat_eq (stands_at numbered.1 shown) stop then (if live.is_between start end shown_slot then by_update t stop shown_slot o else None) else None) there
-          ∙ shown_both (nat_eq (stands_at numbered.1 shown) stop) (live.is_between start end shown_slot) refl kept
+      won_shown won wins own there kept = grind (arith, shown_both, nat_tests)
 
       lost_shown : (won : Option ℕ) → winning at feeds run ≡ won → ((given : Option Departure) → if_told_by number won given ≡ None) → with_winner (winning at feeds run) (slice_get (places_of t run.trip) numbered.0) ≡ None
-      lost_shown won wins other =
-          ap (λ w. with_winner w (slice_get (places_of t run.trip) numbered.0)) wins
-          ∙ ap (λ o. if nat_eq (stands_at numbered.1 shown) stop then (if live.is_between start end shown_slot then o else None) else None) (other (by_update t stop shown_slot (slice_get (places_of t run.trip) numbered.0)))
-          ∙ none_both None (nat_eq (stands_at numbered.1 shown) stop) (live.is_between start end shown_slot)
+      lost_shown won wins other = grind (arith, none_both, nat_tests)
 
     won_option : (won : ℕ) → winning at feeds run ≡ Some won → nat_eq number won ≡ true → IsNumbered t run numbered → (shown : Option Shown) → IfSome shown IsKept
         → from_rows (live.is_at stop) (λ row. row.slot) (option_map (λ s. live_row t run numbered (sign_of s)) shown) ≡ passing (at_stop stop) (passing (in_window start end) (option_map (placed t run numbered) shown))
-    won_option won wins own there None kept = refl
-    won_option won wins own there (Some shown) kept = won_shown shown won wins own there kept
+    won_option won wins own there shown kept = grind (arith, won_shown, nat_tests)
 
     won_place : (won : ℕ) (u : Update) → winning at feeds run ≡ Some won → nat_eq number won ≡ true → IsNumbered t run numbered
         → from_update u numbered ≡ passing (at_stop stop) (passing (in_window start end) (place_departure t run (Some u) numbered))
@@ -288,14 +229,10 @@ module _ (t : Timetable) (feeds : List LiveFeed) (at : ℕ) (start end : ℤ) (s
 
     lost_option : (won : Option ℕ) → winning at feeds run ≡ won → ((given : Option Departure) → if_told_by number won given ≡ None) → (shown : Option Shown)
         → from_rows (live.is_at stop) (λ row. row.slot) (option_map (λ s. live_row t run numbered (sign_of s)) shown) ≡ None
-    lost_option won wins other None = refl
-    lost_option won wins other (Some shown) = lost_shown shown won wins other
+    lost_option won wins other shown = grind (arith, lost_shown)
 
     lost_place : (won : Option ℕ) (u : Update) → winning at feeds run ≡ won → ((given : Option Departure) → if_told_by number won given ≡ None) → from_update u numbered ≡ None
-    lost_place won u wins other = by_test (may_board numbered.1) where
-      by_test : (m : Bool) → from_rows (live.is_at stop) (λ row. row.slot) (if m then option_map (λ s. live_row t run numbered (sign_of s)) (shown_at t run (Some u) numbered.0) else None) ≡ None
-      by_test true = lost_option won wins other (shown_at t run (Some u) numbered.0)
-      by_test false = refl
+    lost_place won u wins other = grind (arith, lost_option)
 
   -- where that feed's update counts it has what there is
   pub live_won : (won : ℕ) (u : Update) → winning at feeds run ≡ Some won → nat_eq number won ≡ true → live_by (Some u) ≡ there_by t (Some u) run start end stop
@@ -307,9 +244,7 @@ module _ (t : Timetable) (feeds : List LiveFeed) (at : ℕ) (start end : ℤ) (s
 
   -- and else nothing
   live_lost : (won : Option ℕ) (best : Option Update) → winning at feeds run ≡ won → ((given : Option Departure) → if_told_by number won given ≡ None) → live_by best ≡ []
-  live_lost won None wins other = refl
-  live_lost won (Some u) wins other =
-      live_fused u ∙ none_given (from_update u) (λ numbered. lost_place numbered won u wins other) (departures_of t run.trip)
+  live_lost won best wins other = grind (arith, live_fused, lost_place, none_given)
 
   pub live_untold : (best : Option Update) → winning at feeds run ≡ None → live_by best ≡ []
   live_untold best untold = live_lost None best untold (λ given. refl)

@@ -1,9 +1,9 @@
 -- Each source of a board rises.
-use Rattle.std.proofs.Common.{◌≡◌, ℕ, ◌+◌, Bool, true, false, nat_eq, Option, Some, None, List, [], ◌∷◌, map, filter, ℤ, pos, refl, sym, ap, subst, ◌∙◌}
-use Rattle.std.specs.Prelude.{if◌then◌else◌, slice_get}
+use Rattle.std.proofs.lemmas.Bool.Decides.{nat_tests}
+use Rattle.std.proofs.Common.{◌≡◌, ℕ, ◌+◌, Option, Some, List, [], ◌∷◌, map, filter, ℤ, pos, refl, sym, ap, subst, ◌∙◌, arith}
 use Rattle.std.specs.List.{AllByRecursion}
 use Rattle.sched_types.specs.declared.rows.Place.{Place}
-use Rattle.sched_types.specs.Timetable.{Timetable, places_of}
+use Rattle.sched_types.specs.Timetable.{Timetable}
 use Rattle.order.proofs.Laws.{IsRising, rising_ordered}
 use Rattle.stop_index.specs.declared.slot.Slot.{Slot}
 use Rattle.stop_index.specs.Slots as times
@@ -11,7 +11,6 @@ use Rattle.stop_index.specs.Slots.{slots_between}
 use Rattle.stop_index.proofs.Instants.{slot_total}
 use Rattle.stop_index.proofs.Laws.{between_rises}
 use Rattle.board_defs.specs.Feeds.{HubFeed, schedule_feeds}
-use Rattle.board_defs.specs.Rows.{may_board}
 use Rattle.run_overlay.specs.declared.slot.LiveSlot.{LiveSlot}
 use Rattle.run_overlay.specs.Kept.{overlay_of, slots_in}
 use Rattle.run_overlay.specs.Live as live
@@ -20,7 +19,7 @@ use Rattle.run_overlay.specs.Updates.{updates_of}
 use Rattle.run_overlay.proofs.Slots.{slots_are}
 use Rattle.run_departures.specs.declared.asked.Asked.{Asked}
 use Rattle.run_departures.specs.declared.departure.Departure.{Departure}
-use Rattle.run_departures.specs.Bids.{LiveFeed, live_feed, winning}
+use Rattle.run_departures.specs.Bids.{LiveFeed, live_feed}
 use Rattle.run_departures.specs.Board.{AreLive, sources, stops_of}
 use Rattle.run_departures.specs.Departures.{departure_cmp}
 use Rattle.run_departures.specs.Orders.{departure_total}
@@ -34,20 +33,13 @@ module _ (t : Timetable) (feeds : List LiveFeed) (at stop : ℕ) where
   -- ---- by the timetable
 
   boarding_is : (slot : Slot) (place : Option Place) (d : Departure) → if_boarding stop slot place ≡ Some d → d ≡ by_timetable stop slot
-  boarding_is slot None d is = cc
-  boarding_is slot (Some place) d is = by_test (may_board place) is where
-    by_test : (b : Bool) → (if b then Some (by_timetable stop slot) else None) ≡ Some d → d ≡ by_timetable stop slot
-    by_test true is = let same : by_timetable stop slot ≡ d = cc in sym same
-    by_test false is = cc
+  boarding_is slot place d is = grind arith
 
   untold_is : (won : Option ℕ) (given : Option Departure) (d : Departure) → if_untold won given ≡ Some d → given ≡ Some d
-  untold_is None given d is = is
-  untold_is (Some number) given d is = cc
+  untold_is won given d is = grind arith
 
   scheduled_is : (slot : Slot) (d : Departure) → scheduled_departure t feeds at stop slot ≡ Some d → d ≡ by_timetable stop slot
-  scheduled_is slot d is =
-      let place = slice_get (places_of t slot.run.trip) slot.place in
-      boarding_is slot place d (untold_is (winning at feeds slot.run) (if_boarding stop slot place) d is)
+  scheduled_is slot d is = grind (arith, boarding_is, untold_is)
 
   scheduled_alike : (a b : Slot) (x y : Departure) → scheduled_departure t feeds at stop a ≡ Some x → scheduled_departure t feeds at stop b ≡ Some y → departure_cmp x y ≡ times.slot_cmp a b
   scheduled_alike a b x y first second =
@@ -60,20 +52,13 @@ module _ (t : Timetable) (feeds : List LiveFeed) (at stop : ℕ) where
     is : d ≡ updated t stop slot place
 
   update_is : (slot : LiveSlot) (place : Option Place) (d : Departure) → by_update t stop slot place ≡ Some d → IsUpdated slot d
-  update_is slot None d is = cc
-  update_is slot (Some place) d is = let same : updated t stop slot place ≡ d = cc in record { place = place; is = sym same }
+  update_is slot place d is = grind arith
 
   told_is : (number : ℕ) (won : Option ℕ) (given : Option Departure) (d : Departure) → if_told_by number won given ≡ Some d → given ≡ Some d
-  told_is number None given d is = cc
-  told_is number (Some other) given d is = by_test (nat_eq number other) is where
-    by_test : (b : Bool) → (if b then given else None) ≡ Some d → given ≡ Some d
-    by_test true is = is
-    by_test false is = cc
+  told_is number won given d is = grind (arith, nat_tests)
 
   live_is : (number : ℕ) (slot : LiveSlot) (d : Departure) → live_departure t feeds at number stop slot ≡ Some d → IsUpdated slot d
-  live_is number slot d is =
-      let place = slice_get (places_of t slot.run.trip) slot.place in
-      update_is slot place d (told_is number (winning at feeds slot.run) (by_update t stop slot place) d is)
+  live_is number slot d is = grind (arith, told_is, update_is)
 
   live_alike : (number : ℕ) (a b : LiveSlot) (x y : Departure) → live_departure t feeds at number stop a ≡ Some x → live_departure t feeds at number stop b ≡ Some y → departure_cmp x y ≡ live.slot_cmp a b
   live_alike number a b x y first second =

@@ -4,7 +4,7 @@ use Rattle.std.specs.Prelude.{unwrap_or}
 use Rattle.std.specs.Cmp.Lexicographic.{slice_cmp}
 use Rattle.std.specs.Fmt.{decimal}
 use Rattle.std.specs.Option.{option_map}
-use Rattle.std.specs.Ordering.{int_cmp, nat_cmp, ordering_then}
+use Rattle.std.specs.Ordering.{nat_cmp}
 use Rattle.std.proofs.lemmas.Bool.{cases_order}
 use Rattle.std.proofs.lemmas.Bool.Decides.{nat_tests}
 use Rattle.std.proofs.lemmas.Cmp.{nat_cmp_total, tied_itself}
@@ -54,12 +54,7 @@ module _ (t : Timetable) (sound : IsTimetable t) where
       ∙ ap decimal (date_at t sound day 0 h)
 
   texts_order : (i j : ℕ) → i < length t.bases → j < length t.bases → slice_cmp nat_cmp (date_text t i) (date_text t j) ≡ nat_cmp i j
-  texts_order i j h k =
-      ap (λ xs. slice_cmp nat_cmp xs (date_text t j)) (date_is i h)
-      ∙ ap (slice_cmp nat_cmp (decimal (date_plus t.first i))) (date_is j k)
-      ∙ decimal_order (date_plus t.first i) (date_plus t.first j) (omega (arith, date_early t sound i h)) (omega (arith, date_late t sound i h))
-      (omega (arith, date_early t sound j k)) (omega (arith, date_late t sound j k))
-      ∙ dates_order i j h k
+  texts_order i j h k = grind (arith, date_early, date_is, date_late, dates_order, decimal_order)
 
   -- the id of a trip, by its number
   abbrev trip_text : ℕ → List ℕ
@@ -76,10 +71,4 @@ module _ (t : Timetable) (sound : IsTimetable t) where
 
   -- departures stand as their rows
   pub rows_order : (a b : Departure) → IsThere t a → IsThere t b → row_cmp (as_row t a) (as_row t b) ≡ departure_cmp a b
-  rows_order a b there other =
-      ap
-      (λ o. ordering_then (int_cmp a.expected b.expected) (ordering_then o (ordering_then (slice_cmp nat_cmp (date_text t a.run.day) (date_text t b.run.day)) (nat_cmp a.place b.place))))
-      (trips_order a.run.trip b.run.trip there.trip other.trip)
-      ∙ ap
-      (λ o. ordering_then (int_cmp a.expected b.expected) (ordering_then (nat_cmp a.run.trip b.run.trip) (ordering_then o (nat_cmp a.place b.place))))
-      (texts_order a.run.day b.run.day there.day other.day)
+  rows_order a b there other = grind (arith, texts_order, trips_order)

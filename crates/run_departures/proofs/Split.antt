@@ -1,5 +1,6 @@
 -- All that the sources of the asked stops have, run by run.
-use Rattle.std.proofs.Common.{◌≡◌, ℕ, Bool, true, false, cond, nat_eq, Option, Some, None, List, [], ◌++◌, map, filter, ℤ, refl, sym, ap, subst, ◌∙◌, append-nil}
+use Rattle.std.proofs.lemmas.Bool.Decides.{nat_tests}
+use Rattle.std.proofs.Common.{◌≡◌, ℕ, true, cond, nat_eq, Option, Some, None, List, [], ◌++◌, map, filter, ℤ, refl, sym, ap, ◌∙◌, append-nil, arith}
 use Rattle.std.specs.Prelude.{IfSome}
 use Rattle.std.specs.List.{AllByRecursion, filter_map, flat_map}
 use Rattle.std.specs.Option.{option_map}
@@ -19,7 +20,7 @@ use Rattle.run_overlay.specs.declared.slot.LiveSlot.{LiveSlot}
 use Rattle.board_defs.specs.Choice.{Update, choice_cmp, chosen, update_at}
 use Rattle.board_defs.specs.Feeds.{HubFeed, held_in}
 use Rattle.run_overlay.specs.Live as live
-use Rattle.run_overlay.specs.Live.{live_between, live_rows, rows_by}
+use Rattle.run_overlay.specs.Live.{live_between, live_rows}
 use Rattle.run_overlay.specs.Updates.{updates_of}
 use Rattle.run_departures.specs.declared.departure.Departure.{Departure}
 use Rattle.run_departures.specs.Bids.{Bid, LiveFeed, live_feed, winning}
@@ -63,22 +64,14 @@ module _ (t : Timetable) (fs : List HubFeed) (apart : AreApart number_of_feed fs
     rows_of one = told_by (chosen t (updates_of one.fold.entities) run)
 
     won_by : (one : HubFeed) (won : ℕ) (given : Option Update) → winning at feeds run ≡ Some won → nat_eq one.number won ≡ true → live_by t feeds at start end stop run one.number given ≡ told_by given
-    won_by one won None wins own = refl
-    won_by one won (Some u) wins own = live_won t feeds at start end stop run one.number won u wins own
+    won_by one won given wins own = grind (arith, live_won, one, nat_tests)
 
     moved_is : (won : ℕ) → winning at feeds run ≡ Some won → (one : HubFeed) → moved one ≡ cond (nat_eq one.number won) (rows_of one) []
-    moved_is won wins one = by_test (nat_eq one.number won) refl where
-      by_test : (b : Bool) → nat_eq one.number won ≡ b → live_by t (map (live_feed t) fs) at start end stop run one.number (chosen t (updates_of one.fold.entities) run) ≡ cond b (rows_of one) []
-      by_test true own = won_by one won (chosen t (updates_of one.fold.entities) run) wins own
-      by_test false other = live_other t feeds at start end stop run one.number won (chosen t (updates_of one.fold.entities) run) wins other
+    moved_is won wins one = grind (arith, live_by, live_other, one, won_by, nat_tests)
 
     -- what a feed says that has the update
     tells_of : (one : HubFeed) (given : Option Update) (u : Update) → passing (counting t at run one) (option_map (renumbered one.number) given) ≡ Some u → told_by given ≡ told_by (Some u)
-    tells_of one None u is = cc
-    tells_of one (Some v) u is = by_test (counting t at run one v) is where
-      by_test : (b : Bool) → cond b (Some (renumbered one.number v)) None ≡ Some u → told_by (Some v) ≡ told_by (Some u)
-      by_test true is = let same : renumbered one.number v ≡ u = cc in ap (λ w. told_by (Some w)) same
-      by_test false is = cc
+    tells_of one given u is = grind (arith, counting, one, renumbered)
 
     tells : (one : HubFeed) (u : Update) → best_of t at run one ≡ Some u → rows_of one ≡ told_by (Some u)
     tells one u is = tells_of one (chosen t (updates_of one.fold.entities) run) u is
@@ -91,8 +84,7 @@ module _ (t : Timetable) (fs : List HubFeed) (apart : AreApart number_of_feed fs
     all_say = one_speaks number_of_feed (λ (u : Update). u.feed) (best_of t at run) (own_number t at run) rows_of (λ u. told_by (Some u)) tells fs apart
 
     says_most : (most : Option Update) (u : Update) → most ≡ Some u → IfSome most Says → Says u
-    says_most None u is each = cc
-    says_most (Some x) u is each = let same : x ≡ u = cc in subst Says same each
+    says_most most u is each = grind arith
 
     of_winner : (u : Update) → best run ≡ Some u → Says u
     of_winner u is =
@@ -149,21 +141,11 @@ module _ (t : Timetable) (fs : List HubFeed) (apart : AreApart number_of_feed fs
 
     live_rows_flat : (one : HubFeed) → filter_map (live_departure t feeds at one.number stop) (filter (live.is_between start end) (live.slots_at t (updates_of one.fold.entities) stop)) ≡ flat_map (λ run. moved stop run one) (all_runs t)
     unfolding live_rows
-    live_rows_flat one =
-        let us = updates_of one.fold.entities in
-        let rows = λ (run : Run). rows_by t run (chosen t us run) in
-        ap (λ ds. filter_map (live_departure t feeds at one.number stop) (filter (live.is_between start end) (map (λ row. row.slot) ds))) (filter_flat (live.is_at stop) rows (all_runs t))
-        ∙ ap (λ ds. filter_map (live_departure t feeds at one.number stop) (filter (live.is_between start end) ds)) (map_flat (λ row. row.slot) (λ run. filter (live.is_at stop) (rows run)) (all_runs t))
-        ∙ ap (filter_map (live_departure t feeds at one.number stop)) (filter_flat (live.is_between start end) (λ run. map (λ row. row.slot) (filter (live.is_at stop) (rows run))) (all_runs t))
-        ∙ given_flat (live_departure t feeds at one.number stop) (λ run. filter (live.is_between start end) (map (λ row. row.slot) (filter (live.is_at stop) (rows run)))) (all_runs t)
+    live_rows_flat one = grind (arith, filter_flat, given_flat, map_flat, one)
 
     live_runs : (one : HubFeed) → SameItems (live_here one) (flat_map (λ run. moved stop run one) (all_runs t))
     unfolding live_between
-    live_runs one =
-        let wanted = filter (live.is_between start end) (live.slots_at t (updates_of one.fold.entities) stop) in
-        same_on (live_here one) (filter_map (live_departure t feeds at one.number stop) wanted) (flat_map (λ run. moved stop run one) (all_runs t))
-        (same_given (live_departure t feeds at one.number stop) (ordered live.slot_cmp wanted) wanted (ordered_items live_total wanted))
-        (same_are (filter_map (live_departure t feeds at one.number stop) wanted) (flat_map (λ run. moved stop run one) (all_runs t)) (live_rows_flat one))
+    live_runs one = grind (arith, live_rows_flat, live_total, one, ordered_items, same_are, same_given, same_on)
 
     pub here_is : SameItems (scheduled_here ++ flat_map live_here fs) (filter (at_stop stop) all_in_window)
     here_is =

@@ -1,9 +1,9 @@
 -- Lists with the same items: gathered item by item, spread over places, and put in order.
-use Rattle.std.proofs.Common.{◌≡◌, ℕ, ◌+◌, ◌≤◌, Bool, true, false, not, ◌&&◌, cond, nat_eq, Option, Some, None, List, [], ◌∷◌, ◌++◌, filter, count_by, refl, sym, ap, ◌∙◌, Less, Equal, Greater, arith}
+use Rattle.std.proofs.Common.{◌≡◌, ℕ, ◌+◌, ◌≤◌, Bool, true, false, not, ◌&&◌, cond, nat_eq, Option, Some, None, List, [], ◌∷◌, ◌++◌, filter, count_by, refl, sym, ap, ◌∙◌, arith}
 use Rattle.std.specs.Cmp.{IsTotalOrder}
 use Rattle.std.specs.List.{cons_option, filter_map, flat_map}
 use Rattle.std.specs.List.Sorted.{ties}
-use Rattle.std.specs.Ordering.{is_eq, is_gt, is_lt, ordering_reverse}
+use Rattle.std.specs.Ordering.{is_eq, is_lt, ordering_reverse}
 use Rattle.std.specs.declared.cmp.Ordering.{Ordering}
 use Rattle.std.proofs.lemmas.Bool.{and_parts}
 use Rattle.order.specs.Order.{ordered}
@@ -13,8 +13,7 @@ use Rattle.order.proofs.Laws.{IsLeast, IsRising, rising_only, rising_ordered, ke
 -- ---- what comes of items
 
 pub same_append : {X : Type 0} (xs ys zs ws : List X) → SameItems xs ys → SameItems zs ws → SameItems (xs ++ zs) (ys ++ ws)
-same_append xs ys zs ws same more =
-    record { counts = λ p. omega (arith, count-append p xs zs, count-append p ys ws, same.counts p, more.counts p) }
+same_append xs ys zs ws same more = grind (arith, count-append)
 
 -- what passes, of what may be there
 abbrev pub passes : {Y : Type 0} → (Y → Bool) → Option Y → Bool
@@ -29,8 +28,7 @@ count-given {Y = Y} p f (x ∷ xs) = by_option (f x) (count-given p f xs) ∙ sy
   by_option (Some y) rest = omega (arith, count-cons p y (filter_map f xs), rest)
 
 pub same_given : {X Y : Type 0} (f : X → Option Y) (xs ys : List X) → SameItems xs ys → SameItems (filter_map f xs) (filter_map f ys)
-same_given f xs ys same =
-    record { counts = λ p. count-given p f xs ∙ same.counts (λ x. passes p (f x)) ∙ sym (count-given p f ys) }
+same_given f xs ys same = grind (arith, count-given)
 
 -- two lists that come of each item
 twofold : {A X : Type 0} (p : X → Bool) (f g : A → List X) (items : List A) → count_by p (flat_map (λ a. f a ++ g a) items) ≡ count_by p (flat_map f items) + count_by p (flat_map g items)
@@ -91,8 +89,7 @@ module _ {Z : Type 0} (at : Z → ℕ) where
     by_test false rest = omega (arith, rest, by_none (p z))
 
   of_one : (b : Bool) (z : Z) (zs : List Z) → cond b (z ∷ zs) zs ≡ cond b (z ∷ []) [] ++ zs
-  of_one true z zs = refl
-  of_one false z zs = refl
+  of_one b z zs = grind arith
 
   flat_alike : {A X : Type 0} (f g : A → List X) (items : List A) → ((a : A) → f a ≡ g a) → flat_map f items ≡ flat_map g items
   flat_alike f g [] same = refl
@@ -133,9 +130,7 @@ abbrev any : {X : Type 0} → X → Bool
 any x = true
 
 neither_is : (r : Ordering) → (not (is_lt r) && not (is_lt (ordering_reverse r))) ≡ is_eq r
-neither_is Less = refl
-neither_is Equal = refl
-neither_is Greater = refl
+neither_is r = grind arith
 
 module _ {X : Type 0} (same : X → X → Bool) (self : (x : X) → same x x ≡ true) (exact : (x y : X) → same x y ≡ true → x ≡ y) where
   -- of one item at most
@@ -183,10 +178,7 @@ module _ {X : Type 0} (same : X → X → Bool) (self : (x : X) → same x x ≡
 module _ {X Y : Type 0} {cmp : X → X → Ordering} {other : Y → Y → Ordering} (o : IsTotalOrder cmp) (p : IsTotalOrder other) (f : X → Option Y) (alike : (a b : X) (x y : Y) → f a ≡ Some x → f b ≡ Some y → other x y ≡ cmp a b) where
   least_given : (a : X) (x : Y) → f a ≡ Some x → (items : List X) → IsLeast o a items → IsLeast p x (filter_map f items)
   least_given a x at [] least = tt
-  least_given a x at (b ∷ items) least = by_option (f b) refl (least_given a x at items least.1) where
-    by_option : (given : Option Y) → f b ≡ given → IsLeast p x (filter_map f items) → IsLeast p x (cons_option given (filter_map f items))
-    by_option None there rest = rest
-    by_option (Some y) there rest = (ap is_gt (alike a b x y at there) ∙ least.0, rest)
+  least_given a x at (b ∷ items) least = grind (arith, least_given a x at items least.1, IsLeast p x (filter_map f items), IsLeast)
 
   pub rising_given : (items : List X) → IsRising o items → IsRising p (filter_map f items)
   rising_given [] up = tt

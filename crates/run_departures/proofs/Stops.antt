@@ -1,10 +1,10 @@
 -- The asked stop and its children are those that count as asked, each once.
-use Rattle.std.proofs.Common.{◌≡◌, ℕ, zero, suc, ◌+◌, ◌<◌, ◌≤◌, Bool, true, false, not, ◌&&◌, ◌||◌, nat_eq, Option, Some, None, List, [], ◌∷◌, length, filter, count_by, refl, sym, ap, ◌∙◌, inl, inr, arith}
+use Rattle.std.proofs.lemmas.Bool.Decides.{nat_tests}
+use Rattle.std.proofs.Common.{◌≡◌, ℕ, zero, suc, ◌+◌, ◌<◌, ◌≤◌, Bool, true, false, not, ◌&&◌, ◌||◌, nat_eq, List, [], ◌∷◌, length, filter, count_by, refl, ap, ◌∙◌, inl, inr, arith}
 use Rattle.std.specs.Prelude.{slice_get}
 use Rattle.std.specs.List.{range_with_len}
 use Rattle.std.proofs.lemmas.Bool.{and_right, cases_eq, eq-eqb, eqb-true, ne_eqb}
 use Rattle.std.proofs.lemmas.Option.{slice_get_within}
-use Rattle.sched_types.specs.declared.rows.Stop.{Stop}
 use Rattle.sched_types.specs.Timetable.{Timetable, children_of, names_parent}
 use Rattle.order.proofs.Counts.{one, one_is, count-cons, count-filter, count_never, range_once}
 use Rattle.board_defs.specs.Rows.{is_asked}
@@ -15,17 +15,11 @@ count_same p q same [] = refl
 count_same p q same (x ∷ xs) = omega (arith, count-cons p x xs, count-cons q x xs, ap one (same x), count_same p q same xs)
 
 turned : (a b : ℕ) → nat_eq a b ≡ nat_eq b a
-turned a b = elim (cases_eq a b) [
-  | inl e ↦ eq-eqb a b e ∙ sym (eq-eqb b a (sym e))
-  | inr other ↦ ne_eqb a b other ∙ sym (ne_eqb b a (λ e. other (sym e)))
-]
+turned a b = grind (arith, cases_eq, eq-eqb, ne_eqb, nat_tests)
 
 -- what is true of a number is asked of the number itself
 pinned : (q : ℕ → Bool) (x : ℕ) (xs : List ℕ) → count_by (λ s. q s && nat_eq s x) xs ≡ count_by (λ s. q x && nat_eq s x) xs
-pinned q x xs = count_same (λ s. q s && nat_eq s x) (λ s. q x && nat_eq s x) (λ s. by_test s (nat_eq s x) refl) xs where
-  by_test : (s : ℕ) (b : Bool) → nat_eq s x ≡ b → (q s && b) ≡ (q x && b)
-  by_test s true e = ap (λ n. q n && true) (eqb-true s x e)
-  by_test s false e = and_right (q s) false refl ∙ sym (and_right (q x) false refl)
+pinned q x xs = grind (arith, and_right, count_same, eqb-true, nat_tests)
 
 range_has : (x a n : ℕ) → a ≤ x → x < a + n → 0 < count_by (λ k. nat_eq k x) (range_with_len a n)
 range_has x a zero low high = absurd (omega arith)
@@ -40,10 +34,7 @@ module _ (t : Timetable) (asked x : ℕ) where
 
   -- a stop that names another is in the timetable
   pub named_within : names x ≡ true → x < length t.stops
-  named_within e = by_found (slice_get t.stops x) refl e where
-    by_found : (found : Option Stop) → slice_get t.stops x ≡ found → names_parent asked found ≡ true → x < length t.stops
-    by_found None at e = cc
-    by_found (Some stop) at e = slice_get_within t.stops x stop at
+  named_within e = grind (arith, slice_get_within)
 
   children_count : count_by (λ s. nat_eq s x) (children_of t.stops asked) ≡ one (names x)
   children_count = count-filter names (λ s. nat_eq s x) (range_with_len 0 (length t.stops)) ∙ pinned names x (range_with_len 0 (length t.stops)) ∙ by_test (names x) refl where

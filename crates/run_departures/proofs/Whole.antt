@@ -1,10 +1,11 @@
 -- The departures of a board are those of all runs that are asked for, in order, and their rows are the defined ones.
-use Rattle.std.proofs.Common.{◌≡◌, ℕ, ◌+◌, ◌-◌, ◌<◌, ◌≤◌, Bool, true, false, ◌&&◌, ◌||◌, nat_eq, Option, Some, None, List, [], ◌∷◌, ◌++◌, length, map, filter, take, count_by, ℤ, pos, refl, sym, ap, subst, ◌∙◌, arith}
-use Rattle.std.specs.Prelude.{if◌then◌else◌, slice_get}
+use Rattle.std.proofs.lemmas.Bool.Decides.{nat_tests}
+use Rattle.std.proofs.Common.{◌≡◌, ℕ, ◌+◌, ◌-◌, ◌<◌, ◌≤◌, Bool, true, false, ◌&&◌, nat_eq, Option, Some, None, List, [], ◌∷◌, ◌++◌, length, map, filter, take, count_by, ℤ, pos, refl, sym, ap, subst, ◌∙◌, arith}
+use Rattle.std.specs.Prelude.{if◌then◌else◌}
 use Rattle.std.specs.FinMap.{nat_cmp-IsAntisymmetric}
 use Rattle.std.specs.List.{All, AllByRecursion, filter_map, flat_map}
 use Rattle.std.specs.Option.{option_and_then, option_map}
-use Rattle.std.specs.Ordering.{int_cmp, is_eq, nat_cmp, ordering_then}
+use Rattle.std.specs.Ordering.{is_eq, nat_cmp}
 use Rattle.std.proofs.lemmas.Bool.{and_from, and_parts, eq-eqb, eqb-true}
 use Rattle.std.proofs.lemmas.List.Concat.{flat_map-append}
 use Rattle.std.proofs.lemmas.List.Elements.{All-from_recursion}
@@ -13,7 +14,7 @@ use Rattle.sched_types.specs.declared.plans.NamedFeed.{NamedFeed}
 use Rattle.sched_types.specs.declared.rows.Place.{Place}
 use Rattle.sched_types.specs.declared.rows.Run.{Run}
 use Rattle.sched_types.specs.Runs.{all_runs, departures_of}
-use Rattle.sched_types.specs.Timetable.{IsTimetable, Timetable, is_run, names_parent, places_of}
+use Rattle.sched_types.specs.Timetable.{IsTimetable, Timetable, is_run, places_of}
 use Rattle.sched_types.proofs.TimetableLaws.{run_has, run_trip}
 use Rattle.order.specs.Order.{ordered}
 use Rattle.order.proofs.Counts.{count-filter, count_fewer, count_never, numbered, numbers_once, once_flat, SameItems, same_are, same_back, same_flat, same_on}
@@ -24,7 +25,6 @@ use Rattle.board_defs.specs.Choice.{Update, updates_at}
 use Rattle.board_defs.specs.Feeds.{HubFeed, schedule_feeds}
 use Rattle.board_defs.specs.Fold.{FeedFold}
 use Rattle.board_defs.specs.Rows.{BoardRow, Shown, is_asked, is_within, may_board, place_row, row_cmp, run_rows, shown_at, shown_row, stands_at}
-use Rattle.run_overlay.specs.Kept.{overlay_of}
 use Rattle.run_overlay.specs.Live.{live_between}
 use Rattle.run_overlay.specs.Updates.{updates_of}
 use Rattle.run_overlay.proofs.AllRuns.{is_this, run_once}
@@ -36,7 +36,7 @@ use Rattle.run_departures.specs.Board.{AreLive, departures_of_board, sources, st
 use Rattle.run_departures.specs.Departures.{IsThere, as_row, departure_cmp}
 use Rattle.run_departures.specs.Merge.{joined}
 use Rattle.run_departures.specs.Orders.{departure_total}
-use Rattle.run_departures.specs.Sources.{live_departure, live_there, scheduled_there, sources_at}
+use Rattle.run_departures.specs.Sources.{live_departure, scheduled_there, sources_at}
 use Rattle.run_departures.proofs.Alike.{departures_alike}
 use Rattle.run_departures.proofs.Apart.{AreApart}
 use Rattle.run_departures.proofs.Fusion.{all_filter, all_flat, all_given, all_passing, filter_flat, filter_of_given, flat_same, map_flat, map_of_given}
@@ -65,10 +65,7 @@ all_of P h (x ∷ xs) = (h x, all_of P h xs)
 
 all_filtered : {X : Type 0} (P : X → Type 0) (p : X → Bool) (xs : List X) → AllByRecursion P xs → AllByRecursion (λ x. P x × (p x ≡ true)) (filter p xs)
 all_filtered P p [] all = tt
-all_filtered P p (x ∷ xs) all = by_test (p x) refl (all_filtered P p xs all.1) where
-  by_test : (b : Bool) → p x ≡ b → AllByRecursion (λ y. P y × (p y ≡ true)) (filter p xs) → AllByRecursion (λ y. P y × (p y ≡ true)) (if b then x ∷ filter p xs else filter p xs)
-  by_test true e rest = ((all.0, e), rest)
-  by_test false e rest = rest
+all_filtered P p (x ∷ xs) all = grind (arith, all_filtered P p xs all.1)
 
 -- ---- departures that tie
 
@@ -84,17 +81,7 @@ same_number : (a b : ℕ) → is_eq (nat_cmp a b) ≡ true → nat_eq b a ≡ tr
 same_number a b e = eq-eqb b a (sym (nat_cmp-IsAntisymmetric a b (is_equal (nat_cmp a b) e)))
 
 tied_are_one : (z y : Departure) → tied z y ≡ true → AreOne z y
-tied_are_one z y e =
-    let later = ordering_then (nat_cmp z.run.day y.run.day) (nat_cmp z.place y.place) in
-    let trips = ordering_then (nat_cmp z.run.trip y.run.trip) later in
-    let first = and_parts (is_eq (int_cmp z.expected y.expected)) (is_eq trips) (sym (equal_then (int_cmp z.expected y.expected) trips) ∙ e) in
-    let second = and_parts (is_eq (nat_cmp z.run.trip y.run.trip)) (is_eq later) (sym (equal_then (nat_cmp z.run.trip y.run.trip) later) ∙ first.1) in
-    let third = and_parts (is_eq (nat_cmp z.run.day y.run.day)) (is_eq (nat_cmp z.place y.place)) (sym (equal_then (nat_cmp z.run.day y.run.day) (nat_cmp z.place y.place)) ∙ second.1) in
-    record {
-      trip = same_number z.run.trip y.run.trip second.0;
-      day = same_number z.run.day y.run.day third.0;
-      place = same_number z.place y.place third.1;
-    }
+tied_are_one z y e = grind (arith, and_parts, equal_then, same_number)
 
 -- ---- the departures of a run
 
@@ -102,12 +89,10 @@ module _ (t : Timetable) (most : Option Update) (run : Run) where
   -- whatever holds of each place as it is shown holds of what comes of it
   module _ (P : Option Departure → Type 0) (numbered : ℕ × Place) (none : P None) (some : (shown : Shown) → P (Some (placed t run numbered shown))) where
     by_shown : (shown : Option Shown) → P (option_map (placed t run numbered) shown)
-    by_shown None = none
-    by_shown (Some shown) = some shown
+    by_shown shown = grind arith
 
     by_boarding : (m : Bool) (shown : Option Shown) → P (if m then option_map (placed t run numbered) shown else None)
-    by_boarding true shown = by_shown shown
-    by_boarding false shown = none
+    by_boarding m shown = grind (arith, by_shown)
 
     of_place : P (place_departure t run most numbered)
     of_place = by_boarding (may_board numbered.1) (shown_at t run most numbered.0)
@@ -144,14 +129,10 @@ module _ (t : Timetable) (most : Option Update) (run : Run) where
   IsOf d = d.run ≡ run
 
   each_of_run : (item : ℕ × Place) (d : Departure) → place_departure t run most item ≡ Some d → IsOf d
-  each_of_run item =
-      of_place (λ o. (d : Departure) → o ≡ Some d → IsOf d) item (λ d e. cc)
-      (λ shown d e. let same : placed t run item shown ≡ d = cc in sym (ap (λ (x : Departure). x.run) same))
+  each_of_run item = grind (arith, of_place, placed)
 
   all_of_run : AllByRecursion IsOf (departures_by t most run)
-  all_of_run =
-      all_given (place_departure t run most) IsOf (departures_of t run.trip)
-      (all_of (λ item. (d : Departure) → place_departure t run most item ≡ Some d → IsOf d) each_of_run (departures_of t run.trip))
+  all_of_run = grind (arith, all_given, all_of, each_of_run, place_departure)
 
 -- ---- the rows of a run
 
@@ -167,25 +148,14 @@ module _ (t : Timetable) (asked : Asked) (most : Option Update) (run : Run) wher
 
   by_tests : (numbered : ℕ × Place) (shown : Shown) (a b : Bool) → is_asked t asked.stop (stands_at numbered.1 shown) ≡ a → within (placed t run numbered shown) ≡ b
       → option_map (as_row t) (passing is_wanted (if b then Some (placed t run numbered shown) else None)) ≡ passing row_within (if a then Some (as_row t (placed t run numbered shown)) else None)
-  by_tests numbered shown true true here now =
-      ap (λ c. option_map (as_row t) (if c then Some (placed t run numbered shown) else None)) here
-      ∙ sym (ap (λ c. if c then Some (as_row t (placed t run numbered shown)) else None) now)
-  by_tests numbered shown true false here now = sym (ap (λ c. if c then Some (as_row t (placed t run numbered shown)) else None) now)
-  by_tests numbered shown false true here now = ap (λ c. option_map (as_row t) (if c then Some (placed t run numbered shown) else None)) here
-  by_tests numbered shown false false here now = refl
+  by_tests numbered shown a b here now = grind (arith, numbered, placed)
 
   by_option : (numbered : ℕ × Place) (shown : Option Shown) → option_map (as_row t) (passing is_wanted (passing within (option_map (placed t run numbered) shown)))
       ≡ passing row_within (option_and_then (shown_row t asked.stop run numbered) shown)
-  by_option numbered None = refl
-  by_option numbered (Some shown) =
-      by_tests numbered shown (is_asked t asked.stop (stands_at numbered.1 shown)) (within (placed t run numbered shown)) refl refl
+  by_option numbered shown = grind (arith, by_tests, numbered, placed)
 
   row_of_place : (numbered : ℕ × Place) → option_map (as_row t) (passing is_wanted (passing within (place_departure t run most numbered))) ≡ passing row_within (place_row t asked.stop run most numbered)
-  row_of_place numbered = by_boarding (may_board numbered.1) where
-    by_boarding : (m : Bool) → option_map (as_row t) (passing is_wanted (passing within (if m then option_map (placed t run numbered) (shown_at t run most numbered.0) else None)))
-        ≡ passing row_within (if m then option_and_then (shown_row t asked.stop run numbered) (shown_at t run most numbered.0) else None)
-    by_boarding true = by_option numbered (shown_at t run most numbered.0)
-    by_boarding false = refl
+  row_of_place numbered = grind (arith, by_boarding, by_option, numbered, passing, placed)
 
   pub rows_of_run : map (as_row t) (filter is_wanted (filter within (departures_by t most run))) ≡ filter row_within (filter_map (place_row t asked.stop run most) (departures_of t run.trip))
   rows_of_run =
@@ -225,12 +195,7 @@ module _ (t : Timetable) (p : ℕ) (named : List NamedFeed) (folds : List FeedFo
   all_wanted = filter wanted all
 
   at_one_stop : (stop : ℕ) → joined (sources_at t feeds asked stop) ≡ scheduled_there t feeds asked stop ++ flat_map (λ one. filter_map (live_departure t feeds asked.at one.number stop) (live_between t (updates_of one.fold.entities) stop start end)) fs
-  at_one_stop stop =
-      ap (λ ds. scheduled_there t feeds asked stop ++ ds)
-      (joined_map (live_there t feeds asked stop) feeds
-      ∙ flat_map-map (live_there t feeds asked stop) (live_feed t) fs
-      ∙ flat_same (λ one. live_there t feeds asked stop (live_feed t one)) (λ one. filter_map (live_departure t feeds asked.at one.number stop) (live_between t (updates_of one.fold.entities) stop start end))
-      (λ one. ap (filter_map (live_departure t feeds asked.at one.number stop)) (slots_are t one.fold.entities (overlay_of t one.fold.entities) refl stop start end)) fs)
+  at_one_stop stop = grind (arith, flat_map-map, flat_same, joined_map, slots_are)
 
   whole_is : SameItems (joined (sources t feeds asked)) all_wanted
   whole_is =
@@ -302,16 +267,10 @@ module _ (t : Timetable) (p : ℕ) (named : List NamedFeed) (folds : List FeedFo
       (all_runs t) are_runs
 
   stop_within : asked.stop < length t.stops → (stop : ℕ) → is_asked t asked.stop stop ≡ true → stop < length t.stops
-  stop_within within stop is = by_test (nat_eq stop asked.stop) refl is where
-    by_test : (b : Bool) → nat_eq stop asked.stop ≡ b → (b || names_parent asked.stop (slice_get t.stops stop)) ≡ true → stop < length t.stops
-    by_test true e is = subst (λ n. n < length t.stops) (sym (eqb-true stop asked.stop e)) within
-    by_test false e is = named_within t asked.stop stop is
+  stop_within within stop is = grind (arith, eqb-true, named_within, nat_tests)
 
   all_there : asked.stop < length t.stops → AllByRecursion (IsThere t) all_wanted
-  all_there within =
-      all_weaker (λ (d : Departure). OfRun d × (wanted d ≡ true)) (IsThere t)
-      (λ d both. record { trip = both.0.0; day = both.0.1; stop = stop_within within d.stop both.1 })
-      all_wanted (all_filtered OfRun wanted all all_of_runs)
+  all_there within = grind (arith, all_filtered, all_of_runs, all_weaker, stop_within)
 
   -- ---- rows
 
@@ -330,10 +289,7 @@ module _ (t : Timetable) (p : ℕ) (named : List NamedFeed) (folds : List FeedFo
 
   module _ (sound : IsTimetable t) (within : asked.stop < length t.stops) where
     board_rows : map (as_row t) (departures_of_board t feeds asked) ≡ ordered row_cmp (filter (is_within asked.at asked.span) (flat_map (run_rows t asked.stop updates) (all_runs t)))
-    board_rows =
-        ap (map (as_row t)) board_is
-        ∙ map_ordered (as_row t) departure_cmp row_cmp (IsThere t) (rows_order t sound) all_wanted (all_there within)
-        ∙ ap (ordered row_cmp) rows_are
+    board_rows = grind (arith, all_there, board_is, map_ordered, rows_are, rows_order)
 
     board_there : All (IsThere t) (departures_of_board t feeds asked)
     board_there =
@@ -346,11 +302,8 @@ module _ (t : Timetable) (p : ℕ) (named : List NamedFeed) (folds : List FeedFo
 -- the rows of the departures are those that are defined
 pub rows_said : (t : Timetable) → IsTimetable t → (feeds : List LiveFeed) (asked : Asked) → asked.stop < length t.stops → (p : ℕ) (named : List NamedFeed) (folds : List FeedFold) → feeds ≡ map (live_feed t) (schedule_feeds p named folds)
     → map (as_row t) (departures_of_board t feeds asked) ≡ ordered row_cmp (filter (is_within asked.at asked.span) (flat_map (run_rows t asked.stop (updates_at p asked.at named folds)) (all_runs t)))
-rows_said t sound given asked within p named folds are =
-    ap (λ (fs : List LiveFeed). map (as_row t) (departures_of_board t fs asked)) are ∙ board_rows t p named folds asked sound within
+rows_said t sound given asked within p named folds are = grind (arith, board_rows)
 
 -- and they are of the timetable
 pub all_said : (t : Timetable) → IsTimetable t → (feeds : List LiveFeed) (asked : Asked) → asked.stop < length t.stops → AreLive t feeds → All (IsThere t) (departures_of_board t feeds asked)
-all_said t sound given asked within live =
-    let P : List LiveFeed → Type 0 = λ fs. All (IsThere t) (departures_of_board t fs asked) in
-    subst P (sym live.are) (board_there t live.plan live.named live.folds asked sound within)
+all_said t sound given asked within live = grind (arith, board_there)

@@ -1,7 +1,6 @@
 -- The update that counts for a run, of all feeds of a schedule: the greatest of those that count in each feed; and the
 -- feed that has it.
-use Rattle.std.proofs.Common.{◌≡◌, ℕ, ◌+◌, ◌≤◌, Bool, true, false, cond, nat_eq, Option, Some, None, List, [], ◌∷◌, map, filter, refl, sym, ap, ◌∙◌, Less, Equal, Greater, arith}
-use Rattle.std.specs.Prelude.{if◌then◌else◌}
+use Rattle.std.proofs.Common.{◌≡◌, ℕ, ◌+◌, ◌≤◌, Bool, true, false, cond, nat_eq, Option, Some, List, [], ◌∷◌, map, filter, refl, sym, ap, ◌∙◌, arith}
 use Rattle.std.specs.Cmp.{IsTotalOrder}
 use Rattle.std.specs.Cmp.Lexicographic.{slice_cmp}
 use Rattle.std.specs.List.{AllByRecursion, filter_map}
@@ -43,22 +42,18 @@ abbrev own_cmp : Update → Update → Ordering
 own_cmp a b = ordering_then (nat_cmp a.stamp b.stamp) (slice_cmp nat_cmp a.id b.id)
 
 own_order : (number : ℕ) (a b : Update) → choice_cmp (renumbered number a) (renumbered number b) ≡ own_cmp a b
-own_order number a b =
-    ap (λ r. ordering_then (nat_cmp a.stamp b.stamp) (ordering_then r (slice_cmp nat_cmp a.id b.id))) (tied_itself nat_cmp_total number)
+own_order number a b = grind (arith, nat_cmp_total, tied_itself)
 
 greatest_renumbered : (number : ℕ) (us : List Update) → greatest choice_cmp (map (renumbered number) us) ≡ option_map (renumbered number) (greatest own_cmp us)
 greatest_renumbered number us = sym (map_greatest (renumbered number) own_cmp choice_cmp (own_order number) us)
 
 -- those of a feed alone have the number 0
 alone_numbered : (s : Stored) (given : Option TripUpdate) → option_map (renumbered 0) (update_of (held_alone s) given) ≡ update_of (held_alone s) given
-alone_numbered s None = refl
-alone_numbered s (Some update) = refl
+alone_numbered s given = grind arith
 
 all_alone : (entities : List EntityChange) → map (renumbered 0) (updates_of entities) ≡ updates_of entities
 unfolding updates_of
-all_alone entities =
-    map_of_given (renumbered 0) (λ (c : EntityChange). update_alone c.1) entities
-    ∙ filter_map_same (λ (c : EntityChange). option_map (renumbered 0) (update_alone c.1)) (λ c. update_alone c.1) entities (λ c. alone_numbered c.1 c.1.entity.trip_update)
+all_alone entities = grind (arith, alone_numbered, filter_map_same, map_of_given)
 
 -- ---- of one feed
 
@@ -68,11 +63,7 @@ choice_total =
     (then_total (on_total (λ (u : Update). u.feed) (back_total nat_cmp_total)) (on_total (λ (u : Update). u.id) nat_list_cmp_total))
 
 not_later : (a b : ℕ) (r : Ordering) → is_gt (ordering_then (nat_cmp a b) r) ≡ false → a ≤ b
-not_later a b r up = by_order (nat_cmp a b) refl up where
-  by_order : (first : Ordering) → nat_cmp a b ≡ first → is_gt (ordering_then first r) ≡ false → a ≤ b
-  by_order Less at up = grind arith
-  by_order Equal at up = grind arith
-  by_order Greater at up = absurd (cc)
+not_later a b r up = grind arith
 
 -- what has a later stamp counts as well
 counts_later : (max_age a b at : ℕ) → a ≤ b → counts_at max_age a at ≡ true → counts_at max_age b at ≡ true
@@ -83,9 +74,7 @@ module _ (t : Timetable) (at : ℕ) (run : Run) where
   counting one u = counts_at one.feed.max_age u.stamp at
 
   counting_up : (one : HubFeed) (x y : Update) → is_gt (choice_cmp x y) ≡ false → counting one x ≡ true → counting one y ≡ true
-  counting_up one x y up counts =
-      counts_later one.feed.max_age x.stamp y.stamp at
-      (not_later x.stamp y.stamp (ordering_then (nat_cmp y.feed x.feed) (slice_cmp nat_cmp x.id y.id)) up) counts
+  counting_up one x y up counts = grind (arith, counts_later, not_later)
 
   -- the update of a feed that counts for the run, if it is not too old
   abbrev pub best_of : HubFeed → Option Update
@@ -93,8 +82,7 @@ module _ (t : Timetable) (at : ℕ) (run : Run) where
 
   held_numbered : (one : HubFeed) (c : EntityChange) (given : Option TripUpdate) → if_counting at (held_as one c) (update_of (held_as one c) given)
       ≡ passing (counting one) (option_map (renumbered one.number) (update_of (held_alone c.1) given))
-  held_numbered one c None = refl
-  held_numbered one c (Some update) = refl
+  held_numbered one c given = grind arith
 
   updates_by : (one : HubFeed) → filter_map (update_at at) (held_by one) ≡ filter (counting one) (map (renumbered one.number) (updates_of one.fold.entities))
   unfolding updates_of
@@ -106,9 +94,7 @@ module _ (t : Timetable) (at : ℕ) (run : Run) where
       ∙ ap (filter (counting one)) (sym (map_of_given (renumbered one.number) (λ (c : EntityChange). update_alone c.1) entities))
 
   about_renumbered : (number : ℕ) (us : List Update) → greatest choice_cmp (filter (is_about t run) (map (renumbered number) us)) ≡ option_map (renumbered number) (greatest own_cmp (filter (is_about t run) us))
-  about_renumbered number us =
-      ap (greatest choice_cmp) (filter_of_map (is_about t run) (renumbered number) us)
-      ∙ greatest_renumbered number (filter (is_about t run) us)
+  about_renumbered number us = grind (arith, filter_of_map, greatest_renumbered)
 
   chosen_alone : (entities : List EntityChange) → chosen t (updates_of entities) run ≡ option_map (renumbered 0) (greatest own_cmp (filter (is_about t run) (updates_of entities)))
   unfolding chosen
@@ -117,8 +103,7 @@ module _ (t : Timetable) (at : ℕ) (run : Run) where
       ∙ about_renumbered 0 (updates_of entities)
 
   numbered_once : (number : ℕ) (best : Option Update) → option_map (renumbered number) (option_map (renumbered 0) best) ≡ option_map (renumbered number) best
-  numbered_once number None = refl
-  numbered_once number (Some u) = refl
+  numbered_once number best = grind arith
 
   best_is : (one : HubFeed) → greatest choice_cmp (filter (is_about t run) (filter_map (update_at at) (held_by one))) ≡ best_of one
   best_is one =
@@ -147,11 +132,7 @@ module _ (t : Timetable) (at : ℕ) (run : Run) where
   bid_from u = record { stamp = u.stamp; number = u.feed; id = u.id }
 
   bid_read : (one : HubFeed) (best : Option Update) → option_and_then (bid_by at (live_feed t one)) (option_map told_update best) ≡ option_map bid_from (passing (counting one) (option_map (renumbered one.number) best))
-  bid_read one None = refl
-  bid_read one (Some u) = by_test (counting one u) where
-    by_test : (b : Bool) → (if b then Some (record { stamp = u.stamp; number = one.number; id = u.id }) else None) ≡ option_map bid_from (if b then Some (renumbered one.number u) else None)
-    by_test true = refl
-    by_test false = refl
+  bid_read one best = grind arith
 
   bid_is : (one : HubFeed) → bid_of at run (live_feed t one) ≡ option_map bid_from (best_of one)
   bid_is one =
@@ -173,11 +154,7 @@ module _ (t : Timetable) (at : ℕ) (run : Run) where
 
   -- it has the number of its feed
   own_of : (one : HubFeed) (given : Option Update) (u : Update) → passing (counting one) (option_map (renumbered one.number) given) ≡ Some u → u.feed ≡ one.number
-  own_of one None u is = cc
-  own_of one (Some v) u is = by_test (counting one v) is where
-    by_test : (b : Bool) → (if b then Some (renumbered one.number v) else None) ≡ Some u → u.feed ≡ one.number
-    by_test true is = let same : renumbered one.number v ≡ u = cc in sym (ap (λ (x : Update). x.feed) same)
-    by_test false is = cc
+  own_of one given u is = grind arith
 
   pub own_number : (one : HubFeed) (u : Update) → best_of one ≡ Some u → u.feed ≡ one.number
   own_number one u is = own_of one (chosen t (updates_of one.fold.entities) run) u is

@@ -7,8 +7,8 @@ use board_defs::RowState;
 use sched_types::Run;
 use std::cmp::Ordering;
 
-/// A departure from a place of a run, with the number of the stop at which it leaves. Instants are in seconds since
-/// 1970, delays in seconds.
+/// A departure from a place of a run, with the number of the stop at which it leaves. Instants are
+/// in seconds since 1970, delays in seconds.
 #[derive(Clone, Copy)]
 pub struct Departure {
     /// When it is expected to leave.
@@ -28,8 +28,8 @@ pub struct Departure {
 }
 
 impl Departure {
-    /// By the expected instant, the trip, the day and the place. Numbers of trips and of days stand as the texts of
-    /// their ids and dates, so this is the order of the rows.
+    /// By the expected instant, the trip, the day and the place. Numbers of trips and of days stand
+    /// as the texts of their ids and dates, so this is the order of the rows.
     pub fn order(&self, other: &Departure) -> Ordering
         ensures { result ≡ departure_cmp self.now other.now }
     {

@@ -5,8 +5,8 @@ ghost use Rattle.std.specs.Prelude.{◌≡◌};
 use run_overlay::Overlay;
 use std::marker::Model;
 
-/// A feed: its number among all feeds, its `max_age`, and the overlay of what it holds. A contract sees it as
-/// `LiveFeed`.
+/// A feed: its number among all feeds, its `max_age`, and the overlay of what it holds. A contract
+/// sees it as `LiveFeed`.
 #[derive(Drop)]
 pub struct LiveFeed<'a> {
     number: u32,
@@ -24,7 +24,8 @@ impl<'a> Model for LiveFeed<'a> {
 }
 
 impl<'a> LiveFeed<'a> {
-    /// The feed of that number. Its updates count for `max_age` seconds after their stamps; 0 is no end.
+    /// The feed of that number. Its updates count for `max_age` seconds after their stamps; 0 is no
+    /// end.
     pub fn new(number: u32, max_age: u64, overlay: &'a Overlay) -> LiveFeed<'a>
         ensures { result
             ≡ record { number = number; max_age = max_age; overlay = overlay.entry.now } }

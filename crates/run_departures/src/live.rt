@@ -17,7 +17,8 @@ use run_overlay::{AtStop, LiveSlot, SlotState};
 use sched_types::Plan;
 use std::marker::Model;
 
-/// Departures at a stop by the updates of a feed, in order. A contract sees the list of those that are left.
+/// Departures at a stop by the updates of a feed, in order. A contract sees the list of those that
+/// are left.
 #[derive(Drop)]
 pub(crate) struct Live<'a> {
     plan: &'a Plan,
@@ -98,7 +99,8 @@ fn row_state(state: SlotState) -> RowState
     }
 }
 
-/// The departure from a slot of a feed's overlay, if the update that counts for the run is that feed's.
+/// The departure from a slot of a feed's overlay, if the update that counts for the run is that
+/// feed's.
 fn live_from(
     plan: &Plan,
     feeds: &[LiveFeed<'_>],

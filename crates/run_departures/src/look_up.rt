@@ -19,14 +19,16 @@ pub(crate) fn place_of(plan: &Plan, run: Run, number: u32) -> Option<Place>
     }
 }
 
-/// Whether passengers may board at a place (GTFS Schedule, stop_times.txt, pickup_type: 1 is no pickup).
+/// Whether passengers may board at a place (GTFS Schedule, stop_times.txt, pickup_type: 1 is no
+/// pickup).
 pub(crate) fn may_board(place: Place) -> bool
     ensures { result ≡ rule.may_board place }
 {
     place.pickup != 1
 }
 
-/// The instant from which the times of a day are counted, in seconds since 1970; 0 past the last day.
+/// The instant from which the times of a day are counted, in seconds since 1970; 0 past the last
+/// day.
 fn base_of(plan: &Plan, day: u32) -> i64
     ensures value { result ≡ times.base_of plan.now day }
     ensures small { IsSmall result }

@@ -34,8 +34,8 @@ use std::alloc::Global;
 use std::marker::Model;
 use stop_index::StopIndex;
 
-/// Departures of runs, in order of the expected instant, the trip, the day and the place. A contract sees the list of
-/// those that are left. No step takes memory.
+/// Departures of runs, in order of the expected instant, the trip, the day and the place. A
+/// contract sees the list of those that are left. No step takes memory.
 #[derive(Drop)]
 pub struct RunDepartures<'a> {
     queues: Vec<Queue<'a>>,
@@ -167,11 +167,12 @@ fn queues_of<'a>(
     Ok(queues)
 }
 
-/// The departures of runs at the asked stop, and at the stops that name it as `parent_station`, that are expected in
-/// the window; or out of memory. There is one for each place but the last of a run of the timetable at which passengers
-/// may board, by the update that counts for the run, in order of the expected instant, the trip, the day and the place.
-/// It is at the stop to which the update moves it, and else at that of the timetable. The index is that of the
-/// timetable, and the overlays are those of what the feeds of a schedule hold on it.
+/// The departures of runs at the asked stop, and at the stops that name it as `parent_station`,
+/// that are expected in the window; or out of memory. There is one for each place but the last of a
+/// run of the timetable at which passengers may board, by the update that counts for the run, in
+/// order of the expected instant, the trip, the day and the place. It is at the stop to which the
+/// update moves it, and else at that of the timetable. The index is that of the timetable, and the
+/// overlays are those of what the feeds of a schedule hold on it.
 pub fn departures<'a>(
     alloc: Global,
     plan: &'a Plan,

@@ -17,7 +17,8 @@ use sched_types::Plan;
 use std::marker::Model;
 use stop_index::{Between, Slot, StopIndex};
 
-/// Departures at a stop by the timetable, in order. A contract sees the list of those that are left.
+/// Departures at a stop by the timetable, in order. A contract sees the list of those that are
+/// left.
 #[derive(Drop)]
 pub(crate) struct Scheduled<'a> {
     plan: &'a Plan,

@@ -12,7 +12,8 @@ use rt_types::Text;
 use sched_types::Run;
 use std::cmp::Ordering;
 
-/// What a feed has for a run: the stamp of the update that counts in it, its number, and the id of the update's entity.
+/// What a feed has for a run: the stamp of the update that counts in it, its number, and the id of
+/// the update's entity.
 #[derive(Clone, Copy)]
 pub(crate) struct Offer<'a> {
     stamp: u64,
@@ -21,7 +22,8 @@ pub(crate) struct Offer<'a> {
 }
 
 impl<'a> Offer<'a> {
-    /// As updates count: the later one more, then that of the lower feed number, then that of the greater id.
+    /// As updates count: the later one more, then that of the lower feed number, then that of the
+    /// greater id.
     fn order(&self, other: &Offer<'a>) -> Ordering
         ensures { result ≡ bid_cmp (as_bid self.entry.now) (as_bid other.entry.now) }
     {
@@ -73,8 +75,8 @@ fn greater<'a>(best: Option<Offer<'a>>, offer: Option<Offer<'a>>) -> Option<Offe
     }
 }
 
-/// The number of the feed whose update counts for a run at a moment; `None` where no feed has one. It takes one
-/// search in each overlay.
+/// The number of the feed whose update counts for a run at a moment; `None` where no feed has one.
+/// It takes one search in each overlay.
 pub(crate) fn winner(feeds: &[LiveFeed<'_>], at: u64, run: Run) -> Option<u32>
     ensures { result ≡ winning at feeds.entry.now run }
 {

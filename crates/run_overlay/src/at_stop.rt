@@ -9,8 +9,8 @@ use crate::slot::LiveSlot;
 use shared_list::Iter;
 use std::marker::Model;
 
-/// Departures at a stop, in order of the expected instant, the trip, the day and the place. A contract sees the list of
-/// those that are left.
+/// Departures at a stop, in order of the expected instant, the trip, the day and the place. A
+/// contract sees the list of those that are left.
 #[derive(Drop)]
 pub struct AtStop<'a> {
     /// Departures of this stop and of later ones.
@@ -34,8 +34,8 @@ impl<'a> Model for AtStop<'a> {
 }
 
 impl<'a> AtStop<'a> {
-    /// Those of the departures that are at the stop and are expected before `end`. None of them is at a stop with a lower
-    /// number.
+    /// Those of the departures that are at the stop and are expected before `end`. None of them is
+    /// at a stop with a lower number.
     pub(crate) fn among(rows: Iter<'a, LiveRow>, stop: u32, end: i64) -> AtStop<'a>
         requires { AreAhead stop rows }
         ensures { result ≡ slots_ahead stop end rows.entry }

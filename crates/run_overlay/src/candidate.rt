@@ -12,8 +12,8 @@ use sched_types::Run;
 use shared_list::{KeyFor, Keyed};
 use std::cmp::Ordering;
 
-/// An update about a run, by the id of its entity. Of those of one run the later one goes first, and of those of one stamp
-/// that with the greater id, so that the one that counts is the first.
+/// An update about a run, by the id of its entity. Of those of one run the later one goes first,
+/// and of those of one stamp that with the greater id, so that the one that counts is the first.
 #[derive(Drop)]
 pub(crate) struct Candidate {
     pub(crate) mention: Mention,
@@ -34,7 +34,8 @@ pub(crate) struct FirstOf {
     pub(crate) run: Run,
 }
 
-/// By how the stamps of two updates stand, and then by their ids. Ids are compared only where that is needed.
+/// By how the stamps of two updates stand, and then by their ids. Ids are compared only where that
+/// is needed.
 fn by_weight(stamps: Ordering, id: &str, other: &str) -> Ordering
     ensures { result ≡ ordering_then stamps (slice_cmp nat_cmp id.now other.now) }
 {
@@ -64,6 +65,13 @@ impl Keyed for Candidate {
     ghost key_of = { candidate_key };
 
     ghost key_cmp = { candidate_cmp };
+
+    // Nobody asks which are newer.
+    ghost stamp_of = { λ _. 0 };
+
+    fn stamp(&self) -> u64 {
+        0
+    }
 
     fn order(&self, other: &Self) -> Ordering {
         match self.mention.run.cmp(&other.mention.run) {

@@ -32,8 +32,9 @@ fn instants_of(rows: &[LiveRow]) -> Instants {
     Instants { earliest, latest }
 }
 
-/// A number by which departures are sorted: it rises with the stop, and then with the instant, as long as it stays within
-/// 64 bits. Departures with one number are those of one instant at one stop.
+/// A number by which departures are sorted: it rises with the stop, and then with the instant, as
+/// long as it stays within 64 bits. Departures with one number are those of one instant at one
+/// stop.
 fn rank(row: &LiveRow, instants: Instants) -> u64 {
     let span = instants
         .latest
@@ -73,8 +74,9 @@ fn rows_now(alloc: Global, turns: &[Turn]) -> Result<Vec<LiveRow>, NoMemory>
     Ok(rows)
 }
 
-/// The list of the departures that runs have now; or out of memory. Runs that rise, as they do, have theirs in order of
-/// trip, day and place: so the numbers that they are sorted by need not tell these.
+/// The list of the departures that runs have now; or out of memory. Runs that rise, as they do,
+/// have theirs in order of trip, day and place: so the numbers that they are sorted by need not
+/// tell these.
 pub(crate) fn first_rows(alloc: Global, turns: &[Turn]) -> Result<SharedList<LiveRow>, NoMemory>
     ensures { IfOk result (λ rows. rows ≡ by_key row_cmp row_key (flat_map rows_now turns.now)) }
 {

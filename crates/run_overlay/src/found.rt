@@ -5,7 +5,7 @@ ghost use Rattle.std.specs.FinMap.{find};
 ghost use Rattle.std.specs.Option.{option_and_then, option_copied};
 ghost use Rattle.run_overlay.specs.Keys.{id_cmp};
 ghost use Rattle.run_overlay.specs.Sought.{IsHeld};
-ghost use Rattle.run_overlay.specs.Turning.{first_of, is_of_run};
+ghost use Rattle.run_overlay.specs.Turning.{first_of};
 
 use crate::candidate::{Candidate, FirstOf};
 use entity_table::{Stored, Table};
@@ -13,14 +13,8 @@ use rt_types::TripUpdate;
 use sched_types::Run;
 use shared_list::SharedList;
 
-/// Whether an update is about that run.
-fn is_of_run(candidate: &Candidate, run: Run) -> bool
-    ensures { result ≡ is_of_run run candidate.now }
-{
-    candidate.mention.run.trip == run.trip && candidate.mention.run.day == run.day
-}
-
-/// The first of the updates about a run, which is the one that counts; `None` where no update is about it.
+/// The first of the updates about a run, which is the one that counts; `None` where no update is
+/// about it.
 pub(crate) fn first_candidate<'a>(
     candidates: &'a SharedList<Candidate>,
     run: Run,
@@ -29,7 +23,7 @@ pub(crate) fn first_candidate<'a>(
 {
     let mut from = candidates.from(FirstOf { run });
     let first = from.next()?;
-    if is_of_run(first, run) {
+    if first.mention.run == run {
         Some(first)
     } else {
         None
@@ -58,7 +52,8 @@ pub(crate) fn update_at<'a>(table: &'a Table, id: &str) -> Option<&'a TripUpdate
     }
 }
 
-/// The same, where something is at hand that the table has and that may be the entity: then nothing is searched for.
+/// The same, where something is at hand that the table has and that may be the entity: then nothing
+/// is searched for.
 pub(crate) fn update_near<'a>(
     table: &'a Table,
     near: Option<&'a Stored>,

@@ -11,8 +11,9 @@ use entity_table::{Stored, Table};
 use sched_types::Run;
 use std::alloc::Global;
 
-/// All that a table holds, in order of the ids, and for each of some runs the place of an entity whose update may be the
-/// one that counts for it. A place is a guess: what stands there is compared with what is looked for.
+/// All that a table holds, in order of the ids, and for each of some runs the place of an entity
+/// whose update may be the one that counts for it. A place is a guess: what stands there is
+/// compared with what is looked for.
 #[derive(Drop)]
 pub(crate) struct Hints<'a> {
     held: Vec<&'a Stored>,
@@ -30,24 +31,38 @@ fn held_in<'a>(alloc: Global, table: &'a Table) -> Result<Vec<&'a Stored>, NoMem
     Ok(held)
 }
 
-/// For each run the place of the last change of an id whose update is about it now; or out of memory. The runs rise.
+/// The number of a run among some that rise, or that at which it would come. It is looked for at
+/// the given one first.
+fn number_of(runs: &[Run], run: Run, near: usize) -> usize {
+    match runs.get(near) {
+        Some(other) if *other == run => near,
+        _ => match runs.binary_search(&run) {
+            Ok(at) | Err(at) => at,
+        },
+    }
+}
+
+/// For each run the place of the last change of an id whose update is about it now; or out of
+/// memory. The runs rise, and updates often come in their order: so each run is looked for behind
+/// the one before.
 fn places_of(alloc: Global, ids: &[IdChange], runs: &[Run]) -> Result<Vec<usize>, NoMemory> {
     let mut places = vec![in alloc; 0usize; runs.len()]?;
+    let mut next: usize = 0;
     for (number, one) in ids.iter().enumerate() {
         if let About::Run(mention) = one.after {
-            if let Ok(at) = runs.binary_search(&mention.run) {
-                if let Some(place) = places.get_mut(at) {
-                    *place = number;
-                }
+            let at = number_of(runs, mention.run, next);
+            if let Some(place) = places.get_mut(at) {
+                *place = number;
             }
+            next = at.wrapping_add(1);
         }
     }
     Ok(places)
 }
 
 impl<'a> Hints<'a> {
-    /// Those of the runs that updates are about after changes of ids; or out of memory. They are worth what they cost
-    /// where the changes are those of all ids that the table has, in order.
+    /// Those of the runs that updates are about after changes of ids; or out of memory. They are
+    /// worth what they cost where the changes are those of all ids that the table has, in order.
     pub(crate) fn of(
         alloc: Global,
         table: &'a Table,

@@ -16,7 +16,8 @@ use sched_types::Plan;
 use shared_list::SharedList;
 use std::alloc::Global;
 
-/// The id of an entity of a message, and the run that the update under it was about before, if it was about one.
+/// The id of an entity of a message, and the run that the update under it was about before, if it
+/// was about one.
 #[derive(Drop)]
 pub(crate) struct IdBefore {
     pub(crate) id: Text,
@@ -31,27 +32,18 @@ pub(crate) struct IdChange {
     pub(crate) after: About,
 }
 
-/// The run that the update of an entity was about, by the links that are kept.
-fn mention_at(links: &SharedList<Link>, id: &str) -> Option<Mention>
-    ensures { result ≡ option_map (λ link. link.mention) (find id_cmp id.now links.now) }
-{
-    match links.get(id) {
-        Some(link) => Some(link.mention),
-        None => None,
-    }
-}
-
-/// An id with what its update was about; or out of memory.
+/// An id with the run that its update was about, by the links that are kept; or out of memory.
 fn before_of(links: &SharedList<Link>, id: &Text) -> Result<IdBefore, NoMemory>
     ensures { IfOk result (λ one. one ≡ id_before links.now id.now) }
 {
     Ok(IdBefore {
         id: id.copy()?,
-        before: mention_at(links, id.as_str()),
+        before: links.get(id.as_str()).map(|link| link.mention),
     })
 }
 
-/// The ids of some entities, with what their updates were about, by the links that are kept; or out of memory.
+/// The ids of some entities, with what their updates were about, by the links that are kept; or out
+/// of memory.
 pub(crate) fn ids_before(
     alloc: Global,
     links: &SharedList<Link>,
@@ -67,18 +59,6 @@ pub(crate) fn ids_before(
     Ok(ids)
 }
 
-/// What becomes of an id, by the table that there is now.
-fn change_of(plan: &Plan, table: &Table, one: IdBefore) -> IdChange
-    ensures { result ≡ id_change plan.now table.now one }
-{
-    let after = about_held(plan, table, one.id.as_str());
-    IdChange {
-        id: one.id,
-        before: one.before,
-        after,
-    }
-}
-
 /// What becomes of some ids, by the table that there is now; or out of memory.
 pub(crate) fn changes_of_ids(
     alloc: Global,
@@ -91,12 +71,18 @@ pub(crate) fn changes_of_ids(
 {
     let mut changes = Vec::with_capacity(alloc, ids.len())?;
     for one in ids {
-        changes.push(change_of(plan, table, one))?;
+        let after = about_held(plan, table, one.id.as_str());
+        changes.push(IdChange {
+            id: one.id,
+            before: one.before,
+            after,
+        })?;
     }
     Ok(changes)
 }
 
-/// What becomes of an id that had nothing; or out of memory. The trip is looked for near the given one first.
+/// What becomes of an id that had nothing; or out of memory. The trip is looked for near the given
+/// one first.
 fn change_of_stored(plan: &Plan, stored: &Stored, near: Option<u32>) -> Result<IdChange, NoMemory>
     ensures { IfOk result (λ one. one ≡ id_change_new plan.now stored.now) }
 {
@@ -115,8 +101,8 @@ fn trip_after(after: About, before: Option<u32>) -> Option<u32> {
     }
 }
 
-/// What becomes of all ids of a table, where there was nothing before; or out of memory. Updates often come in the order of
-/// their trips: so each trip is looked for near the one before.
+/// What becomes of all ids of a table, where there was nothing before; or out of memory. Updates
+/// often come in the order of their trips: so each trip is looked for near the one before.
 pub(crate) fn changes_of_table(
     alloc: Global,
     plan: &Plan,

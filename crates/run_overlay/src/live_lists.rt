@@ -1,7 +1,6 @@
 //! The lists of runs for which an update counts, and of their departures.
 
-ghost use Rattle.std.specs.Prelude.{◌≡◌, ◌+◌, ◌≤◌, ◌++◌, ◌∷◌, [], if◌then◌else◌, drop, length, map};
-ghost use Rattle.std.specs.Prelude.{IfOk, OnOk};
+ghost use Rattle.std.specs.Prelude.{◌≡◌, ◌+◌, ◌≤◌, ◌++◌, drop, length, map, IfOk, OnOk};
 ghost use Rattle.std.specs.List.{flat_map};
 ghost use Rattle.std.specs.Option.{option_copied};
 ghost use Rattle.shared_list.specs.declared.change.Change.TheVariants.{Put, Remove};
@@ -56,8 +55,9 @@ impl LiveLists {
         }
     }
 
-    /// The lists where those runs are as the table says, whose candidates and hints are given; or out of memory. A run is walked at
-    /// most once, and each list is changed once; these stay as they are.
+    /// The lists where those runs are as the table says, whose candidates and hints are given; or
+    /// out of memory. A run is walked at most once, and each list is changed once; these stay as
+    /// they are.
     pub(crate) fn after<'a, L: Ledger>(
         &self,
         alloc: Global,
@@ -95,57 +95,14 @@ impl LiveLists {
     }
 }
 
-/// Whether a departure is the first of others.
-fn stands_first(row: &LiveRow, others: &[LiveRow]) -> bool
-    ensures { result ≡ keyed.stands_first same_row row.now others.now }
+/// Whether a departure is the same as the one at that place of others.
+fn stands_at(row: &LiveRow, others: &[LiveRow], place: usize) -> bool
+    ensures { result ≡ keyed.stands_first same_row row.now (drop place others.now) }
 {
-    match others.first() {
+    match others.get(place) {
         Some(other) => is_same(row, other),
         None => false,
     }
-}
-
-/// The departures after the first.
-fn after_first<'a>(rows: &'a [LiveRow]) -> &'a [LiveRow]
-    ensures { result.now ≡ drop 1 rows.entry.now }
-{
-    match rows.split_first() {
-        Some((_, rest)) => rest,
-        None => rows,
-    }
-}
-
-/// Appends the removal of a departure, unless it is the first of others.
-fn push_gone<'a>(
-    row: &'a LiveRow,
-    others: &[LiveRow],
-    out: &mut Vec<Change<LiveRow, &'a LiveRow>>,
-) -> Result<(), NoMemory>
-    ensures { OnOk result (naming_keys row_at out.new.items
-        ≡ naming_keys row_at out.old.items
-        ++ (if keyed.stands_first same_row row.entry.now others.now
-        then [] else Remove (row_key row.entry.now) ∷ [])) }
-{
-    if !stands_first(row, others) {
-        out.push(Change::Remove(row))?;
-    }
-    Ok(())
-}
-
-/// Appends a departure that comes, unless it is the first of others.
-fn push_new<'a>(
-    row: &LiveRow,
-    others: &[LiveRow],
-    out: &mut Vec<Change<LiveRow, &'a LiveRow>>,
-) -> Result<(), NoMemory>
-    ensures { OnOk result (naming_keys row_at out.new.items
-        ≡ naming_keys row_at out.old.items
-        ++ (if keyed.stands_first same_row row.now others.now then [] else Put row.now ∷ [])) }
-{
-    if !stands_first(row, others) {
-        out.push(Change::Put(*row))?;
-    }
-    Ok(())
 }
 
 /// Appends the removal of those departures that are not the same at their places among others.
@@ -158,10 +115,10 @@ fn push_going<'a>(
         ≡ naming_keys row_at out.old.items
         ++ map (λ row. Remove (row_key row)) (keyed.unlike same_row rows.entry.now others.now)) }
 {
-    let mut others = others;
-    for row in rows {
-        push_gone(row, others, out)?;
-        others = after_first(others);
+    for (place, row) in rows.iter().enumerate() {
+        if !stands_at(row, others, place) {
+            out.push(Change::Remove(row))?;
+        }
     }
     Ok(())
 }
@@ -176,16 +133,16 @@ fn push_coming<'a>(
         ≡ naming_keys row_at out.old.items
         ++ map Put (keyed.unlike same_row rows.now others.now)) }
 {
-    let mut others = others;
-    for row in rows {
-        push_new(row, others, out)?;
-        others = after_first(others);
+    for (place, row) in rows.iter().enumerate() {
+        if !stands_at(row, others, place) {
+            out.push(Change::Put(*row))?;
+        }
     }
     Ok(())
 }
 
-/// Appends what a turn changes of the departures: those that the run had go, and then those come that it has now. One that
-/// stays as it was is left out of both.
+/// Appends what a turn changes of the departures: those that the run had go, and then those come
+/// that it has now. One that stays as it was is left out of both.
 fn push_turn<'a>(
     runs: &'a SharedList<LiveRun>,
     turn: &Turn,
@@ -216,7 +173,8 @@ fn row_changes<'a>(
     Ok(changes)
 }
 
-/// The departures after turns; or out of memory. Where there was no run before, they are sorted at once.
+/// The departures after turns; or out of memory. Where there was no run before, they are sorted at
+/// once.
 fn rows_after(
     alloc: Global,
     runs: &SharedList<LiveRun>,

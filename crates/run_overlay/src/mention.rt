@@ -31,8 +31,8 @@ pub(crate) enum About {
     Nothing,
 }
 
-/// An update's own stamp, where it is a moment, else its message's, in seconds since 1970 (GTFS Realtime 2.0,
-/// TripUpdate, `timestamp`).
+/// An update's own stamp, where it is a moment, else its message's, in seconds since 1970 (GTFS
+/// Realtime 2.0, TripUpdate, `timestamp`).
 pub fn stamp_of(message: u64, own: Option<u64>) -> u64
     ensures { result ≡ stamp_or message own }
 {
@@ -42,7 +42,8 @@ pub fn stamp_of(message: u64, own: Option<u64>) -> u64
     }
 }
 
-/// What an update is about, of a message with that stamp. Its trip is looked for near the given one first.
+/// What an update is about, of a message with that stamp. Its trip is looked for near the given one
+/// first.
 fn about_update(plan: &Plan, message: u64, update: &TripUpdate, near: Option<u32>) -> About
     ensures { let stamp = stamp_or message update.now.timestamp in result
         ≡ rule.about_found stamp (match_of plan.now update.now.trip stamp) }
@@ -55,7 +56,8 @@ fn about_update(plan: &Plan, message: u64, update: &TripUpdate, near: Option<u32
     }
 }
 
-/// What the trip update of an entity is about, if it has one. Its trip is looked for near the given one first.
+/// What the trip update of an entity is about, if it has one. Its trip is looked for near the given
+/// one first.
 pub(crate) fn about_stored(plan: &Plan, stored: &Stored, near: Option<u32>) -> About
     ensures { result ≡ rule.about_stored plan.now stored.now }
 {

@@ -55,8 +55,8 @@ impl MentionLists {
         }
     }
 
-    /// The lists after those changes of ids, of a feed that holds now what the table has; or out of memory. Each list is
-    /// changed once, and these stay as they are.
+    /// The lists after those changes of ids, of a feed that holds now what the table has; or out of
+    /// memory. Each list is changed once, and these stay as they are.
     pub(crate) fn after(
         &self,
         alloc: Global,
@@ -186,21 +186,6 @@ fn copy_of(alloc: Global, stored: &Stored) -> Result<SharedStored, NoMemory>
     SharedStored::new(alloc, Stored { entity, stamp })
 }
 
-/// What becomes of what is held under an id, where its update is about an added trip.
-fn added_put<'a>(
-    alloc: Global,
-    table: &Table,
-    id: &'a str,
-) -> Result<Change<SharedStored, &'a str>, NoMemory>
-    ensures { IfOk result (λ change. naming_key id_at change
-        ≡ rule.added_change id.entry.now (rule.held table.now id.entry.now)) }
-{
-    match table.get(id) {
-        Some(stored) => Ok(Change::Put(copy_of(alloc, stored)?)),
-        None => Ok(Change::Remove(id)),
-    }
-}
-
 /// What the change of an id comes to in the entities with updates of added trips; or out of memory.
 fn added_change<'a>(
     alloc: Global,
@@ -210,9 +195,13 @@ fn added_change<'a>(
     ensures { IfOk result (λ change. naming_key id_at change ∷ []
         ≡ rule.added_changes table.now one.entry.now) }
 {
+    let id = one.id.as_str();
     match one.after {
-        About::Added => added_put(alloc, table, one.id.as_str()),
-        About::Run(_) | About::Nothing => Ok(Change::Remove(one.id.as_str())),
+        About::Added => match table.get(id) {
+            Some(stored) => Ok(Change::Put(copy_of(alloc, stored)?)),
+            None => Ok(Change::Remove(id)),
+        },
+        About::Run(_) | About::Nothing => Ok(Change::Remove(id)),
     }
 }
 

@@ -12,8 +12,8 @@ use shared_list::SharedList;
 use std::alloc::Global;
 use std::marker::Model;
 
-/// The ids that a message names, as [`crate::Overlay::change_by`] takes them when the message's entities are in the
-/// table. A contract sees it as `NamedIds`.
+/// The ids that a message names, as [`crate::Overlay::change_by`] takes them when the message's
+/// entities are in the table. A contract sees it as `NamedIds`.
 #[derive(Drop)]
 pub struct MessageIds {
     // How many entities the message has.

@@ -39,7 +39,8 @@ pub struct Chosen<'a> {
     pub stamp: u64,
 }
 
-/// What the updates of a feed come to on a timetable. A contract sees it as `FeedOverlay`, and it never changes.
+/// What the updates of a feed come to on a timetable. A contract sees it as `FeedOverlay`, and it
+/// never changes.
 #[derive(Drop)]
 pub struct Overlay {
     mentions: MentionLists,
@@ -66,8 +67,8 @@ impl Overlay {
         }
     }
 
-    /// The overlay of a table; or out of memory. A run is walked where an update counts for it, so that no more steps are
-    /// added than the table has entities.
+    /// The overlay of a table; or out of memory. A run is walked where an update counts for it, so
+    /// that no more steps are added than the table has entities.
     pub fn build<L: Ledger>(
         alloc: Global,
         plan: &Plan,
@@ -83,9 +84,9 @@ impl Overlay {
         none.after(alloc, plan, table, ids.as_slice(), steps)
     }
 
-    /// The overlay after a message, which is that of the table after it: what [`Overlay::build`] makes of that table; or
-    /// out of memory. This is the overlay of the table before the message, and stays as it is. Up to two steps are added
-    /// for each entity of the message.
+    /// The overlay after a message, which is that of the table after it: what [`Overlay::build`]
+    /// makes of that table; or out of memory. This is the overlay of the table before the message,
+    /// and stays as it is. Up to two steps are added for each entity of the message.
     pub fn change<L: Ledger>(
         &self,
         alloc: Global,
@@ -103,8 +104,8 @@ impl Overlay {
         self.change_by(alloc, plan, table, ids, steps)
     }
 
-    /// The ids that a message names, as [`Overlay::change_by`] takes them; or out of memory. So who moves the entities
-    /// of the message into the table need not keep the message.
+    /// The ids that a message names, as [`Overlay::change_by`] takes them; or out of memory. So who
+    /// moves the entities of the message into the table need not keep the message.
     pub fn ids_of(&self, alloc: Global, message: &FeedMessage) -> Result<MessageIds, NoMemory>
         ensures { IfOk result (λ ids. ids ≡ named_by self.now message.now) }
     {
@@ -164,8 +165,9 @@ impl Overlay {
         Ok(Overlay { mentions, live })
     }
 
-    /// The update that counts for a run, whatever its age: the latest of those that are about it, and of those of one
-    /// stamp that with the greater id. `None` exactly where no update is about it. It takes no memory.
+    /// The update that counts for a run, whatever its age: the latest of those that are about it,
+    /// and of those of one stamp that with the greater id. `None` exactly where no update is about
+    /// it. It takes no memory.
     pub fn chosen<'a>(&'a self, run: Run) -> Option<Chosen<'a>>
         ensures kept { option_map told result ≡ chosen_in self.entry.now run }
         ensures said { (t : Timetable) (entities : List Change) → self.entry.now ≡ overlay_of t entities
@@ -180,9 +182,10 @@ impl Overlay {
         }
     }
 
-    /// The departures at that very stop, of the runs for which an update counts, that are expected from `start` on, and
-    /// before `end`, both in seconds since 1970: each once, by the expected instant, the trip, the day and the place. There
-    /// is none at a stop past the last. It takes no memory.
+    /// The departures at that very stop, of the runs for which an update counts, that are expected
+    /// from `start` on, and before `end`, both in seconds since 1970: each once, by the expected
+    /// instant, the trip, the day and the place. There is none at a stop past the last. It takes no
+    /// memory.
     pub fn at_stop<'a>(&'a self, stop: u32, start: i64, end: i64) -> AtStop<'a>
         ensures kept { result ≡ slots_in self.entry.now stop start end }
         ensures said { (t : Timetable) (entities : List Change) → self.entry.now ≡ overlay_of t entities

@@ -20,7 +20,8 @@ use sched_types::{Place, Plan, Run};
 use std::alloc::Global;
 use std::sync::ledger::Ledger;
 
-/// Whether passengers may board at a place (GTFS Schedule, stop_times.txt, pickup_type: 1 is no pickup).
+/// Whether passengers may board at a place (GTFS Schedule, stop_times.txt, pickup_type: 1 is no
+/// pickup).
 fn may_board(place: Place) -> bool
     ensures { result ≡ boards.may_board place }
 {
@@ -55,7 +56,8 @@ fn live_row(plan: &Plan, run: Run, number: u32, place: Place, sign: Sign) -> Liv
     }
 }
 
-/// The departure from a place of a run, if there is one, by the relation of its update and the states of its places.
+/// The departure from a place of a run, if there is one, by the relation of its update and the
+/// states of its places.
 fn place_row(
     plan: &Plan,
     run: Run,
@@ -87,7 +89,8 @@ fn push_some(rows: &mut Vec<LiveRow>, row: Option<LiveRow>) -> Result<(), NoMemo
     Ok(())
 }
 
-/// The departures of a run; or out of memory. Nobody boards at the last place. Within a caller its loop would lack registers.
+/// The departures of a run; or out of memory. Nobody boards at the last place. Within a caller its
+/// loop would lack registers.
 #[inline(never)]
 fn place_rows(
     alloc: Global,
@@ -113,20 +116,23 @@ fn place_rows(
     Ok(rows)
 }
 
-/// The departures of a run by an update about it, in order of places; or out of memory. It is one walk.
+/// The departures of a run by an update about it, in order of places; or out of memory. It is one
+/// walk, whose states are written over what the list had, so that runs one after another need no
+/// list each.
 pub(crate) fn rows_of_run<L: Ledger>(
     alloc: Global,
     plan: &Plan,
     run: Run,
     update: &TripUpdate,
+    states: &mut Vec<StopState>,
     steps: &mut Steps<L>,
 ) -> Result<Vec<LiveRow>, NoMemory>
     requires { IsTrue (is_run plan.now run) }
     ensures rows { IfOk result (λ rows. rows.items ≡ rows_with plan.now run update.now) }
     ensures counted { steps.new ≡ steps.old + 1 }
 {
-    let mut states = Vec::new(alloc);
-    walk(plan, run, update, &mut states, steps)?;
+    states.clear();
+    walk(plan, run, update, states, steps)?;
     let relation = update.trip.relation.unwrap_or(TripRelation::Scheduled);
     place_rows(alloc, plan, run, relation, states.as_slice())
 }

@@ -1,7 +1,6 @@
 //! Departures in the order of their stops.
 
 ghost use Rattle.std.specs.Prelude.{◌≡◌};
-ghost use Rattle.std.specs.Ordering.{ordering_then};
 ghost use Rattle.run_overlay.specs.Keys as rule;
 ghost use Rattle.run_overlay.specs.Live.{slot_cmp};
 ghost use Rattle.run_overlay.specs.Turning.{same_row};
@@ -29,27 +28,8 @@ pub(crate) struct RowKey {
     pub(crate) place: u32,
 }
 
-/// The key of a departure.
-fn key_of(row: &LiveRow) -> RowKey
-    ensures { result ≡ rule.row_key row.now }
-{
-    RowKey {
-        stop: row.stop,
-        at: row.slot.at,
-        trip: row.slot.run.trip,
-        day: row.slot.run.day,
-        place: row.slot.place,
-    }
-}
-
-/// By the one, then by the next, then by the last.
-fn in_turn(first: Ordering, second: Ordering, third: Ordering) -> Ordering
-    ensures { result ≡ ordering_then first (ordering_then second third) }
-{
-    first.then(second.then(third))
-}
-
-/// By the expected instant, the trip, the day and the place. Most departures of a stop differ in the first.
+/// By the expected instant, the trip, the day and the place. Most departures of a stop differ in
+/// the first.
 fn slot_order(a: &LiveSlot, b: &LiveSlot) -> Ordering
     ensures { result ≡ slot_cmp a.now b.now }
 {
@@ -58,16 +38,14 @@ fn slot_order(a: &LiveSlot, b: &LiveSlot) -> Ordering
     } else if b.at < a.at {
         Ordering::Greater
     } else {
-        in_turn(
-            a.run.trip.cmp(&b.run.trip),
-            a.run.day.cmp(&b.run.day),
-            a.place.cmp(&b.place),
-        )
+        let trip = a.run.trip.cmp(&b.run.trip);
+        let day = a.run.day.cmp(&b.run.day);
+        trip.then(day.then(a.place.cmp(&b.place)))
     }
 }
 
-/// By the stop, and then as `slot_order` says. No key is made for it, since lists compare departures more often than they
-/// do anything else.
+/// By the stop, and then as `slot_order` says. No key is made for it, since lists compare
+/// departures more often than they do anything else.
 fn row_order(a: &LiveRow, b: &LiveRow) -> Ordering
     ensures { result ≡ rule.row_cmp (rule.row_key a.now) (rule.row_key b.now) }
 {
@@ -103,6 +81,13 @@ impl Keyed for LiveRow {
 
     ghost key_cmp = { row_cmp };
 
+    // Nobody asks which are newer.
+    ghost stamp_of = { λ _. 0 };
+
+    fn stamp(&self) -> u64 {
+        0
+    }
+
     fn order(&self, other: &Self) -> Ordering {
         row_order(self, other)
     }
@@ -123,6 +108,13 @@ impl KeyFor<LiveRow> for RowKey {
     ghost sought = { λ key. key };
 
     fn order_of(&self, row: &LiveRow) -> Ordering {
-        key_of(row).cmp(self)
+        let key = RowKey {
+            stop: row.stop,
+            at: row.slot.at,
+            trip: row.slot.run.trip,
+            day: row.slot.run.day,
+            place: row.slot.place,
+        };
+        key.cmp(self)
     }
 }

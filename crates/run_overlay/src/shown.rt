@@ -11,8 +11,8 @@ use crate::slot::SlotState;
 use delay_rule::StopState;
 use rt_types::TripRelation;
 
-/// What is known of a place: a state, a delay in seconds where it is known, and the number of the stop to which the
-/// place is moved, if it is.
+/// What is known of a place: a state, a delay in seconds where it is known, and the number of the
+/// stop to which the place is moved, if it is.
 #[derive(Clone, Copy, Debug, PartialEq, Eq)]
 pub(crate) struct Sign {
     pub(crate) state: SlotState,

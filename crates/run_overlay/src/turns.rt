@@ -18,7 +18,7 @@ use crate::live_run::LiveRun;
 use crate::mention::{Mention, mention_in};
 use crate::places::rows_of_run;
 use copying::Copied;
-use delay_rule::Steps;
+use delay_rule::{Steps, StopState};
 use entity_table::{Stored, Table};
 use rt_types::{Items, Shared};
 use sched_types::{Plan, Run};
@@ -43,7 +43,8 @@ fn push_run(mention: Option<Mention>, runs: &mut Vec<Run>) -> Result<(), NoMemor
     Ok(())
 }
 
-/// The runs that updates were about before the changes and those that they are about now, id by id; or out of memory.
+/// The runs that updates were about before the changes and those that they are about now, id by id;
+/// or out of memory.
 fn all_runs(alloc: Global, ids: &[IdChange]) -> Result<Vec<Run>, NoMemory>
     ensures { IfOk result (λ runs. runs.items ≡ changing.touched_runs ids.now) }
 {
@@ -67,8 +68,9 @@ pub(crate) fn touched_runs(alloc: Global, ids: &[IdChange]) -> Result<Vec<Run>, 
     Ok(runs)
 }
 
-/// A run with its update that counts, where one does, which is walked then; or out of memory. The candidates are those of
-/// the table, and what is at hand of it may have that update.
+/// A run with its update that counts, where one does, which is walked then; or out of memory. The
+/// candidates are those of the table, and what is at hand of it may have that update. The states of
+/// the walk are written over what their list had.
 fn run_now<'a, L: Ledger>(
     alloc: Global,
     plan: &Plan,
@@ -76,6 +78,7 @@ fn run_now<'a, L: Ledger>(
     candidates: &SharedList<Candidate>,
     near: Option<&'a Stored>,
     run: Run,
+    states: &mut Vec<StopState>,
     steps: &mut Steps<L>,
 ) -> Result<Option<LiveRun>, NoMemory>
     requires candidates { candidates.now ≡ (mentions_of plan.now table.now).candidates }
@@ -90,7 +93,7 @@ fn run_now<'a, L: Ledger>(
     let Some(update) = update_near(table, near, candidate.id.as_str()) else {
         return Ok(None);
     };
-    let rows = rows_of_run(alloc, plan, run, update, steps)?;
+    let rows = rows_of_run(alloc, plan, run, update, states, steps)?;
     Ok(Some(LiveRun {
         run,
         id: candidate.id.copy()?,
@@ -99,8 +102,8 @@ fn run_now<'a, L: Ledger>(
     }))
 }
 
-/// What becomes of runs, each of which is walked at most once; or out of memory. The candidates and the hints are those of
-/// the table.
+/// What becomes of runs, each of which is walked at most once; or out of memory. The candidates and
+/// the hints are those of the table.
 pub(crate) fn turns_of<'a, L: Ledger>(
     alloc: Global,
     plan: &Plan,
@@ -117,10 +120,11 @@ pub(crate) fn turns_of<'a, L: Ledger>(
     ensures few { steps.new ≤ steps.old + length runs.now }
 {
     let mut turns = Vec::with_capacity(alloc, runs.len())?;
+    let mut room = Vec::new(alloc);
     for (number, run) in runs.iter().enumerate() {
         let run = *run;
         let near = hints.at(number);
-        let now = run_now(alloc, plan, table, candidates, near, run, steps)?;
+        let now = run_now(alloc, plan, table, candidates, near, run, &mut room, steps)?;
         turns.push(Turn { run, now })?;
     }
     Ok(turns)

@@ -1,9 +1,9 @@
-//! The small city of the samples, for tests: a market square with two platforms, a harbour and a hill,
-//! and one bus route with three trips on 29 to 31 March 2025.
+//! The small city of the samples, for tests: a market square with two platforms, a harbour and a
+//! hill, and one bus route with three trips on 29 to 31 March 2025.
 //!
 //! [`city`] is its timetable, which contracts know as the example of `sched_types`; [`one_feed`],
-//! [`two_feeds`] and [`four_feeds`] are a hub's timetables and feeds with it. There are messages in their
-//! own form and as bytes, and ports, doors and clocks in memory.
+//! [`two_feeds`] and [`four_feeds`] are a hub's timetables and feeds with it. There are messages in
+//! their own form and as bytes, and ports, doors and clocks in memory.
 #![tactic(auto)]
 
 mod messages;

@@ -18,8 +18,8 @@ pub fn port(alloc: Global, messages: &[&[u8]], failing: &[u64]) -> Result<Memory
     Ok(MemoryPort::new(owned, Vec::from_slice(alloc, failing)?))
 }
 
-/// The ports of the run of the city: the message of stamp 5 twice and then the update for one feed, and
-/// nothing for the other.
+/// The ports of the run of the city: the message of stamp 5 twice and then the update for one feed,
+/// and nothing for the other.
 pub fn city_ports(alloc: Global) -> Result<[MemoryPort; 2], NoMemory> {
     let first = port(alloc, &[&FIVE, &FIVE, &UPDATE], &[])?;
     let second = port(alloc, &[], &[])?;
@@ -35,8 +35,8 @@ pub fn link(alloc: Global, request: &[u8]) -> Result<MemoryLink, NoMemory> {
     })
 }
 
-/// A door of so many links that ask for the board of the harbour, of which the calls of those numbers, from
-/// 1 on, fail.
+/// A door of so many links that ask for the board of the harbour, of which the calls of those
+/// numbers, from 1 on, fail.
 pub fn door(alloc: Global, count: u32, failing: &[u64]) -> Result<MemoryDoor, NoMemory> {
     let mut links = Vec::new(alloc);
     for _ in 0..count {
@@ -64,8 +64,8 @@ pub fn sink(alloc: Global) -> MemorySink {
     MemorySink::new(alloc, Vec::new(alloc), Vec::new(alloc))
 }
 
-/// After how many messages the link of that place, from 0 on, was answered, where it was given back and
-/// what was written on it is the whole response after so many.
+/// After how many messages the link of that place, from 0 on, was answered, where it was given back
+/// and what was written on it is the whole response after so many.
 pub fn number_at(door: &MemoryDoor, place: usize) -> Option<usize> {
     let link = door.links_done().get(place)?;
     let written = link.output.bytes();

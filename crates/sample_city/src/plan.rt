@@ -96,8 +96,8 @@ fn places(alloc: Global) -> Result<Vec<Vec<Place>>, NoMemory>
     Ok(vec![in alloc; night, first, second]?)
 }
 
-/// The city on 29 to 31 March 2025: T1 goes from S1 at 08:00 by S3 and S2 at 08:21 to S4, T2 from S2 at
-/// 08:21 to S4, and N1 from S1 at 25:10 to S4.
+/// The city on 29 to 31 March 2025: T1 goes from S1 at 08:00 by S3 and S2 at 08:21 to S4, T2 from
+/// S2 at 08:21 to S4, and N1 from S1 at 25:10 to S4.
 pub fn city(alloc: Global) -> Result<Plan, NoMemory>
     ensures { IfOk result (λ plan. plan ≡ example.city) }
 {

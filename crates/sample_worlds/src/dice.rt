@@ -14,7 +14,8 @@ impl Dice {
         Dice { state }
     }
 
-    /// A number below the given one, 0 below 0. The high bits are taken, since the low ones repeat soon.
+    /// A number below the given one, 0 below 0. The high bits are taken, since the low ones repeat
+    /// soon.
     pub fn below(&mut self, limit: u32) -> u32
         ensures { result ≤ limit }
     {

@@ -1,9 +1,9 @@
-//! Small worlds made at random, for tests: a timetable of a few stops and trips, and what two feeds say of
-//! them.
+//! Small worlds made at random, for tests: a timetable of a few stops and trips, and what two feeds
+//! say of them.
 //!
-//! [`Dice`] makes the same numbers in every run, and [`made_world`] a world of them, with its updates, alerts
-//! and vehicles and what these name. [`hub_of`] loads the folder of a world's timetable, and lets both feeds
-//! speak.
+//! [`Dice`] makes the same numbers in every run, and [`made_world`] a world of them, with its
+//! updates, alerts and vehicles and what these name. [`hub_of`] loads the folder of a world's
+//! timetable, and lets both feeds speak.
 #![tactic(auto)]
 
 mod alert_entity;

@@ -271,7 +271,8 @@ fn vehicle(dice: &mut Dice, known: Known<'_>, feed: u32, id: &'static str) -> Ma
     }
 }
 
-/// Up to two vehicles of each feed, the one in the entity of an update, where there is one of that id.
+/// Up to two vehicles of each feed, the one in the entity of an update, where there is one of that
+/// id.
 pub(crate) fn vehicles(
     alloc: Global,
     dice: &mut Dice,

@@ -5,8 +5,8 @@ use crate::notice::{Known, MadeAlert, MadeVehicle, alerts, vehicles};
 use rt_types::{StopRelation, TripRelation};
 use std::alloc::{AllocError, Global};
 
-/// The stops, in order of their ids. The last two are stations: the first stop lies in P, the second in some worlds,
-/// and the third in S.
+/// The stops, in order of their ids. The last two are stations: the first stop lies in P, the
+/// second in some worlds, and the third in S.
 pub const STOPS: [&str; 5] = ["A", "B", "C", "P", "S"];
 
 /// The trips, in order of their ids.
@@ -67,8 +67,8 @@ pub struct MadeCall {
     pub leaves: Option<i64>,
 }
 
-/// What an update says of a place; of an added trip's with the call there. The stop that it assigns to the place is
-/// told by its number in `STOPS`, or past the last.
+/// What an update says of a place; of an added trip's with the call there. The stop that it assigns
+/// to the place is told by its number in `STOPS`, or past the last.
 #[derive(Clone, Copy)]
 pub struct MadeStop {
     pub sequence: u32,
@@ -93,7 +93,8 @@ pub struct MadeUpdate {
     pub stops: Vec<MadeStop>,
 }
 
-/// A world: a timetable, the stamps of the messages of two feeds, and the updates, vehicles and alerts in these.
+/// A world: a timetable, the stamps of the messages of two feeds, and the updates, vehicles and
+/// alerts in these.
 #[derive(Drop)]
 pub struct World {
     pub in_station: bool,
@@ -181,7 +182,8 @@ fn trip(alloc: Global, dice: &mut Dice) -> Result<MadeTrip, AllocError> {
     })
 }
 
-/// A call in the morning of a day, rarely at a stop that isn't there; a time may be absent or no moment.
+/// A call in the morning of a day, rarely at a stop that isn't there; a time may be absent or no
+/// moment.
 fn call(dice: &mut Dice, day: u32) -> MadeCall {
     let base = BASES.get(day as usize).copied().unwrap_or(1_743_285_600);
     let time = base.wrapping_add(i64::from(28_800 + 300 * dice.below(8)));
@@ -196,7 +198,8 @@ fn call(dice: &mut Dice, day: u32) -> MadeCall {
     }
 }
 
-/// A stop that is assigned to a place, mostly one that may lie in a station, rarely one that isn't there; or none.
+/// A stop that is assigned to a place, mostly one that may lie in a station, rarely one that isn't
+/// there; or none.
 fn assigned(dice: &mut Dice) -> Option<u32> {
     match dice.below(8) {
         0 => Some(5),
@@ -238,8 +241,8 @@ pub(crate) fn relation(dice: &mut Dice) -> Option<TripRelation> {
     }
 }
 
-/// An update of one of so many trips, on some day, or of an added trip of such a name; rarely of a trip or a day
-/// that isn't there.
+/// An update of one of so many trips, on some day, or of an added trip of such a name; rarely of a
+/// trip or a day that isn't there.
 fn update(
     alloc: Global,
     dice: &mut Dice,

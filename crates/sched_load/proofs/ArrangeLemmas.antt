@@ -61,17 +61,7 @@ module _ (xs ys : List Visit) (t : ℕ) (apart : AreApart xs (length xs)) (sorte
       ∙ filter_swap (λ v. v.trip == t) (λ v. v.sequence == q) ys
 
   not_both : (v w : Visit) (q : ℕ) → is_twin_visit v w ≡ false → (((v.trip == t) && (v.sequence == q)) && ((w.trip == t) && (w.sequence == q))) ≡ false
-  not_both v w q h = by (v.trip == t) (v.sequence == q) (w.trip == t) (w.sequence == q) refl refl refl refl
-    where
-      by : (a b c d : Bool) → (v.trip == t) ≡ a → (v.sequence == q) ≡ b → (w.trip == t) ≡ c → (w.sequence == q) ≡ d → ((a && b) && (c && d)) ≡ false
-      by false b c d e f g i = refl
-      by true false c d e f g i = refl
-      by true true false d e f g i = refl
-      by true true true false e f g i = refl
-      by true true true true e f g i =
-          let one = equal_is v.trip w.trip (is_equal v.trip t e ∙ sym (is_equal w.trip t g)) in
-          let two = equal_is v.sequence w.sequence (is_equal v.sequence q f ∙ sym (is_equal w.sequence q i)) in
-          absurd (true_false (sym (ap (λ z. z && (v.sequence == w.sequence)) one ∙ two) ∙ h))
+  not_both v w q h = grind (arith, equal_is, is_equal, true_false, nat_tests)
 
   one_at : (q : ℕ) → length (at_sequence q (own_of t xs)) ≤ 1
   one_at q =

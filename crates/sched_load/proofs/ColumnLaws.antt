@@ -1,16 +1,14 @@
 -- What the columns of a file say of each row.
-use Rattle.std.proofs.Common.{◌≡◌, ℕ, ◌≤◌, Bool, true, false, ◌&&◌, List, [], ◌∷◌, refl, ap, subst, arith, nat_le}
-use Rattle.std.specs.Prelude.{Option, Some, None, ok_or, option_and_then, option_map, Ok, Err, if◌then◌else◌}
-use Rattle.std.specs.Str.{is_utf8}
+use Rattle.std.proofs.Common.{◌≡◌, ℕ, ◌≤◌, List, ap, subst, arith}
+use Rattle.std.specs.Prelude.{Option, Some, None, Ok}
 use Rattle.std.proofs.lemmas.Bool.Decides.{nat_tests}
 use Rattle.answer_defs.specs.Steps.{◌>>=◌}
-use Rattle.gtfs_rows.specs.Tables.{Columns, ◌⊕◌, table, cell_value, required, optional, weekday, exceptions, calendar, routes, trips, stop_times}
-use Rattle.text_defs.specs.Numbers.{digits, number as digits_number, within}
+use Rattle.gtfs_rows.specs.Tables.{Columns, ◌⊕◌, table, cell_value, required, optional, exceptions, calendar, routes, trips, stop_times}
+use Rattle.text_defs.specs.Numbers.{number as digits_number, within}
 use Rattle.text_defs.specs.Times.{time_in}
-use Rattle.gtfs_rows.specs.Values.{id_text, any_text, number, or_empty, date}
+use Rattle.gtfs_rows.specs.Values.{id_text, any_text, number, or_empty}
 use Rattle.gtfs_rows.specs.declared.column.Column.{Column}
 use Rattle.gtfs_rows.specs.declared.column.Column.TheVariants as column
-use Rattle.gtfs_rows.specs.declared.fault.RowFault.TheVariants as fault
 use Rattle.sched_load_defs.specs.Services.{flags_of}
 use Rattle.sched_load.proofs.Laws.{AreWithin, and_then_ok}
 
@@ -30,32 +28,15 @@ any_within a row cells x e = tt
 
 pub judged_ok : {A : Type 0} (form : List ℕ → Option A) (row : ℕ) (column : Column) (cell : List ℕ) (x : A) → cell_value form row column cell ≡ Ok x → form cell ≡ Some x
 unfolding cell_value
-judged_ok {A} form row column cell x e = by (is_utf8 cell) (form cell) refl e
-  where
-    by : (b : Bool) (o : Option A) → form cell ≡ o → (if b then ok_or o (fault.BadValue row column) else Err (fault.NotText row column)) ≡ Ok x → form cell ≡ Some x
-    by true (Some y) is h = let same : y ≡ x = cc in subst (λ z. form cell ≡ Some z) same is
-    by true None is h = absurd cc
-    by false o is h = absurd cc
+judged_ok form row column cell x e = grind arith
 
 -- a value of a range lies in it
 pub within_ok : (low high v x : ℕ) → within low high v ≡ Some x → (low ≤ x) × (x ≤ high)
-within_ok low high v x e = by (nat_le low v) (nat_le v high) refl refl e
-  where
-    by : (a b : Bool) → nat_le low v ≡ a → nat_le v high ≡ b → (if a && b then Some v else None) ≡ Some x → (low ≤ x) × (x ≤ high)
-    by true true least most h =
-        let same : v ≡ x = cc in
-        let fits : (low ≤ v) × (v ≤ high) = (grind (arith, nat_tests, least), grind (arith, nat_tests, most)) in
-        subst (λ n. (low ≤ n) × (n ≤ high)) same fits
-    by true false least most h = absurd cc
-    by false b least most h = absurd cc
+within_ok low high v x e = grind (arith, nat_tests)
 
 pub number_ok : (low high : ℕ) (bytes : List ℕ) (x : ℕ) → number low high bytes ≡ Some x → (low ≤ x) × (x ≤ high)
 unfolding number digits_number
-number_ok low high bytes x e = by (digits 1 10 bytes) e
-  where
-    by : (o : Option ℕ) → option_and_then (within low high) o ≡ Some x → (low ≤ x) × (x ≤ high)
-    by None h = absurd cc
-    by (Some v) h = within_ok low high v x h
+number_ok low high bytes x e = grind (arith, within_ok)
 
 number_within : (low high : ℕ) (c : Column) → AreWithin (required c (number low high)) (λ n. n ≤ high)
 number_within low high c row cells x e = (number_ok low high (cells c) x (judged_ok (number low high) row c (cells c) x e)).1
@@ -65,36 +46,16 @@ AtMost high None = Unit {0}
 AtMost high (Some n) = n ≤ high
 
 empty_ok : (low high : ℕ) (bytes : List ℕ) (x : Option ℕ) → or_empty (number low high) bytes ≡ Some x → AtMost high x
-empty_ok low high [] x e = let none : None ≡ x = cc in subst (AtMost high) none tt
-empty_ok low high (b ∷ bytes) x e = by (number low high (b ∷ bytes)) refl e
-  where
-    by : (o : Option ℕ) → number low high (b ∷ bytes) ≡ o → option_map (λ n. Some n) o ≡ Some x → AtMost high x
-    by None is h = absurd cc
-    by (Some n) is h = let same : Some n ≡ x = cc in subst (AtMost high) same (number_ok low high (b ∷ bytes) n is).1
+empty_ok low high bytes x e = grind (arith, number_ok)
 
 pub option_within : (low high : ℕ) (c : Column) → AreWithin (optional c (or_empty (number low high))) (AtMost high)
 option_within low high c row cells x e = empty_ok low high (cells c) x (judged_ok (or_empty (number low high)) row c (cells c) x e)
 
 pub exception_types : AreWithin exceptions (λ row. row.exception_type ≤ 2)
-exception_types =
-    table_within _ (required column.ServiceId id_text ⊕ (required column.Date date ⊕ required column.ExceptionType (number 1 2))) (λ v. Unit {0} × (Unit {0} × (v.1.1 ≤ 2))) (λ row. row.exception_type ≤ 2)
-    (both_within (required column.ServiceId id_text) (required column.Date date ⊕ required column.ExceptionType (number 1 2)) (λ _. Unit {0}) (λ v. Unit {0} × (v.1 ≤ 2)) (any_within (required column.ServiceId id_text))
-    (both_within (required column.Date date) (required column.ExceptionType (number 1 2)) (λ _. Unit {0}) (λ n. n ≤ 2) (any_within (required column.Date date)) (number_within 1 2 column.ExceptionType)))
-    (λ v p. p.1.1)
+exception_types = grind (arith, any_within, both_within, number_within, table_within)
 
 pub route_types : AreWithin routes (λ row. row.route_type ≤ 9999)
-route_types =
-    let a = required column.RouteId id_text in
-    let b = optional column.AgencyId any_text in
-    let d = optional column.RouteShortName any_text in
-    let e = optional column.RouteLongName any_text in
-    let f = required column.RouteType (number 0 9999) in
-    table_within _ (a ⊕ (b ⊕ (d ⊕ (e ⊕ f)))) (λ v. Unit {0} × (Unit {0} × (Unit {0} × (Unit {0} × (v.1.1.1.1 ≤ 9999))))) (λ row. row.route_type ≤ 9999)
-    (both_within a (b ⊕ (d ⊕ (e ⊕ f))) (λ _. Unit {0}) (λ v. Unit {0} × (Unit {0} × (Unit {0} × (v.1.1.1 ≤ 9999)))) (any_within a)
-    (both_within b (d ⊕ (e ⊕ f)) (λ _. Unit {0}) (λ v. Unit {0} × (Unit {0} × (v.1.1 ≤ 9999))) (any_within b)
-    (both_within d (e ⊕ f) (λ _. Unit {0}) (λ v. Unit {0} × (v.1 ≤ 9999)) (any_within d)
-    (both_within e f (λ _. Unit {0}) (λ n. n ≤ 9999) (any_within e) (number_within 0 9999 column.RouteType)))))
-    (λ v p. p.1.1.1.1)
+route_types = grind (arith, any_within, both_within, number_within, table_within)
 
 pub trip_directions : AreWithin trips (λ row. AtMost 1 row.direction_id)
 trip_directions =
@@ -127,26 +88,4 @@ pickup_types =
     (λ v p. p.1.1.1.1.1)
 
 pub calendar_flags : AreWithin calendar (λ row. flags_of row ≤ 127)
-calendar_flags =
-    let k0 = required column.ServiceId id_text in
-    let k1 = weekday column.Monday in
-    let k2 = weekday column.Tuesday in
-    let k3 = weekday column.Wednesday in
-    let k4 = weekday column.Thursday in
-    let k5 = weekday column.Friday in
-    let k6 = weekday column.Saturday in
-    let k7 = weekday column.Sunday in
-    let k8 = required column.StartDate date in
-    let k9 = required column.EndDate date in
-    table_within _ (k0 ⊕ (k1 ⊕ (k2 ⊕ (k3 ⊕ (k4 ⊕ (k5 ⊕ (k6 ⊕ (k7 ⊕ (k8 ⊕ k9))))))))) (λ v. Unit {0} × ((v.1.0 ≤ 1) × ((v.1.1.0 ≤ 1) × ((v.1.1.1.0 ≤ 1) × ((v.1.1.1.1.0 ≤ 1) × ((v.1.1.1.1.1.0 ≤ 1) × ((v.1.1.1.1.1.1.0 ≤ 1) × ((v.1.1.1.1.1.1.1.0 ≤ 1) × (Unit {0} × (Unit {0})))))))))) (λ row. flags_of row ≤ 127)
-    (both_within k0 (k1 ⊕ (k2 ⊕ (k3 ⊕ (k4 ⊕ (k5 ⊕ (k6 ⊕ (k7 ⊕ (k8 ⊕ k9)))))))) (λ _. Unit {0}) (λ v. (v.0 ≤ 1) × ((v.1.0 ≤ 1) × ((v.1.1.0 ≤ 1) × ((v.1.1.1.0 ≤ 1) × ((v.1.1.1.1.0 ≤ 1) × ((v.1.1.1.1.1.0 ≤ 1) × ((v.1.1.1.1.1.1.0 ≤ 1) × (Unit {0} × (Unit {0}))))))))) (any_within k0)
-    (both_within k1 (k2 ⊕ (k3 ⊕ (k4 ⊕ (k5 ⊕ (k6 ⊕ (k7 ⊕ (k8 ⊕ k9))))))) (λ n. n ≤ 1) (λ v. (v.0 ≤ 1) × ((v.1.0 ≤ 1) × ((v.1.1.0 ≤ 1) × ((v.1.1.1.0 ≤ 1) × ((v.1.1.1.1.0 ≤ 1) × ((v.1.1.1.1.1.0 ≤ 1) × (Unit {0} × (Unit {0})))))))) (number_within 0 1 column.Monday)
-    (both_within k2 (k3 ⊕ (k4 ⊕ (k5 ⊕ (k6 ⊕ (k7 ⊕ (k8 ⊕ k9)))))) (λ n. n ≤ 1) (λ v. (v.0 ≤ 1) × ((v.1.0 ≤ 1) × ((v.1.1.0 ≤ 1) × ((v.1.1.1.0 ≤ 1) × ((v.1.1.1.1.0 ≤ 1) × (Unit {0} × (Unit {0}))))))) (number_within 0 1 column.Tuesday)
-    (both_within k3 (k4 ⊕ (k5 ⊕ (k6 ⊕ (k7 ⊕ (k8 ⊕ k9))))) (λ n. n ≤ 1) (λ v. (v.0 ≤ 1) × ((v.1.0 ≤ 1) × ((v.1.1.0 ≤ 1) × ((v.1.1.1.0 ≤ 1) × (Unit {0} × (Unit {0})))))) (number_within 0 1 column.Wednesday)
-    (both_within k4 (k5 ⊕ (k6 ⊕ (k7 ⊕ (k8 ⊕ k9)))) (λ n. n ≤ 1) (λ v. (v.0 ≤ 1) × ((v.1.0 ≤ 1) × ((v.1.1.0 ≤ 1) × (Unit {0} × (Unit {0}))))) (number_within 0 1 column.Thursday)
-    (both_within k5 (k6 ⊕ (k7 ⊕ (k8 ⊕ k9))) (λ n. n ≤ 1) (λ v. (v.0 ≤ 1) × ((v.1.0 ≤ 1) × (Unit {0} × (Unit {0})))) (number_within 0 1 column.Friday)
-    (both_within k6 (k7 ⊕ (k8 ⊕ k9)) (λ n. n ≤ 1) (λ v. (v.0 ≤ 1) × (Unit {0} × (Unit {0}))) (number_within 0 1 column.Saturday)
-    (both_within k7 (k8 ⊕ k9) (λ n. n ≤ 1) (λ v. Unit {0} × (Unit {0})) (number_within 0 1 column.Sunday)
-    (both_within k8 k9 (λ _. Unit {0}) (λ v. Unit {0}) (any_within k8)
-    (any_within k9))))))))))
-    (λ v p. let h1 = p.1.0 in let h2 = p.1.1.0 in let h3 = p.1.1.1.0 in let h4 = p.1.1.1.1.0 in let h5 = p.1.1.1.1.1.0 in let h6 = p.1.1.1.1.1.1.0 in let h7 = p.1.1.1.1.1.1.1.0 in omega (arith, h1, h2, h3, h4, h5, h6, h7))
+calendar_flags = grind (arith, any_within, both_within, number_within, table_within)

@@ -1,5 +1,5 @@
 -- The days of a window, one after another.
-use Rattle.std.proofs.Common.{◌≡◌, ℕ, zero, suc, ◌+◌, ◌<◌, ◌≤◌, Bool, true, false, cond, List, [], ◌∷◌, ◌++◌, length, refl, sym, ap, ◌∙◌, subst, map, arith, add-one, nat_cmp, inl, inr, ◌⊎◌}
+use Rattle.std.proofs.Common.{◌≡◌, ℕ, zero, suc, ◌+◌, ◌<◌, ◌≤◌, Bool, true, false, cond, List, [], ◌∷◌, ◌++◌, length, refl, sym, ap, ◌∙◌, subst, map, arith, add-one, nat_cmp}
 use Rattle.std.specs.Prelude.{ℤ, slice_get, zip, Option, Some, filter, if◌then◌else◌}
 use Rattle.std.specs.List.{range_with_len}
 use Rattle.std.specs.List.{find as find_in}
@@ -68,11 +68,7 @@ last_is = refl
 
 -- a window ends before the calendar
 pub window_ends : (first days : ℕ) → is_day first ≡ true → first ≤ 29991231 → days ≤ 400 → day_number first + days < 3_652_425
-window_ends first days valid late few = by (cases_lt first 29991231)
-  where
-    by : (first < 29991231) ⊎ (29991231 ≤ first) → day_number first + days < 3_652_425
-    by (inl h) = let n = day_number-lt first 29991231 (IsDay-is_day first valid) (IsDay-is_day 29991231 last_is) h in let l = last_number in omega (arith, n, l, few)
-    by (inr h) = let same : first ≡ 29991231 = omega (arith, h, late) in let n = ap day_number same in let l = last_number in omega (arith, n, l, few)
+window_ends first days valid late few = grind (arith, IsDay-is_day, cases_lt, day_number-lt, last_is, last_number)
 
 pub zip_get : {A B : Type 0} (xs : List A) (ys : List B) (i : ℕ) (x : A) (y : B) → slice_get xs i ≡ Some x → slice_get ys i ≡ Some y → slice_get (zip xs ys) i ≡ Some (x, y)
 zip_get [] ys i x y p q = absurd (none_some x p)

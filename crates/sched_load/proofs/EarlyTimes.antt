@@ -1,5 +1,5 @@
 -- Where the given times of a trip are below the end of all times, so are those of its places between.
-use Rattle.std.proofs.Common.{◌≡◌, ℕ, zero, suc, ◌+◌, ◌-◌, ◌*◌, ◌/◌, ◌<◌, ◌≤◌, List, [], ◌∷◌, refl, subst, arith}
+use Rattle.std.proofs.Common.{◌≡◌, ℕ, zero, suc, ◌+◌, ◌-◌, ◌<◌, List, [], ◌∷◌, refl, subst, arith}
 use Rattle.std.specs.Prelude.{Option, Some, None, IfSome, slice_get}
 use Rattle.std.proofs.Math.Nat.{div-le_of_le-mul}
 use Rattle.std.proofs.lemmas.Option.{none-some as none_some, same_Some}
@@ -27,19 +27,14 @@ next_early steps (None ∷ places) h = next_early (steps + 1) places h
 
 -- a place between lies no later than the timed places around it
 share_early : (departure behind : ℕ) (next : Option (ℕ × ℕ)) → departure < time_end → IfSome next (λ place. place.1 < time_end) → share_between departure behind next < time_end
-share_early departure behind None left reached = omega arith
-share_early departure behind (Some (ahead, arrival)) left reached =
-    let share : (arrival - departure) * behind / (behind + ahead) ≤ arrival - departure = div-le_of_le-mul (behind + ahead) (grind arith) in
-    omega (arith, share, left, reached)
+share_early departure behind next left reached = grind (arith, div-le_of_le-mul)
 
 behind_early : (departure behind : ℕ) (places : List (Option Times)) → departure < time_end → AllEarly places → (i : ℕ) (times : Times) → slice_get (times_behind departure behind places) i ≡ Some times → AreEarly times
 unfolding times_behind
 behind_early departure behind [] left h i times at = absurd (none_some times at)
 behind_early departure behind (Some given ∷ places) left h zero times at = subst AreEarly (same_Some _ _ at) h.0
 behind_early departure behind (Some given ∷ places) left h (suc i) times at = behind_early given.departure 1 places h.0.departure h.1 i times at
-behind_early departure behind (None ∷ places) left h zero times at =
-    let early = share_early departure behind (next_timed 1 places) left (next_early 1 places h) in
-    subst AreEarly (same_Some _ _ at) (record { arrival = early; departure = early })
+behind_early departure behind (None ∷ places) left h zero times at = grind (arith, share_early departure behind (next_timed 1 places) left (next_early 1 places h), next_early 1 places h)
 behind_early departure behind (None ∷ places) left h (suc i) times at = behind_early departure (behind + 1) places left h i times at
 
 -- the given times of rows
@@ -47,10 +42,7 @@ abbrev pub HasEarly : StopTimeRow → Type 0
 HasEarly row = IsEarly row.arrival_time × IsEarly row.departure_time
 
 one_early : (arrival departure : Option ℕ) (places : List (Option Times)) → IsEarly arrival → IsEarly departure → AllEarly places → AllEarly (times_of arrival departure ∷ places)
-one_early (Some arrival) (Some departure) places a d rest = (record { arrival = a; departure = d }, rest)
-one_early (Some arrival) None places a d rest = (record { arrival = a; departure = a }, rest)
-one_early None (Some departure) places a d rest = (record { arrival = d; departure = d }, rest)
-one_early None None places a d rest = rest
+one_early arrival departure places a d rest = grind arith
 
 given_early : (rows : List StopTimeRow) → ((i : ℕ) (row : StopTimeRow) → slice_get rows i ≡ Some row → HasEarly row) → AllEarly (given_times rows)
 given_early [] h = tt

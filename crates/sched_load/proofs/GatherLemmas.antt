@@ -1,14 +1,10 @@
 -- The rows of stop_times.txt, as they are gathered one after another.
 use Rattle.std.proofs.Common.{◌≡◌, ℕ, zero, suc, ◌<◌, List, [], ◌∷◌, ◌++◌, length, map, take, refl, sym, ap, ◌∙◌, subst, arith}
-use Rattle.std.specs.Prelude.{slice_get, Some, None, Result, Ok, Err, Vec}
+use Rattle.std.specs.Prelude.{slice_get, Some, None, Result, Ok, Vec}
 use Rattle.std.specs.declared.alloc.Global.{Global}
-use Rattle.std.proofs.Math.Seq.{take-length}
-use Rattle.std.proofs.lemmas.List.{append-nil, append_assoc, length-map, map-append}
+use Rattle.std.proofs.lemmas.List.{append_assoc, length-map, map-append}
 use Rattle.std.proofs.lemmas.Option.{none-some as none_some, same_Some}
-use Rattle.answer_defs.specs.Defined.{IsCause}
 use Rattle.answer_defs.specs.Steps.{◌>>=◌}
-use Rattle.gtfs_rows.proofs.FileLemmas.{answers-fault}
-use Rattle.gtfs_rows.specs.Files.{cause_of}
 use Rattle.gtfs_rows.specs.declared.column.Column.{Column}
 use Rattle.gtfs_rows.specs.declared.fault.RowFault.{RowFault}
 use Rattle.gtfs_rows.specs.declared.rows.StopRow.{StopRow}
@@ -24,12 +20,10 @@ abbrev pub behind : List StopTimeRow → Result (List StopTimeRow) RowFault → 
 behind done told = told >>= λ more. Ok (done ++ more)
 
 behind_nil : (told : Result (List StopTimeRow) RowFault) → told ≡ behind [] told
-behind_nil (Ok rows) = refl
-behind_nil (Err e) = refl
+behind_nil told = grind arith
 
 behind_more : (done : List StopTimeRow) (row : StopTimeRow) (told : Result (List StopTimeRow) RowFault) → behind done (told >>= λ rows. Ok (row ∷ rows)) ≡ behind (done ++ row ∷ []) told
-behind_more done row (Ok rows) = ap (λ all. Ok all) (sym (append_assoc done (row ∷ []) rows))
-behind_more done row (Err e) = refl
+behind_more done row told = grind (arith, append_assoc)
 
 -- the rows so far, and those to come, are all that is told
 pub record Passing (start left : Result (List StopTimeRow) RowFault) : Type 0 where
@@ -41,12 +35,6 @@ passing_start start = record { done = []; told = behind_nil start }
 
 pub passing_more : (start left after : Result (List StopTimeRow) RowFault) (row : StopTimeRow) → Passing start left → left ≡ (after >>= λ rows. Ok (row ∷ rows)) → Passing start after
 passing_more start left after row h e = record { done = h.done ++ row ∷ []; told = h.told ∙ ap (behind h.done) e ∙ behind_more h.done row after }
-
-pub passing_end : (start left : Result (List StopTimeRow) RowFault) → Passing start left → left ≡ Ok [] → Skips start (Ok tt)
-passing_end start left h e = (h.done, h.told ∙ ap (behind h.done) e ∙ ap (λ rows. Ok rows) (append-nil h.done))
-
-pub passing_fault : (start left : Result (List StopTimeRow) RowFault) (e : RowFault) → Passing start left → IsCause left (cause_of e) → IsCause start (cause_of e)
-passing_fault start left e h cause = answers-fault left start e (λ f is. h.told ∙ ap (behind h.done) is) cause
 
 module _ (trips : List TripRow) (stops : List StopRow) where
   -- the rows so far are gathered, and refer to known rows
@@ -78,21 +66,6 @@ module _ (trips : List TripRow) (stops : List StopRow) where
   long : (start left : Result (List StopTimeRow) RowFault) (visits : List Visit) → (h : Gathering start left visits) → length visits ≡ length h.passing.done
   long start left visits h = ap length h.visits_of ∙ length-map h.passing.done (visit_of trips stops)
 
-  pub gathering_end : (start left : Result (List StopTimeRow) RowFault) (visits : Vec Visit Global) → Gathering start left visits.items → left ≡ Ok [] → Gathers trips stops start (Ok (record { visits = visits; unknown = None }))
-  gathering_end start left visits h e =
-      let n = long start left visits.items h in (
-        h.passing.done,
-        h.passing.told ∙ ap (behind h.passing.done) e ∙ ap (λ rows. Ok rows) (append-nil h.passing.done),
-        record {
-          visits_of = h.visits_of ∙ ap (map (visit_of trips stops)) (sym (ap (λ m. take m h.passing.done) n ∙ take-length h.passing.done));
-          known = λ i row l at. h.known i row at;
-          end = n;
-        },
-      )
-
-  pub gathering_fault : (start left : Result (List StopTimeRow) RowFault) (visits : List Visit) (e : RowFault) → Gathering start left visits → IsCause left (cause_of e) → IsCause start (cause_of e)
-  gathering_fault start left visits e h cause = passing_fault start left e h.passing cause
-
   take_front : (xs ys : List StopTimeRow) → take (length xs) (xs ++ ys) ≡ xs
   take_front [] ys = refl
   take_front (x ∷ xs) ys = ap (λ zs. x ∷ zs) (take_front xs ys)
@@ -120,10 +93,6 @@ module _ (trips : List TripRow) (stops : List StopRow) where
           end = (row, ap (slice_get (h.passing.done ++ row ∷ rest.0)) n ∙ get_next h.passing.done rest.0 row, u);
         },
       )
-
-  -- a fault behind a row
-  pub gathering_later : (start left after : Result (List StopTimeRow) RowFault) (visits : List Visit) (row : StopTimeRow) (e : RowFault) → Gathering start left visits → left ≡ (after >>= λ rows. Ok (row ∷ rows)) → IsCause after (cause_of e) → IsCause start (cause_of e)
-  gathering_later start left after visits row e h is cause = passing_fault start after e (passing_more start left after row h.passing is) cause
 
 below_more : (n : ℕ) (visits : List Visit) (visit : Visit) → ((i : ℕ) (v : Visit) → slice_get visits i ≡ Some v → v.trip < n) → visit.trip < n → (i : ℕ) (v : Visit) → slice_get (visits ++ visit ∷ []) i ≡ Some v → v.trip < n
 below_more n [] visit h l zero v at = subst (λ w. w.trip < n) (same_Some _ _ at) l

@@ -1,6 +1,6 @@
 -- Rows in groups: a value more stands in the group of its number.
-use Rattle.std.proofs.Common.{◌≡◌, ℕ, zero, suc, ◌+◌, ◌<◌, Bool, true, false, not, ◌&&◌, ◌||◌, cond, T, List, [], ◌∷◌, ◌++◌, length, map, get_or, set, take, refl, sym, ap, ◌∙◌, subst, arith}
-use Rattle.std.specs.Prelude.{slice_get, Option, Some, None, is_some, is_none, unwrap_or}
+use Rattle.std.proofs.Common.{◌≡◌, ℕ, zero, suc, ◌+◌, ◌<◌, Bool, true, false, not, ◌&&◌, ◌||◌, cond, List, [], ◌∷◌, ◌++◌, length, map, get_or, set, take, refl, sym, ap, ◌∙◌, arith}
+use Rattle.std.specs.Prelude.{slice_get, Option, Some, is_some, is_none, unwrap_or}
 use Rattle.std.specs.declared.alloc.Global.{Global}
 use Rattle.std.specs.declared.collections.BTreeMap.{BTreeMap}
 use Rattle.std.specs.BTreeMap.{insert_entry, get}
@@ -14,17 +14,15 @@ use Rattle.std.specs.List.{list_any}
 use Rattle.std.specs.Ordering.{eq_by_cmp, is_eq}
 use Rattle.std.specs.FinMap.{nat_cmp-IsAntisymmetric}
 use Rattle.std.proofs.lemmas.Bool.Decides.{nat_tests}
-use Rattle.std.proofs.lemmas.Cmp.{nat_cmp_total, nat_list_cmp_total}
+use Rattle.std.proofs.lemmas.Cmp.{nat_cmp_total}
 use Rattle.std.proofs.lemmas.List.{map-append}
 use Rattle.std.proofs.lemmas.List.Elements.{filter-append}
-use Rattle.std.proofs.lemmas.Map.Text.{is_eq-slice_cmp}
 use Rattle.std.proofs.lemmas.Option.{none-some as none_some, same_Some, slice_get-map}
 use Rattle.sched_types.specs.Timetable.{RisesById, number_of}
 use Rattle.sched_types.proofs.TimetableLaws.{number_leads, one_row}
 use Rattle.sched_load_defs.specs.Numbers.{rows_with_keys}
-use Rattle.std.specs.Cmp.{tied_itself}
 use Rattle.std.specs.Prelude.{option_map}
-use Rattle.sched_load_defs.proofs.Listing.{find_keyed, equal_is}
+use Rattle.sched_load_defs.proofs.Listing.{find_keyed}
 use Rattle.row_tables.proofs.Numbered.{text_from, text_itself}
 use Rattle.std.proofs.lemmas.List.{append-nil}
 use Rattle.sched_load.specs.Listed.{group_of}
@@ -38,10 +36,7 @@ entries_at (x ∷ xs) zero m h e = ap (λ y. y.entries) (sym e)
 entries_at (x ∷ xs) (suc n) m h e = entries_at xs n m (omega (arith, h)) e
 
 not_some : {V : Type 0} (o : Option V) (fresh : Bool) → is_some o ≡ not fresh → fresh ≡ is_none o
-not_some None true e = refl
-not_some None false e = absurd (subst T (sym e) tt)
-not_some (Some x) true e = absurd (subst T e tt)
-not_some (Some x) false e = refl
+not_some o fresh e = grind arith
 
 pub put_in : {V : Type 0} (maps : List (BTreeMap ℕ V Global)) (n key : ℕ) (value : V) (m after : BTreeMap ℕ V Global) (old : Option V) (fresh : Bool) → n < length maps → m ≡ get_or maps n m
     → old ≡ get nat_cmp m key → after.entries ≡ insert_entry nat_cmp m.entries key value → is_some old ≡ not fresh → PutsNew (entries_of maps) (entries_of (set maps n after)) n key value fresh
@@ -71,11 +66,7 @@ map_set_at f h (x ∷ xs) (suc g) y other here =
 
 any_filter : {R V : Type 0} (p : R → Bool) (value : R → V) (test : V → Bool) (rows : List R) → list_any test (map value (filter p rows)) ≡ list_any (λ row. p row && test (value row)) rows
 any_filter p value test [] = refl
-any_filter p value test (row ∷ rows) = by (p row) (any_filter p value test rows)
-  where
-    by : (b : Bool) → list_any test (map value (filter p rows)) ≡ list_any (λ r. p r && test (value r)) rows → list_any test (map value (cond b (row ∷ filter p rows) (filter p rows))) ≡ ((b && test (value row)) || list_any (λ r. p r && test (value r)) rows)
-    by true e = ap (λ c. test (value row) || c) e
-    by false e = e
+any_filter p value test (row ∷ rows) = grind (arith, any_filter p value test rows)
 
 any_alike : {X : Type 0} (p q : X → Bool) (xs : List X) → ((x : X) → p x ≡ q x) → list_any p xs ≡ list_any q xs
 any_alike p q [] same = refl
@@ -88,12 +79,10 @@ not_both : (a b : Bool) → a ≡ b → a ≡ true → b ≡ false → ⊥
 not_both a b e t f = true_false (sym t ∙ e ∙ f)
 
 none_of : {V : Type 0} (o : Option V) → is_none o ≡ true → is_some o ≡ false
-none_of None e = refl
-none_of (Some x) e = absurd (true_false (sym e))
+none_of o e = grind (arith, true_false)
 
 not_none : {V : Type 0} (o : Option V) (fresh : Bool) → fresh ≡ is_none o → is_some o ≡ not fresh
-not_none None fresh e = ap not (sym e)
-not_none (Some x) fresh e = ap not (sym e)
+not_none o fresh e = grind arith
 
 module _ {R V X : Type 0} (gid : R → List ℕ) (key : V → ℕ) (value : R → V) (id_of : X → List ℕ) (xs : List X) (up : RisesById id_of xs) (rows : List R) where
   -- the groups of the first rows

@@ -1,6 +1,6 @@
 -- What is true of the rows of any file that was read.
-use Rattle.std.proofs.Common.{◌≡◌, ℕ, zero, suc, ◌+◌, ◌≤◌, Bool, true, false, List, [], ◌∷◌, length, map, refl, sym, ap, ◌∙◌, subst, arith, nat_le}
-use Rattle.std.specs.Prelude.{Option, Some, None, Result, Ok, Err, slice_get, if◌then◌else◌, nat_lt}
+use Rattle.std.proofs.Common.{◌≡◌, ℕ, zero, suc, ◌+◌, ◌≤◌, Bool, List, [], ◌∷◌, length, map, refl, sym, ap, ◌∙◌, subst, arith, nat_le}
+use Rattle.std.specs.Prelude.{Option, Some, Result, Ok, Err, slice_get, if◌then◌else◌}
 use Rattle.std.specs.List.{enumerate_from}
 use Rattle.std.proofs.lemmas.Bool.Decides.{nat_tests}
 use Rattle.std.proofs.lemmas.Option.{none-some as none_some, same_Some}
@@ -12,14 +12,12 @@ use Rattle.gtfs_rows.specs.declared.column.Column.{Column}
 use Rattle.gtfs_rows.specs.declared.fault.RowFault.{RowFault}
 use Rattle.gtfs_rows.specs.declared.fault.RowFault.TheVariants as fault
 use Rattle.sched_load_defs.specs.declared.fault.File.{File}
-use Rattle.sched_load_defs.specs.declared.fault.LoadFault.TheVariants as load
-use Rattle.sched_load_defs.specs.Files.{of_file, longest_file, most_rows}
+use Rattle.sched_load_defs.specs.Files.{of_file, most_rows}
 use Rattle.sched_load.specs.Listed.{file_rows}
 
 -- what a chain gave, its parts gave
 pub and_then_ok : {A B C : Type 0} (r : Result A RowFault) (f : A → Result B RowFault) (y : B) → ◌>>=◌ r f ≡ Ok y → ((x : A) → r ≡ Ok x → f x ≡ Ok y → C) → C
-and_then_ok (Ok x) f y e k = k x refl e
-and_then_ok (Err e) f y h k = absurd cc
+and_then_ok r f y e k = grind arith
 
 -- each row that columns give is so
 abbrev pub AreWithin : {R : Type 0} → Columns R → (R → Type 0) → Type 0
@@ -27,19 +25,11 @@ AreWithin {R} columns P = (row : ℕ) (cells : Column → List ℕ) (x : R) → 
 
 module _ {R : Type 0} (columns : Columns R) (P : R → Type 0) (within : AreWithin columns P) (cells : List (List ℕ) → Column → List ℕ) where
   row_small : (row : ℕ) (fields : List (List ℕ)) (x : R) (b : Bool) → nat_le row 4000001 ≡ b → (if b then columns.read row (cells fields) else Err fault.TooMany) ≡ Ok x → (row ≤ 4000001) × P x
-  row_small row fields x true e h = (grind (arith, nat_tests, e), within row (cells fields) x h)
-  row_small row fields x false e h = absurd cc
+  row_small row fields x b e h = grind (arith, nat_tests)
 
   few_from : (row : ℕ) (recs : List (List (List ℕ))) (xs : List R) → all_ok (map (row_of columns cells) (enumerate_from row recs)) ≡ Ok xs → row ≤ 4000002 → length xs + row ≤ 4000002
   few_from row [] xs e h = let none : [] ≡ xs = cc in let long : length xs ≡ 0 = ap length (sym none) in omega (arith, long, h)
-  few_from row (fields ∷ recs) xs e h =
-      and_then_ok (row_of columns cells (row, fields)) (λ x. ◌>>=◌ (all_ok (map (row_of columns cells) (enumerate_from (row + 1) recs))) (λ ys. Ok (x ∷ ys))) xs e
-      (λ x first rest. and_then_ok (all_ok (map (row_of columns cells) (enumerate_from (row + 1) recs))) (λ ys. Ok (x ∷ ys)) xs rest
-      (λ ys more last.
-      let small = (row_small row fields x (nat_le row 4000001) refl first).0 in
-      let again = few_from (row + 1) recs ys more (omega (arith, small)) in
-      let is : x ∷ ys ≡ xs = cc in
-      subst (λ zs. length zs + row ≤ 4000002) is (omega (arith, again))))
+  few_from row (fields ∷ recs) xs e h = grind (arith, few_from (row + 1) recs, nat_tests)
 
   each_from : (row : ℕ) (recs : List (List (List ℕ))) (xs : List R) → all_ok (map (row_of columns cells) (enumerate_from row recs)) ≡ Ok xs → (i : ℕ) (x : R) → slice_get xs i ≡ Some x → P x
   each_from row [] xs e i x at = let none : [] ≡ xs = cc in absurd (none_some x (ap (λ ys. slice_get ys i) none ∙ at))
@@ -57,8 +47,7 @@ module _ {R : Type 0} (columns : Columns R) (P : R → Type 0) (within : AreWith
 module _ {R : Type 0} (columns : Columns R) (P : R → Type 0) (within : AreWithin columns P) where
   under : (C : Type 0) (header : List (List ℕ)) (recs : List (List (List ℕ))) (xs : List R) (missing : Option Column) → unless_missing missing (rows_from columns (cell_of header) 2 recs) ≡ Ok xs → (all_ok (map (row_of columns (cell_of header)) (enumerate_from 2 recs)) ≡ Ok xs → C) → C
   unfolding rows_from
-  under C header recs xs None e k = k e
-  under C header recs xs (Some column) e k = absurd cc
+  under C header recs xs missing e k = grind arith
 
   from_records : (C : Type 0) (recs : List (List (List ℕ))) (xs : List R) → rows_of_records columns recs ≡ Ok xs → ((cells : List (List ℕ) → Column → List ℕ) (rest : List (List (List ℕ))) → all_ok (map (row_of columns cells) (enumerate_from 2 rest)) ≡ Ok xs → C) → C
   from_records C [] xs e k = under C [] [] xs (first_missing [] columns.headings) e (k (cell_of []) [])
@@ -73,22 +62,10 @@ module _ {R : Type 0} (columns : Columns R) (P : R → Type 0) (within : AreWith
   rows_within bytes xs e = from_records ((i : ℕ) (x : R) → slice_get xs i ≡ Some x → P x) (records default_config (strip_bom bytes)) xs e (λ cells rest h. each_from columns P within cells 2 rest xs h)
 
 of_file_ok : {A : Type 0} (name : File) (r : Result A RowFault) (x : A) → of_file name r ≡ Ok x → r ≡ Ok x
-of_file_ok name (Ok y) x e = let is : y ≡ x = cc in ap Ok is
-of_file_ok name (Err f) x e = absurd cc
+of_file_ok name r x e = grind arith
 
 file_ok : {R C : Type 0} (required : Bool) (name : File) (columns : Columns R) (bytes : Option (List ℕ)) (xs : List R) → file_rows required name columns bytes ≡ Ok xs → (xs ≡ [] → C) → ((b : List ℕ) → rows_of columns b ≡ Ok xs → C) → C
-file_ok {C = C} true name columns None xs e none some = absurd cc
-file_ok {C = C} false name columns None xs e none some = let is : [] ≡ xs = cc in none (sym is)
-file_ok {C = C} true name columns (Some b) xs e none some = by (nat_lt longest_file (length b)) e
-  where
-    by : (t : Bool) → (if t then Err (load.TooLong name) else of_file name (rows_of columns b)) ≡ Ok xs → C
-    by true h = absurd cc
-    by false h = some b (of_file_ok name (rows_of columns b) xs h)
-file_ok {C = C} false name columns (Some b) xs e none some = by (nat_lt longest_file (length b)) e
-  where
-    by : (t : Bool) → (if t then Err (load.TooLong name) else of_file name (rows_of columns b)) ≡ Ok xs → C
-    by true h = absurd cc
-    by false h = some b (of_file_ok name (rows_of columns b) xs h)
+file_ok required name columns bytes xs e none some = grind (arith, of_file_ok, nat_tests)
 
 abbrev pub Anything : {A : Type 0} → A → Type 0
 Anything x = Unit {0}

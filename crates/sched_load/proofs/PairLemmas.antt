@@ -1,5 +1,5 @@
 -- Elements of a list by their places, two at a time.
-use Rattle.std.proofs.Common.{◌≡◌, ℕ, zero, suc, ◌<◌, ◌≤◌, Bool, true, false, not, ◌&&◌, ◌||◌, ◌==◌, cond, T, List, [], ◌∷◌, length, take, get_or, filter, find, refl, sym, ap, ◌∙◌, subst, arith}
+use Rattle.std.proofs.Common.{◌≡◌, ℕ, zero, suc, ◌<◌, ◌≤◌, Bool, true, false, not, ◌&&◌, ◌||◌, ◌==◌, cond, T, List, [], ◌∷◌, length, take, filter, find, refl, sym, ap, ◌∙◌, subst, arith}
 use Rattle.std.specs.Prelude.{slice_get, Option, Some, None}
 use Rattle.std.specs.List.{list_any}
 use Rattle.std.specs.List.Sorted.{IsNonDecreasingBy, ties}
@@ -46,13 +46,7 @@ pairs_weaker P Q xs f h = record { at = λ i j x y l a b. f x y (h.at i j x y l 
 
 -- keys that don't fall
 pub pairs_rise : {X : Type 0} (key : X → ℕ) (xs : List X) → IsNonDecreasingBy key xs → Pairs (λ x y. key x ≤ key y) xs
-pairs_rise key xs h = record {
-  at = λ i j x y l a b.
-      let e = get_or_from_slice_get xs i x x a in
-      let f = get_or_from_slice_get xs j y x b in
-      let le = h i j x (omega (arith, l)) (slice_get_within xs j y b) in
-      subst (λ z. key z ≤ key y) e (subst (λ z. key (get_or xs i x) ≤ key z) f le);
-}
+pairs_rise key xs h = grind (arith, get_or_from_slice_get, slice_get_within)
 
 -- a filtered list where no two elements pass has one at most
 pub one_kept : {X : Type 0} (p : X → Bool) (xs : List X) → Pairs (λ x y. (p x && p y) ≡ false) xs → length (filter p xs) ≤ 1
@@ -100,22 +94,12 @@ two_kept {X = X} p (z ∷ zs) (suc i) (suc j) x y l a b e f = by (p z) (two_kept
 -- filters in either order
 pub filter_swap : {X : Type 0} (p q : X → Bool) (xs : List X) → filter p (filter q xs) ≡ filter q (filter p xs)
 filter_swap p q [] = refl
-filter_swap p q (x ∷ xs) = by (p x) (q x) refl refl (filter_swap p q xs)
-  where
-    by : (a b : Bool) → p x ≡ a → q x ≡ b → filter p (filter q xs) ≡ filter q (filter p xs) → filter p (cond b (x ∷ filter q xs) (filter q xs)) ≡ filter q (cond a (x ∷ filter p xs) (filter p xs))
-    by true true e f r = ap (λ c. cond c (x ∷ filter p (filter q xs)) (filter p (filter q xs))) e ∙ ap (λ zs. x ∷ zs) r ∙ sym (ap (λ c. cond c (x ∷ filter q (filter p xs)) (filter q (filter p xs))) f)
-    by true false e f r = r ∙ sym (ap (λ c. cond c (x ∷ filter q (filter p xs)) (filter q (filter p xs))) f)
-    by false true e f r = ap (λ c. cond c (x ∷ filter p (filter q xs)) (filter p (filter q xs))) e ∙ r
-    by false false e f r = r
+filter_swap p q (x ∷ xs) = grind (arith, filter_swap p q xs)
 
 -- one filter behind another is both at once
 pub filter_twice : {X : Type 0} (p q : X → Bool) (xs : List X) → filter p (filter q xs) ≡ filter (λ x. q x && p x) xs
 filter_twice p q [] = refl
-filter_twice p q (x ∷ xs) = by (q x) (filter_twice p q xs)
-  where
-    by : (b : Bool) → filter p (filter q xs) ≡ filter (λ z. q z && p z) xs → filter p (cond b (x ∷ filter q xs) (filter q xs)) ≡ cond (b && p x) (x ∷ filter (λ z. q z && p z) xs) (filter (λ z. q z && p z) xs)
-    by true r = ap (λ zs. cond (p x) (x ∷ zs) zs) r
-    by false r = r
+filter_twice p q (x ∷ xs) = grind (arith, filter_twice p q xs)
 
 abbrev pub first_in : {X : Type 0} → List X → Option X
 first_in [] = None
@@ -124,11 +108,7 @@ first_in (x ∷ xs) = Some x
 -- what is found is the first that passes
 pub find_first : {X : Type 0} (p : X → Bool) (xs : List X) → find p xs ≡ first_in (filter p xs)
 find_first p [] = refl
-find_first p (x ∷ xs) = by (p x) (find_first p xs)
-  where
-    by : (b : Bool) → find p xs ≡ first_in (filter p xs) → cond b (Some x) (find p xs) ≡ first_in (cond b (x ∷ filter p xs) (filter p xs))
-    by true r = refl
-    by false r = r
+find_first p (x ∷ xs) = grind (arith, find_first p xs)
 
 -- none of the first elements passes
 pub any_false : {X : Type 0} (p : X → Bool) (n : ℕ) (xs : List X) → ((k : ℕ) (x : X) → k < n → slice_get xs k ≡ Some x → p x ≡ false) → list_any p (take n xs) ≡ false
@@ -155,6 +135,4 @@ ties_eq : (a b : ℕ) → (not (is_lt (nat_cmp a b)) && not (is_lt (nat_cmp b a)
 ties_eq a b = grind (arith, nat_tests)
 
 pub stable_kept : {X : Type 0} (key : X → ℕ) (x : X) (xs ys : List X) → filter (ties (λ v w. is_lt (nat_cmp (key v) (key w))) x) ys ≡ filter (ties (λ v w. is_lt (nat_cmp (key v) (key w))) x) xs → filter (λ y. key y == key x) ys ≡ filter (λ y. key y == key x) xs
-stable_kept {X = X} key x xs ys h =
-    let same = λ (y : X). ties_eq (key x) (key y) in
-    sym (filter_agree (ties (λ v w. is_lt (nat_cmp (key v) (key w))) x) (λ y. key y == key x) same ys) ∙ h ∙ filter_agree (ties (λ v w. is_lt (nat_cmp (key v) (key w))) x) (λ y. key y == key x) same xs
+stable_kept key x xs ys h = grind (arith, filter_agree, ties_eq, nat_tests)

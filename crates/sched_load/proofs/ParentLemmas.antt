@@ -1,13 +1,13 @@
 -- The stops whose parent_station is a stop, one after another.
-use Rattle.std.proofs.Common.{◌≡◌, ℕ, ◌+◌, ◌≤◌, Bool, true, false, ◌||◌, List, [], length, ap, ◌∙◌}
-use Rattle.std.specs.Prelude.{slice_get, Some, None, bytes_eq, Err, Ok, if◌then◌else◌}
+use Rattle.std.proofs.Common.{◌≡◌, ℕ, ◌+◌, Bool, true, false, ◌||◌, List, [], ap, ◌∙◌}
+use Rattle.std.specs.Prelude.{slice_get, Some, None, bytes_eq, Err, if◌then◌else◌}
 use Rattle.answer_defs.specs.Steps.{unless}
 use Rattle.gtfs_rows.specs.declared.column.Column.TheVariants as column
 use Rattle.gtfs_rows.specs.declared.rows.StopRow.{StopRow}
 use Rattle.sched_load_defs.specs.declared.fault.File.TheVariants as file
 use Rattle.sched_load_defs.specs.declared.fault.LoadFault.TheVariants as fault
 use Rattle.sched_load_defs.specs.References.{parent_fault, with_parents, has_id, row_at}
-use Rattle.row_tables.proofs.Faults.{faults_from, fault_at, fault_behind, no_fault}
+use Rattle.row_tables.proofs.Faults.{faults_from, fault_at, fault_behind}
 
 module _ (rows : List StopRow) (n : ℕ) where
   parent_is : (row : StopRow) (fine : Bool) → (bytes_eq row.parent_station [] || has_id (λ stop. stop.stop_id) rows row.parent_station) ≡ fine
@@ -21,6 +21,3 @@ module _ (rows : List StopRow) (n : ℕ) where
   pub parents_more : (row : StopRow) → faults_from (parent_fault rows) rows 0 ≡ faults_from (parent_fault rows) rows n → slice_get rows n ≡ Some row → (bytes_eq row.parent_station [] || has_id (λ stop. stop.stop_id) rows row.parent_station) ≡ true
       → faults_from (parent_fault rows) rows 0 ≡ faults_from (parent_fault rows) rows (n + 1)
   parents_more row told at e = told ∙ fault_behind (parent_fault rows) rows n row at (parent_is row true e)
-
-  pub parents_all : length rows ≤ n → faults_from (parent_fault rows) rows 0 ≡ faults_from (parent_fault rows) rows n → with_parents rows ≡ Ok rows
-  parents_all h told = ap (λ o. unless o rows) (told ∙ no_fault (parent_fault rows) rows n h)

@@ -1,11 +1,10 @@
 -- The parts of the plan are those of the timetable.
-use Rattle.std.proofs.Common.{◌≡◌, ℕ, suc, ◌+◌, ◌≤◌, Bool, true, false, cond, List, [], ◌∷◌, length, map, refl, sym, ap, ◌∙◌, subst, arith, nat_cmp}
+use Rattle.std.proofs.lemmas.Bool.Decides.{nat_tests}
+use Rattle.std.proofs.Common.{◌≡◌, ℕ, suc, ◌+◌, ◌≤◌, Bool, true, cond, List, [], ◌∷◌, length, map, refl, sym, ap, ◌∙◌, subst, arith, nat_cmp}
 use Rattle.std.specs.Prelude.{slice_get, Option, Some, None, option_map, unwrap_or, filter, find, zip, bytes_eq, if◌then◌else◌, ◌==◌}
 use Rattle.std.specs.List.{range_with_len}
 use Rattle.std.specs.Cmp.Lexicographic.{slice_cmp}
-use Rattle.std.specs.Ordering.{eq_by_cmp}
 use Rattle.std.specs.FinMap.Entries.{find as find_at}
-use Rattle.std.specs.FinMap.{nat_cmp-IsAntisymmetric}
 use Rattle.std.proofs.lemmas.Cmp.{nat_cmp_total}
 use Rattle.std.proofs.lemmas.List.{length-map}
 use Rattle.std.proofs.lemmas.Option.{none-some as none_some, slice_get-map}
@@ -24,15 +23,14 @@ use Rattle.sched_types.specs.declared.rows.Place.{Place}
 use Rattle.sched_types.specs.declared.rows.PlanPattern.{PlanPattern}
 use Rattle.sched_types.specs.declared.rows.PlanDerived.{PlanDerived}
 use Rattle.text_defs.specs.Dates.{date_plus}
-use Rattle.service_day.specs.Service as service
-use Rattle.service_day.specs.Service.{exception_on, is_active, is_regular}
+use Rattle.service_day.specs.Service.{exception_on, is_active}
 use Rattle.service_day.specs.declared.services.Exception.{Exception}
 use Rattle.sched_types.specs.Timetable.{number_of}
 use Rattle.sched_types.proofs.TimetableLaws.{number_leads, own_number}
 use Rattle.sched_load_defs.specs.declared.fault.File.TheVariants as file
-use Rattle.sched_load_defs.specs.Numbers.{Dataset, agency_ids, agency_of, by_id, given_times, timetable_of, place_of, places_with, route_of, route_rows, service_ids, stop_of, stop_rows, stop_times_of, trip_of, trip_rows}
-use Rattle.sched_load_defs.specs.Services.{active_days, calendar_of, exceptions_of, flags_of, is_active_by}
-use Rattle.sched_load_defs.specs.Times.{Times, all_times}
+use Rattle.sched_load_defs.specs.Numbers.{Dataset, agency_ids, agency_of, by_id, timetable_of, place_of, places_with, route_of, route_rows, service_ids, stop_of, stop_rows, stop_times_of, trip_of, trip_rows}
+use Rattle.sched_load_defs.specs.Services.{active_days, calendar_of, exceptions_of, is_active_by}
+use Rattle.sched_load_defs.specs.Times.{Times}
 use Rattle.sched_load_defs.proofs.Listing.{find_keyed}
 use Rattle.sched_load.specs.declared.visits.Visit.{Visit}
 use Rattle.sched_load.specs.Built.{AreSmall, agency_in, places_of_trip, route_in}
@@ -89,9 +87,7 @@ zip_visits d (row ∷ rows) [] = refl
 zip_visits d (row ∷ rows) (t ∷ ts) = ap (λ rest. place_of d (row, t) ∷ rest) (zip_visits d rows ts)
 
 places_one : (d : Dataset) (rows : List StopTimeRow) → places_in (map (visit_of d.trips d.stops) rows) ≡ places_with d rows
-places_one d rows =
-    ap (λ ts. map place_in (zip (map (visit_of d.trips d.stops) rows) (all_times ts))) (given_rows d.trips d.stops rows)
-    ∙ zip_visits d rows (all_times (given_times rows))
+places_one d rows = grind (arith, given_rows, zip_visits)
 
 range_map : {X Y : Type 0} (f : ℕ → Y) (h : X → Y) (a : ℕ) (xs : List X) → ((i : ℕ) (x : X) → slice_get xs i ≡ Some x → f (a + i) ≡ h x) → map f (range_with_len a (length xs)) ≡ map h xs
 range_map f h a [] same = refl
@@ -121,21 +117,10 @@ filter_alike p q (x ∷ xs) same = ap (λ b. cond b (x ∷ filter p xs) (filter 
 
 runs_is : (row : Option CalendarRow) (exceptions : List Exception) (date : ℕ) → runs_by row (exception_on date exceptions) date ≡ is_active_by row exceptions date
 unfolding is_active
-runs_is None exceptions date = by (exception_on date exceptions)
-  where
-    by : (o : Option Exception) → runs_by None o date ≡ service.is_active_by o (is_regular 0 0 0 date)
-    by None = refl
-    by (Some e) = refl
-runs_is (Some row) exceptions date = by (exception_on date exceptions)
-  where
-    by : (o : Option Exception) → runs_by (Some row) o date ≡ service.is_active_by o (is_regular (flags_of row) row.start_date row.end_date date)
-    by None = refl
-    by (Some e) = refl
+runs_is row exceptions date = grind arith
 
 found_is : (rows : List ExceptionRow) (id : List ℕ) (date : ℕ) → find_at nat_cmp date (group_of (λ row. row.service_id) (λ e. e.date) exception_of rows id) ≡ exception_on date (exceptions_of rows id)
-found_is rows id date =
-    find_keyed nat_cmp nat_cmp_total nat_cmp-IsAntisymmetric (λ (e : Exception). e.date) date (exceptions_of rows id)
-    ∙ find_alike (λ (e : Exception). eq_by_cmp nat_cmp date e.date) (λ e. e.date == date) (exceptions_of rows id) (λ e. turned_eq date e.date)
+found_is rows id date = grind (arith, find_alike, find_keyed, nat_cmp_total, turned_eq, nat_tests)
 
 active_one : (calendar : List CalendarRow) (rows : List ExceptionRow) (first days : ℕ) (id : List ℕ) → active_by calendar first days (id, group_of (λ row. row.service_id) (λ e. e.date) exception_of rows id) ≡ active_days calendar rows first days id
 active_one calendar rows first days id =
@@ -149,15 +134,10 @@ active_are calendar rows first days (id ∷ ids) = ap (λ x. x ∷ map (active_b
 -- groups of stop times are small
 pub filter_short : {X : Type 0} (p : X → Bool) (xs : List X) → length (filter p xs) ≤ length xs
 filter_short p [] = omega arith
-filter_short p (x ∷ xs) = by (p x) (filter_short p xs)
-  where
-    by : (b : Bool) → length (filter p xs) ≤ length xs → length (cond b (x ∷ filter p xs) (filter p xs)) ≤ length (x ∷ xs)
-    by true h = omega (arith, h)
-    by false h = omega (arith, h)
+filter_short p (x ∷ xs) = grind (arith, filter_short p xs)
 
 pickup_small : (o : Option ℕ) → AtMost 3 o → unwrap_or o 0 ≤ 3
-pickup_small None h = omega arith
-pickup_small (Some n) h = h
+pickup_small o h = grind arith
 
 map_each : {A B : Type 0} (P : A → Type 0) (Q : B → Type 0) (f : A → B) (xs : List A) → ((x : A) → P x → Q (f x)) → Each P xs → Each Q (map f xs)
 map_each P Q f xs g h = λ i y at. let m = mapped_at f xs i y at in subst Q m.2 (g m.0 (h i m.0 m.1))

@@ -1,6 +1,6 @@
 -- Services as they are gathered, and the rows of calendar_dates.txt, one after another.
-use Rattle.std.proofs.Common.{◌≡◌, ℕ, zero, suc, ◌+◌, ◌<◌, Bool, true, false, not, ◌&&◌, ◌||◌, List, [], ◌∷◌, ◌++◌, length, map, take, get_or, nat_eq, refl, sym, ap, ◌∙◌, subst}
-use Rattle.std.specs.Prelude.{slice_get, Option, Some, None, is_some, bytes_eq, Result, Err, Ok, IfOk, Vec, option_map}
+use Rattle.std.proofs.Common.{◌≡◌, ℕ, zero, suc, ◌+◌, ◌<◌, Bool, true, false, not, ◌&&◌, ◌||◌, List, [], ◌∷◌, ◌++◌, length, map, take, get_or, nat_eq, refl, sym, ap, ◌∙◌, subst, arith}
+use Rattle.std.specs.Prelude.{slice_get, Option, Some, is_some, bytes_eq, Result, Err, IfOk, Vec, option_map}
 use Rattle.std.specs.declared.alloc.AllocError.{AllocError}
 use Rattle.std.specs.declared.alloc.Global.{Global}
 use Rattle.std.specs.List.{list_any}
@@ -31,8 +31,7 @@ use Rattle.row_tables.proofs.Places.{text_cmp, text_inserted, true_false}
 use Rattle.row_tables.proofs.Numbered.{has_by_number, text_same, text_itself}
 
 or_true : (a b : Bool) → b ≡ true → (a || b) ≡ true
-or_true true b e = refl
-or_true false b e = e
+or_true a b e = grind arith
 
 gathered_push : (ids : List (List ℕ)) (id : List ℕ) → ids_gathered (ids ++ id ∷ []) ≡ put (slice_cmp nat_cmp) id tt (ids_gathered ids)
 gathered_push ids id =
@@ -79,8 +78,7 @@ module _ (services : List (List ℕ)) (up : RisesById (λ id. id) services) (row
   )
 
 pub gathered_ok : (names : Result (Vec (List ℕ) Global) AllocError) (ids : List (List ℕ)) (es : List (List ℕ × Unit {0})) → IfOk names (λ v. v.items ≡ map (λ entry. entry.0) es) → es ≡ ids_gathered ids → IfOk names (λ v. v.items ≡ by_id (λ id. id) ids)
-gathered_ok (Ok v) ids es h e = h ∙ ap (map (λ (entry : List ℕ × Unit {0}). entry.0)) e ∙ gathered_all ids
-gathered_ok (Err x) ids es h e = tt
+gathered_ok names ids es h e = grind (arith, gathered_all)
 
 -- a service that a row of calendar_dates.txt names has a number
 pub any_at : {X : Type 0} (test : X → Bool) (xs : List X) (k : ℕ) (x : X) → slice_get xs k ≡ Some x → test x ≡ true → list_any test xs ≡ true
@@ -93,8 +91,7 @@ any_behind test [] ys e = e
 any_behind test (x ∷ xs) ys e = or_true (test x) (list_any test (xs ++ ys)) (any_behind test xs ys e)
 
 pub some_of : {A : Type 0} (o : Option A) → is_some o ≡ true → (x : A) × (o ≡ Some x)
-some_of None e = absurd (true_false (sym e))
-some_of (Some x) e = (x, refl)
+some_of o e = grind (arith, true_false)
 
 pub known_service : (before : List (List ℕ)) (rows : List ExceptionRow) (i : ℕ) (row : ExceptionRow) → slice_get rows i ≡ Some row → (number : ℕ) × (number_of (λ id. id) (by_id (λ id. id) (before ++ map (λ r. r.service_id) rows)) row.service_id ≡ Some number)
 known_service before rows i row at =

@@ -1,5 +1,5 @@
 -- The timetable of consistent rows whose times are in order is one.
-use Rattle.std.proofs.Common.{◌≡◌, ℕ, zero, suc, ◌+◌, ◌<◌, ◌≤◌, ◌^◌, Bool, true, false, ◌&&◌, ◌||◌, cond, List, [], ◌∷◌, ◌++◌, length, map, refl, sym, ap, ◌∙◌, subst, arith}
+use Rattle.std.proofs.Common.{◌≡◌, ℕ, zero, suc, ◌+◌, ◌<◌, ◌≤◌, ◌^◌, Bool, true, false, cond, List, [], ◌∷◌, ◌++◌, length, map, refl, sym, ap, ◌∙◌, subst, arith}
 use Rattle.std.specs.Prelude.{slice_get, Option, Some, None, option_map, unwrap_or, filter, zip, bytes_eq, Ok, if◌then◌else◌, sum_by, IsTrue, ◌==◌, ℤ}
 use Rattle.std.specs.Ordering.{nat_cmp, is_eq}
 use Rattle.std.specs.Cmp.Lexicographic.{slice_cmp}
@@ -30,10 +30,10 @@ use Rattle.sched_load_defs.specs.declared.fault.File.{File}
 use Rattle.sched_load_defs.specs.declared.fault.File.TheVariants as file
 use Rattle.sched_load_defs.specs.declared.fault.LoadFault.{LoadFault}
 use Rattle.sched_load_defs.specs.Loading.{times_fault, with_times}
-use Rattle.sched_load_defs.specs.References.{consistent, first_fault, has_id, row_fault, unless_known, unknown_in_trip, unknown_in_stop_time}
+use Rattle.sched_load_defs.specs.References.{consistent, first_fault, has_id, unless_known, unknown_in_trip}
 use Rattle.sched_load_defs.specs.Numbers.{Dataset, agency_ids, agency_of, by_id, given_times, rows_with_keys, known_number, rows_by_key, timetable_of, place_of, places_with, route_of, route_rows, service_ids, stop_of, stop_rows, stop_times_of, trip_of, trip_rows}
 use Rattle.sched_load_defs.specs.Services.{active_days}
-use Rattle.sched_load_defs.specs.Times.{Times, all_times, are_times, times_of}
+use Rattle.sched_load_defs.specs.Times.{Times, all_times, are_times}
 use Rattle.sched_load_defs.proofs.Moves.{InOrder, all_in_order}
 use Rattle.freq_runs.specs.Trips.{time_end}
 use Rattle.sched_load.specs.Days.{EachSmall}
@@ -106,21 +106,16 @@ no_fault_at f a (y ∷ ys) e (suc i) x at = no_fault_at f (a + 1) ys (behind (f 
     behind (Some z) h = absurd (none_some z (sym h))
 
 unless_ok : {A : Type 0} (o : Option LoadFault) (x y : A) → unless o x ≡ Ok y → o ≡ None
-unless_ok None x y e = refl
-unless_ok (Some z) x y e = absurd cc
+unless_ok o x y e = grind arith
 
 first_none : (a b : Option LoadFault) → or_else a b ≡ None → a ≡ None
-first_none None b h = refl
-first_none (Some z) b h = h
+first_none a b h = grind arith
 
 none_mapped : (o : Option Column) (f : Column → LoadFault) → option_map f o ≡ None → o ≡ None
-none_mapped None f h = refl
-none_mapped (Some c) f h = absurd (none_some _ (sym h))
+none_mapped o f h = grind arith
 
 pub refers : {R : Type 0} (name : File) (unknown : R → Option Column) (same : R → R → Bool) (rows : List R) → consistent name unknown same rows ≡ Ok rows → Each (λ row. unknown row ≡ None) rows
-refers name unknown same rows e = λ i row at.
-    let none = no_fault_at (row_fault name unknown same rows) 0 rows (unless_ok _ rows rows e) i row at in
-    none_mapped (unknown row) _ (first_none _ _ none.1)
+refers name unknown same rows e = grind (arith, first_none, no_fault_at, none_mapped, unless_ok)
 
 -- a number that is found lies within the rows
 pub number_within : {R : Type 0} (id_of : R → List ℕ) (rows : List R) (id : List ℕ) (n : ℕ) → number_of id_of rows id ≡ Some n → n < length rows
@@ -133,22 +128,13 @@ known_within id_of rows id e =
 
 -- ids of rows that are made of others rise as theirs
 pub rises_map : {R X : Type 0} (id : R → List ℕ) (id_of : X → List ℕ) (f : R → X) (rows : List R) → RisesById id rows → ((r : R) → id_of (f r) ≡ id r) → RisesById id_of (map f rows)
-rises_map id id_of f rows up same = record {
-  rise = λ i j x y l a b.
-      let p = mapped_at f rows i x a in
-      let q = mapped_at f rows j y b in
-      subst (λ z. slice_cmp nat_cmp (id_of z) (id_of y) ≡ Less) p.2
-      (subst (λ z. slice_cmp nat_cmp (id_of (f p.0)) (id_of z) ≡ Less) q.2
-      (ap (λ z. slice_cmp nat_cmp z (id_of (f q.0))) (same p.0) ∙ ap (slice_cmp nat_cmp (id p.0)) (same q.0) ∙ up.rise i j p.0 q.0 l p.1 q.1));
-}
+rises_map id id_of f rows up same = grind (arith, mapped_at)
 
 pub known_if : (b : Bool) (c : Column) → unless_known c b ≡ None → b ≡ true
-known_if true c e = refl
-known_if false c e = absurd (none_some c (sym e))
+known_if b c e = grind arith
 
 and_front : (b : Bool) (e : LoadFault) → (if b then None else Some e) ≡ None → b ≡ true
-and_front true e h = refl
-and_front false e h = absurd (none_some e (sym h))
+and_front b e h = grind arith
 
 -- pairs of two lists
 zip_at : {A B C : Type 0} (f : A × B → C) (xs : List A) (ys : List B) (i : ℕ) (c : C) → slice_get (map f (zip xs ys)) i ≡ Some c → (x : A) × (y : B) × (slice_get xs i ≡ Some x) × (slice_get ys i ≡ Some y) × (f (x, y) ≡ c)
@@ -184,9 +170,7 @@ first_after before (x ∷ xs) u h at = subst (λ (y : Times). before ≤ y.arriv
 move_at : (before : ℕ) (ts : List Times) (i : ℕ) (t u : Times) → InOrder before ts → slice_get ts i ≡ Some t → slice_get ts (i + 1) ≡ Some u → t.departure ≤ u.arrival
 move_at before [] i t u h at after = absurd (none_some t at)
 move_at before (x ∷ xs) zero t u h at after = subst (λ (y : Times). y.departure ≤ u.arrival) (same_Some _ _ at) (first_after x.departure xs u h.2 after)
-move_at before (x ∷ xs) (suc i) t u h at after =
-    let more : suc i + 1 ≡ suc (i + 1) = omega arith in
-    move_at x.departure xs i t u h.2 at (ap (slice_get (x ∷ xs)) (sym more) ∙ after)
+move_at before (x ∷ xs) (suc i) t u h at after = grind (arith, move_at x.departure xs i t u h.2 at)
 
 -- numbers of a window that pass a test
 range_at : (test : ℕ → Bool) (a n i x : ℕ) → slice_get (filter test (range_with_len a n)) i ≡ Some x → (a ≤ x) × (x < a + n)
@@ -222,8 +206,7 @@ module _ {X R : Type 0} (id : X → List ℕ) (gid : R → List ℕ) where
   one_if q x = if bytes_eq q (id x) then 1 else 0
 
   is_zero : (b : Bool) → b ≡ false → let z : ℕ = 0 in (if b then 1 else z) ≡ z
-  is_zero true e = absurd (true_false e)
-  is_zero false e = refl
+  is_zero b e = grind (arith, true_false)
 
   sum_none : (q : List ℕ) (xs : List X) → Each (λ x. bytes_eq q (id x) ≡ false) xs → sum_by (one_if q) xs ≡ 0
   sum_none q [] h = refl
@@ -252,8 +235,7 @@ module _ {X R : Type 0} (id : X → List ℕ) (gid : R → List ℕ) where
   sum_zero (x ∷ xs) = let r = sum_zero xs in let c = sum_cons (λ (y : X). 0) x xs in omega (arith, r, c)
 
   one_more : (b : Bool) (row : R) (rest : List R) → length (cond b (row ∷ rest) rest) ≡ (if b then 1 else 0) + length rest
-  one_more true row rest = omega arith
-  one_more false row rest = omega arith
+  one_more b row rest = grind arith
 
   sum_groups : (xs : List X) → RisesById id xs → (rows : List R) → sum_by (λ x. length (filter (λ row. bytes_eq (gid row) (id x)) rows)) xs ≤ length rows
   sum_groups xs up [] = let z = sum_zero xs in omega (arith, z)
@@ -284,17 +266,9 @@ sum_map g f (x ∷ xs) = let r = sum_map g f xs in let a = sum_cons g (f x) (map
 less_is : (a b : ℕ) → nat_cmp a b ≡ Less → a < b
 less_is a b e = grind (arith, nat_tests, e)
 
-or_front : (a b : Bool) → a ≡ true → (a || b) ≡ true
-or_front true b e = refl
-or_front false b e = absurd (true_false (sym e))
-
 any_front : {X : Type 0} (test : X → Bool) (xs ys : List X) → list_any test xs ≡ true → list_any test (xs ++ ys) ≡ true
 any_front test [] ys e = absurd (true_false (sym e))
-any_front test (x ∷ xs) ys e = by (test x) e (any_front test xs ys)
-  where
-    by : (b : Bool) → (b || list_any test xs) ≡ true → (list_any test xs ≡ true → list_any test (xs ++ ys) ≡ true) → (b || list_any test (xs ++ ys)) ≡ true
-    by true h more = refl
-    by false h more = more h
+any_front test (x ∷ xs) ys e = grind (arith, any_front test xs ys)
 
 in_order_none : (d : Dataset) → with_times d ≡ Ok d → first_fault (times_fault d) (enumerate_from 0 d.trips) ≡ None
 unfolding with_times
@@ -368,11 +342,7 @@ module _ (rule : TzText) (first days : ℕ) (d : Dataset) (c : IsConsistent d) (
       (λ i trip at. known_if _ column.RouteId (refers file.Trips (unknown_in_trip d.routes) (λ a b. bytes_eq a.trip_id b.trip_id) d.trips c.trips i trip at))
 
   stops_known : Each (λ row. has_id (λ stop. stop.stop_id) d.stops row.stop_id ≡ true) d.stop_times
-  stops_known = λ i row at. by (has_id (λ trip. trip.trip_id) d.trips row.trip_id) row (refers file.StopTimes (unknown_in_stop_time d.trips d.stops) (λ a b. bytes_eq a.trip_id b.trip_id && (a.stop_sequence == b.stop_sequence)) d.stop_times c.stop_times i row at)
-    where
-      by : (b : Bool) (row : StopTimeRow) → or_else (unless_known column.TripId b) (unless_known column.StopId (has_id (λ stop. stop.stop_id) d.stops row.stop_id)) ≡ None → has_id (λ stop. stop.stop_id) d.stops row.stop_id ≡ true
-      by true row h = known_if _ column.StopId h
-      by false row h = absurd (none_some column.TripId (sym h))
+  stops_known = grind (arith, known_if, refers, nat_tests)
 
   services_known : Each (λ trip. has_id (λ id. id) (map (λ row. row.service_id) d.trips ++ map (λ row. row.service_id) d.calendar ++ map (λ row. row.service_id) d.exceptions) trip.service_id ≡ true) (trip_rows d)
   services_known = listed_each (slice_cmp nat_cmp) (λ trip. trip.trip_id) (λ trip. has_id (λ id. id) (map (λ row. row.service_id) d.trips ++ map (λ row. row.service_id) d.calendar ++ map (λ row. row.service_id) d.exceptions) trip.service_id ≡ true) d.trips
@@ -393,10 +363,7 @@ module _ (rule : TzText) (first days : ℕ) (d : Dataset) (c : IsConsistent d) (
     pub is : place_of d (stop_time, times) ≡ place
 
   pub place_from : (trip i : ℕ) (place : Place) → slice_get (unwrap_or (slice_get (place_lists d) trip) []) i ≡ Some place → PlaceOf trip i place
-  place_from trip i place at =
-      let l = list_at (λ (row : TripRow). places_with d (stop_times_of d.stop_times row.trip_id)) (trip_rows d) trip i place at in
-      let z = zip_at (place_of d) (stop_times_of d.stop_times (l.0).trip_id) (all_times (given_times (stop_times_of d.stop_times (l.0).trip_id))) i place l.2 in
-      record { row = l.0; row_at = l.1; stop_time = z.0; stop_time_at = z.2; times = z.1; times_at = z.3; is = z.4 }
+  place_from trip i place at = grind (arith, list_at, zip_at)
 
   pub own_stop_times : (P : StopTimeRow → Type 0) → Each P d.stop_times → (id : List ℕ) → Each P (stop_times_of d.stop_times id)
   own_stop_times P h id = listed_each nat_cmp (λ row. row.stop_sequence) P (filter (λ row. bytes_eq row.trip_id id) d.stop_times) (filter_each P (λ row. bytes_eq row.trip_id id) d.stop_times h)
@@ -410,31 +377,19 @@ module _ (rule : TzText) (first days : ℕ) (d : Dataset) (c : IsConsistent d) (
       subst IsEarlyPlace p.is (record { arrival = times.arrival; departure = times.departure })
 
   pickup_small : (o : Option ℕ) → AtMost 3 o → unwrap_or o 0 ≤ 3
-  pickup_small None h = omega arith
-  pickup_small (Some n) h = h
+  pickup_small o h = grind arith
 
   at_most_one : (o : Option ℕ) (n : ℕ) → AtMost 1 o → o ≡ Some n → n ≤ 1
-  at_most_one None n h e = absurd (none_some n e)
-  at_most_one (Some m) n h e = subst (λ k. k ≤ 1) (same_Some _ _ e) h
+  at_most_one o n h e = grind arith
 
   trip_order : (trip : ℕ) (row : TripRow) → slice_get (trip_rows d) trip ≡ Some row → 1 < length (stop_times_of d.stop_times row.trip_id) → InOrder 0 (all_times (given_times (stop_times_of d.stop_times row.trip_id)))
-  trip_order trip row at h =
-      let l = length-map (stop_times_of d.stop_times row.trip_id) (λ (r : StopTimeRow). times_of r.arrival_time r.departure_time) in
-      all_in_order (given_times (stop_times_of d.stop_times row.trip_id)) (omega (arith, l, h)) (times_of_trip trip row at)
+  trip_order trip row at h = grind (arith, all_in_order, length-map, times_of_trip)
 
   same_row : (trip : ℕ) (a b : TripRow) → slice_get (trip_rows d) trip ≡ Some a → slice_get (trip_rows d) trip ≡ Some b → a ≡ b
   same_row trip a b p q = same_Some _ _ (sym p ∙ q)
 
   agency_within : (id : List ℕ) (n : ℕ) → agency_of d id ≡ Some n → n < length (agency_ids d)
-  agency_within id n e = by (bytes_eq id []) e
-    where
-      only : (rows : List AgencyRow) (b : Bool) → (length rows == 1) ≡ b → (if b then Some 0 else None) ≡ Some n → n < length (by_id (λ i. i) (map (λ (row : AgencyRow). row.agency_id) rows))
-      only rows true is h = let zero_is : 0 ≡ n = same_Some _ _ h in let one = one_id rows (one_long rows is) in omega (arith, zero_is, one)
-      only rows false is h = absurd (none_some n h)
-
-      by : (b : Bool) → (if b then (if length d.agencies == 1 then Some 0 else None) else number_of (λ i. i) (agency_ids d) id) ≡ Some n → n < length (agency_ids d)
-      by true h = only d.agencies (length d.agencies == 1) refl h
-      by false h = number_within (λ i. i) (agency_ids d) id n h
+  agency_within id n e = grind (arith, number_within, one_id, one_long, nat_tests)
 
   -- the timetable of consistent rows is one
   pub timetable_sound : IsTrue (is_day first) → 19700101 ≤ first → first ≤ 29991231 → days ≤ 400 → EachSmall (bases_of rule first days) → IsTimetable (timetable_of rule first days d)

@@ -1,9 +1,7 @@
 -- Where the chain of the eight files stops at one that can't be read.
-use Rattle.std.proofs.Common.{◌≡◌, ◌≤◌, ◌∙◌, ℕ, List, arith, refl, ap, subst, sym, inl, inr}
+use Rattle.std.proofs.Common.{◌≡◌, ◌≤◌, ◌∙◌, ℕ, List, arith, refl, ap, subst, sym}
 use Rattle.std.specs.Prelude.{Option, Some, None, IfSome, Result, Ok, Err, IsErrAnd}
 use Rattle.answer_defs.specs.Steps.{◌>>=◌}
-use Rattle.gtfs_rows.specs.declared.fault.RowFault.{RowFault}
-use Rattle.gtfs_rows.specs.declared.fault.RowFault.TheVariants as rows
 use Rattle.gtfs_rows.specs.declared.rows.AgencyRow.{AgencyRow}
 use Rattle.gtfs_rows.specs.declared.rows.StopRow.{StopRow}
 use Rattle.gtfs_rows.specs.declared.rows.RouteRow.{RouteRow}
@@ -15,13 +13,12 @@ use Rattle.sched_load_defs.specs.declared.fault.File.TheVariants as file
 use Rattle.sched_load_defs.specs.declared.fault.LoadFault.{LoadFault}
 use Rattle.sched_load_defs.specs.declared.fault.LoadFault.TheVariants as fault
 use Rattle.sched_load_defs.specs.Files.{file_place, stored_in, unreadable}
-use Rattle.sched_load_defs.specs.Loading.{dataset_where, timetable_where, with_times, zone_of}
+use Rattle.sched_load_defs.specs.Loading.{dataset_where, timetable_where, zone_of}
 use Rattle.sched_load_defs.specs.Numbers.{Dataset}
 use Rattle.service_day.specs.Zone.{TzText}
 use Rattle.sched_types.specs.Timetable.{Timetable}
-use Rattle.sched_load.specs.Answer.{fault_of}
 use Rattle.row_tables.specs.Alone.{RefusesAlone}
-use Rattle.sched_load.specs.Built.{IsBuilt, plan_told}
+use Rattle.sched_load.specs.Built.{IsBuilt}
 use Rattle.sched_load.specs.Stops.{AtFileFault, StopsWith, StopsFile, StopsPart, StopsTables, StopsLoading}
 use Rattle.sched_load.specs.declared.tables.NetworkTables.{NetworkTables}
 use Rattle.sched_load.specs.Stages.{DayRows, days_where, network_where}
@@ -31,46 +28,19 @@ use Rattle.sched_load.proofs.WholeChain.{Told, agencies_told, stops_told, routes
 
 -- what `?` passes on
 pub stops_passed : {A : Type 0} (r : Result A LoadFault) (e : LoadFault) (P : Type 0) → IsErrAnd r (λ x. x ≡ e) → AtFileFault e P → StopsWith r P
-stops_passed (Ok x) e P h k = absurd h
-stops_passed (Err y) e P h k = subst (λ f. AtFileFault f P) (sym h) k
+stops_passed r e P h k = grind arith
 
 -- what holds at a file that could not be read, by another thing that holds there
 pub stops_by : (e : LoadFault) (P Q : Type 0) → (P → Q) → AtFileFault e P → AtFileFault e Q
-stops_by fault.BadZone P Q f k = tt
-stops_by (fault.MissingFile name) P Q f k = tt
-stops_by (fault.TooLong name) P Q f k = tt
-stops_by (fault.Rows name e) P Q f k = tt
-stops_by (fault.UnknownRef name row column) P Q f k = tt
-stops_by (fault.Duplicate name row) P Q f k = tt
-stops_by (fault.TripTimes row) P Q f k = tt
-stops_by fault.FileFault P Q f k = f k
-stops_by fault.NoMemory P Q f k = tt
+stops_by e P Q f k = grind arith
 
 -- a step that reads no file has no such fault
 pub stops_alone : {A : Type 0} (told : Result A LoadFault) (e : LoadFault) (P : Type 0) → RefusesAlone told e → AtFileFault e P
-stops_alone told fault.BadZone P x = tt
-stops_alone told (fault.MissingFile name) P x = tt
-stops_alone told (fault.TooLong name) P x = tt
-stops_alone told (fault.Rows name e) P x = tt
-stops_alone told (fault.UnknownRef name row column) P x = tt
-stops_alone told (fault.Duplicate name row) P x = tt
-stops_alone told (fault.TripTimes row) P x = tt
-stops_alone told fault.FileFault P x = absurd x
-stops_alone told fault.NoMemory P x = tt
-
--- nor have the rows of a file
-pub stops_rows : (name : File) (e : RowFault) (P : Type 0) → AtFileFault (fault_of name e) P
-stops_rows name (rows.MissingColumn column) P = tt
-stops_rows name (rows.BadValue row column) P = tt
-stops_rows name (rows.NotText row column) P = tt
-stops_rows name rows.TooMany P = tt
-stops_rows name rows.NoMemory P = tt
+stops_alone told e P x = grind arith
 
 -- nor has a plan that is built
 pub stops_built : (told r : Result Timetable LoadFault) (P : Type 0) → IsBuilt told r → StopsWith r P
-stops_built told (Ok plan) P h = tt
-stops_built told (Err e) P (inl none) = subst (λ f. AtFileFault f P) (sym none) tt
-stops_built told (Err e) P (inr h) = stops_alone told e P h
+stops_built told r P h = grind (arith, stops_alone)
 
 -- ---- the files of a stage that come before one
 
@@ -95,17 +65,13 @@ module _ (folder : List ℕ) (fs : List (List ℕ × List ℕ)) where
   at_routes : (ag : List AgencyRow) (st : List StopRow) → agencies_told (stored_in fs folder) ≡ Ok ag
       → stops_told (stored_in fs folder) ≡ Ok st → network_where (without file.Routes) ≡ stop
   unfolding network_where
-  at_routes ag st a s =
-      ap (λ x. x >>= λ _. stops_told (stored_in fs folder) >>= λ _. stop) a ∙ ap (λ x. x >>= λ _. stop) s
+  at_routes ag st a s = grind (arith, stops_told)
 
   at_trips : (ag : List AgencyRow) (st : List StopRow) (ro : List RouteRow)
       → agencies_told (stored_in fs folder) ≡ Ok ag → stops_told (stored_in fs folder) ≡ Ok st
       → routes_told (stored_in fs folder) ag ≡ Ok ro → network_where (without file.Trips) ≡ stop
   unfolding network_where
-  at_trips ag st ro a s r =
-      ap (λ x. x >>= λ ag. stops_told (stored_in fs folder) >>= λ _. routes_told (stored_in fs folder) ag >>= λ _. stop) a
-      ∙ ap (λ x. x >>= λ _. routes_told (stored_in fs folder) ag >>= λ _. stop) s
-      ∙ ap (λ x. x >>= λ _. stop) r
+  at_trips ag st ro a s r = grind (arith, routes_told, stops_told)
 
   at_calendar : days_where (without file.Calendar) ≡ stop
   unfolding days_where
@@ -120,37 +86,16 @@ module _ (folder : List ℕ) (fs : List (List ℕ × List ℕ)) where
   network_stays : (name : File) → 4 ≤ file_place name
       → network_where (without name) ≡ network_where (stored_in fs folder)
   unfolding network_where
-  network_stays file.Agency h = absurd (omega (arith, h))
-  network_stays file.Stops h = absurd (omega (arith, h))
-  network_stays file.Routes h = absurd (omega (arith, h))
-  network_stays file.Trips h = absurd (omega (arith, h))
-  network_stays file.StopTimes h = refl
-  network_stays file.Calendar h = refl
-  network_stays file.CalendarDates h = refl
-  network_stays file.Frequencies h = refl
+  network_stays name h = grind arith
 
   times_stay : (name : File) (n : NetworkTables) → 5 ≤ file_place name
       → times_told (without name) n ≡ times_told (stored_in fs folder) n
-  times_stay file.Agency n h = refl
-  times_stay file.Stops n h = refl
-  times_stay file.Routes n h = refl
-  times_stay file.Trips n h = refl
-  times_stay file.StopTimes n h = absurd (omega (arith, h))
-  times_stay file.Calendar n h = refl
-  times_stay file.CalendarDates n h = refl
-  times_stay file.Frequencies n h = refl
+  times_stay name n h = grind arith
 
   days_stay : (name : File) → 7 ≤ file_place name
       → days_where (without name) ≡ days_where (stored_in fs folder)
   unfolding days_where
-  days_stay file.Agency h = refl
-  days_stay file.Stops h = refl
-  days_stay file.Routes h = refl
-  days_stay file.Trips h = refl
-  days_stay file.StopTimes h = refl
-  days_stay file.Calendar h = absurd (omega (arith, h))
-  days_stay file.CalendarDates h = absurd (omega (arith, h))
-  days_stay file.Frequencies h = refl
+  days_stay name h = grind arith
 
   -- the rows where that file can't be read
   abbrev rows_without : File → Result Dataset LoadFault
@@ -205,9 +150,7 @@ at_file : {A : Type 0} (part : Told → Result A LoadFault) (before : ℕ) (name
     (folder : List ℕ) (fs : List (List ℕ × List ℕ)) (place : Option (List ℕ))
     → StopsFile place folder name → before ≤ file_place name
     → part (unreadable name fs folder) ≡ stop → StopsPart part before (Some fs) place folder
-at_file part before name folder fs None p late first = tt
-at_file part before name folder fs (Some path) p late first =
-    record { broken = name; place = p; late = late; first = first }
+at_file part before name folder fs place p late first = grind arith
 
 -- the whole stops where a part of it does
 whole_stops : {A : Type 0} (part : Told → Result A LoadFault) (before : ℕ) (folder : List ℕ)
@@ -215,54 +158,37 @@ whole_stops : {A : Type 0} (part : Told → Result A LoadFault) (before : ℕ) (
     → ((name : File) → before ≤ file_place name → part (unreadable name fs folder) ≡ stop
     → rows_without folder fs name ≡ stop)
     → StopsPart part before (Some fs) place folder → StopsTables (Some fs) place folder
-whole_stops part before folder fs None all s = tt
-whole_stops part before folder fs (Some path) all s =
-    record { broken = s.broken; place = s.place; first = all s.broken s.late s.first }
+whole_stops part before folder fs place all s = grind arith
 
 module _ (folder : List ℕ) (place : Option (List ℕ)) where
   pub stops_agency : (contents : Stored) → StopsFile place folder file.Agency
       → StopsPart network_where 0 contents place folder
-  stops_agency None p = tt
-  stops_agency (Some fs) p =
-      at_file network_where 0 file.Agency folder fs place p (omega arith) (at_agency folder fs)
+  stops_agency contents p = grind (arith, at_agency, at_file)
 
   pub stops_stops : (contents : Stored) (ag : List AgencyRow)
       → IfSome contents (λ fs. agencies_told (stored_in fs folder) ≡ Ok ag) → StopsFile place folder file.Stops
       → StopsPart network_where 0 contents place folder
-  stops_stops None ag a p = tt
-  stops_stops (Some fs) ag a p =
-      at_file network_where 0 file.Stops folder fs place p (omega arith) (at_stops folder fs ag a)
+  stops_stops contents ag a p = grind (arith, at_file, at_stops)
 
   pub stops_routes : (contents : Stored) (ag : List AgencyRow) (st : List StopRow)
       → IfSome contents (λ fs. agencies_told (stored_in fs folder) ≡ Ok ag) → StopsAre folder st contents
       → StopsFile place folder file.Routes → StopsPart network_where 0 contents place folder
-  stops_routes None ag st a s p = tt
-  stops_routes (Some fs) ag st a s p =
-      at_file network_where 0 file.Routes folder fs place p (omega arith)
-      (at_routes folder fs ag st a s)
+  stops_routes contents ag st a s p = grind (arith, at_file, at_routes)
 
   pub stops_trips : (contents : Stored) (ag : List AgencyRow) (st : List StopRow)
       (ro : List RouteRow) → IfSome contents (λ fs. agencies_told (stored_in fs folder) ≡ Ok ag)
       → StopsAre folder st contents → RoutesAre folder ag ro contents
       → StopsFile place folder file.Trips → StopsPart network_where 0 contents place folder
-  stops_trips None ag st ro a s r p = tt
-  stops_trips (Some fs) ag st ro a s r p =
-      at_file network_where 0 file.Trips folder fs place p (omega arith)
-      (at_trips folder fs ag st ro a s r)
+  stops_trips contents ag st ro a s r p = grind (arith, at_file, at_trips)
 
   pub stops_calendar : (contents : Stored) → StopsFile place folder file.Calendar
       → StopsPart days_where 5 contents place folder
-  stops_calendar None p = tt
-  stops_calendar (Some fs) p =
-      at_file days_where 5 file.Calendar folder fs place p (omega arith) (at_calendar folder fs)
+  stops_calendar contents p = grind (arith, at_calendar, at_file)
 
   pub stops_dates : (contents : Stored) (ca : List CalendarRow)
       → IfSome contents (λ fs. calendar_told (stored_in fs folder) ≡ Ok ca)
       → StopsFile place folder file.CalendarDates → StopsPart days_where 5 contents place folder
-  stops_dates None ca k p = tt
-  stops_dates (Some fs) ca k p =
-      at_file days_where 5 file.CalendarDates folder fs place p (omega arith)
-      (at_dates folder fs ca k)
+  stops_dates contents ca k p = grind (arith, at_dates, at_file)
 
   -- the whole, stage by stage
   pub stops_network : (contents : Stored) → StopsPart network_where 0 contents place folder
@@ -315,11 +241,7 @@ module _ (folder : List ℕ) (place : Option (List ℕ)) where
 -- behind the zone the rows are read first
 zone_stops : (fs : List (List ℕ × List ℕ)) (folder : List ℕ) (conf : PlanConf) (rule : TzText) (name : File) → zone_of conf.zone ≡ Ok rule → rows_without folder fs name ≡ stop → timetable_where (unreadable name fs folder) conf ≡ Err fault.FileFault
 unfolding timetable_where
-zone_stops fs folder conf rule name z first =
-    ap (λ (x : Result TzText LoadFault). x >>= λ rule. rows_without folder fs name >>= λ rows. with_times rows >>= plan_told rule conf.first conf.days) z
-    ∙ ap (λ (x : Result Dataset LoadFault). x >>= λ rows. with_times rows >>= plan_told rule conf.first conf.days) first
+zone_stops fs folder conf rule name z first = grind arith
 
 pub stops_loading : (contents : Stored) (place : Option (List ℕ)) (folder : List ℕ) (conf : PlanConf) (rule : TzText) → zone_of conf.zone ≡ Ok rule → StopsTables contents place folder → StopsLoading contents place folder conf
-stops_loading None place folder conf rule z s = tt
-stops_loading (Some fs) None folder conf rule z s = tt
-stops_loading (Some fs) (Some path) folder conf rule z s = record { broken = s.broken; place = s.place; first = zone_stops fs folder conf rule s.broken z s.first }
+stops_loading contents place folder conf rule z s = grind (arith, zone_stops)

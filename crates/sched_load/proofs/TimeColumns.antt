@@ -1,11 +1,11 @@
 -- What the columns of times, and those of frequencies.txt, say of each row.
-use Rattle.std.proofs.Common.{◌≡◌, ℕ, ◌+◌, ◌-◌, ◌*◌, ◌<◌, ◌≤◌, Bool, true, false, ◌&&◌, List, [], ◌∷◌, length, take, drop, refl, subst, arith, nat_le}
-use Rattle.std.specs.Prelude.{Option, Some, None, IfSome, option_and_then, option_map, if◌then◌else◌, ◌==◌}
+use Rattle.std.proofs.Common.{◌≡◌, ℕ, ◌-◌, ◌<◌, ◌≤◌, Bool, true, false, ◌&&◌, List, [], ◌∷◌, length, take, drop, refl, arith, nat_le}
+use Rattle.std.specs.Prelude.{Option, Some, None, IfSome, option_and_then, option_map, if◌then◌else◌}
 use Rattle.std.specs.Char.{is_ascii_digit}
 use Rattle.std.proofs.lemmas.Bool.Decides.{nat_tests}
 use Rattle.std.proofs.lemmas.Option.{same_Some}
 use Rattle.text_defs.specs.Numbers.{digits, digits_after, within}
-use Rattle.text_defs.specs.Times.{clock_of, seconds_of, sixtieth, time_in}
+use Rattle.text_defs.specs.Times.{clock_of, sixtieth, time_in}
 use Rattle.freq_runs.specs.Trips.{time_end}
 use Rattle.gtfs_rows.specs.Tables.{◌⊕◌, frequencies, optional, required, stop_times}
 use Rattle.gtfs_rows.specs.Values.{id_text, number, or_empty}
@@ -17,20 +17,14 @@ use Rattle.sched_load.proofs.Laws.{AreWithin}
 
 -- what a chain of options gave, its parts gave
 chained : {A B : Type 0} (f : A → Option B) (o : Option A) (y : B) → option_and_then f o ≡ Some y → (x : A) × (o ≡ Some x) × (f x ≡ Some y)
-chained f None y e = absurd cc
-chained f (Some x) y e = (x, refl, e)
+chained f o y e = grind arith
 
 mapped : {A B : Type 0} (f : A → B) (o : Option A) (y : B) → option_map f o ≡ Some y → (x : A) × (o ≡ Some x) × (f x ≡ y)
-mapped f None y e = absurd cc
-mapped f (Some x) y e = (x, refl, same_Some _ _ e)
+mapped f o y e = grind arith
 
 -- a digit is 9 at most
 digit_ok : {C : Type 0} (b : ℕ) (rest : Option ℕ) (x : ℕ) → (if is_ascii_digit b then rest else None) ≡ Some x → (b - 48 ≤ 9 → rest ≡ Some x → C) → C
-digit_ok {C = C} b rest x e k = by (is_ascii_digit b) refl e
-  where
-    by : (t : Bool) → is_ascii_digit b ≡ t → (if t then rest else None) ≡ Some x → C
-    by true is h = k (grind (arith, nat_tests, is)) h
-    by false is h = absurd cc
+digit_ok b rest x e k = grind (arith, nat_tests)
 
 -- hours have three digits at most
 hours_ok : (bytes : List ℕ) (x : ℕ) → digits 1 3 bytes ≡ Some x → x ≤ 999
@@ -49,26 +43,7 @@ sixtieth_ok : (bytes : List ℕ) (x : ℕ) → sixtieth bytes ≡ Some x → x �
 sixtieth_ok bytes x e = let v = chained (within 0 59) (digits 2 2 bytes) x e in (within_ok 0 59 v.0 x v.2).1
 
 clock_ok : (hours behind : List ℕ) (x : ℕ) → clock_of hours behind ≡ Some x → x < time_end
-clock_ok hours [] x e = absurd cc
-clock_ok hours (p ∷ []) x e = absurd cc
-clock_ok hours (p ∷ a ∷ []) x e = absurd cc
-clock_ok hours (p ∷ a ∷ b ∷ []) x e = absurd cc
-clock_ok hours (p ∷ a ∷ b ∷ q ∷ []) x e = absurd cc
-clock_ok hours (p ∷ a ∷ b ∷ q ∷ c ∷ []) x e = absurd cc
-clock_ok hours (p ∷ a ∷ b ∷ q ∷ c ∷ d ∷ y ∷ more) x e = absurd cc
-clock_ok hours (p ∷ a ∷ b ∷ q ∷ c ∷ d ∷ []) x e = by ((p == 58) && (q == 58)) e
-  where
-    by : (t : Bool) → (if t then seconds_of (digits 1 3 hours) (sixtieth (a ∷ b ∷ [])) (sixtieth (c ∷ d ∷ [])) else None) ≡ Some x → x < time_end
-    by false h = absurd cc
-    by true h =
-        let hour = chained (λ h. option_and_then (λ m. option_map (λ s. h * 3600 + m * 60 + s) (sixtieth (c ∷ d ∷ []))) (sixtieth (a ∷ b ∷ []))) (digits 1 3 hours) x h in
-        let minute = chained (λ m. option_map (λ s. hour.0 * 3600 + m * 60 + s) (sixtieth (c ∷ d ∷ []))) (sixtieth (a ∷ b ∷ [])) x hour.2 in
-        let second = mapped (λ s. hour.0 * 3600 + minute.0 * 60 + s) (sixtieth (c ∷ d ∷ [])) x minute.2 in
-        let few_hours = hours_ok hours hour.0 hour.1 in
-        let few_minutes = sixtieth_ok (a ∷ b ∷ []) minute.0 minute.1 in
-        let few_seconds = sixtieth_ok (c ∷ d ∷ []) second.0 second.1 in
-        let is = second.2 in
-        omega (arith, few_hours, few_minutes, few_seconds, is)
+clock_ok hours behind x e = grind (arith, chained, hours_ok, mapped, sixtieth_ok, nat_tests)
 
 -- a time is less than a thousand hours
 time_ok : (bytes : List ℕ) (x : ℕ) → time_in bytes ≡ Some x → x < time_end
@@ -79,10 +54,7 @@ abbrev pub IsEarly : Option ℕ → Type 0
 IsEarly time = IfSome time (λ t. t < time_end)
 
 given_ok : (bytes : List ℕ) (x : Option ℕ) → or_empty time_in bytes ≡ Some x → IsEarly x
-given_ok [] x e = subst IsEarly (same_Some _ _ e) tt
-given_ok (b ∷ bytes) x e =
-    let given = mapped (λ t. Some t) (time_in (b ∷ bytes)) x e in
-    subst IsEarly given.2 (time_ok (b ∷ bytes) given.0 given.1)
+given_ok bytes x e = grind (arith, mapped, time_ok)
 
 time_within : (c : Column) → AreWithin (required c time_in) (λ t. t < time_end)
 time_within c row cells x e = time_ok (cells c) x (judged_ok time_in row c (cells c) x e)

@@ -1,5 +1,5 @@
 -- The times of a trip's places, one after another.
-use Rattle.std.proofs.Common.{◌≡◌, ℕ, ◌+◌, ◌-◌, ◌<◌, ◌≤◌, Bool, true, false, ◌&&◌, List, [], ◌∷◌, ◌++◌, length, map, drop, refl, sym, ap, ◌∙◌, subst, arith, nat_le}
+use Rattle.std.proofs.Common.{◌≡◌, ℕ, ◌+◌, ◌-◌, ◌<◌, ◌≤◌, Bool, true, false, ◌&&◌, List, [], ◌∷◌, ◌++◌, length, map, drop, refl, sym, ap, ◌∙◌, arith, nat_le}
 use Rattle.std.specs.Prelude.{Option, Some, None, option_map, slice_get, zip, IfSome}
 use Rattle.std.specs.List.{list_all}
 use Rattle.std.proofs.lemmas.Bool.Decides.{nat_tests}
@@ -10,7 +10,7 @@ use Rattle.sched_load.specs.Course.{IsNearer, Knows, Remembers, Steps, ahead_see
 use Rattle.sched_load.specs.declared.times.Ahead.{Ahead}
 use Rattle.sched_load.specs.declared.times.Course.{Course}
 use Rattle.sched_types.specs.declared.rows.Place.{Place}
-use Rattle.std.proofs.lemmas.List.{append-nil, append_assoc}
+use Rattle.std.proofs.lemmas.List.{append_assoc}
 use Rattle.std.proofs.lemmas.Option.{none-some as none_some, same_Some}
 use Rattle.sched_load.specs.Listed.{times_seen}
 use Rattle.row_tables.proofs.Faults.{drop_at, drop_past}
@@ -22,20 +22,14 @@ follow before (t ∷ ts) = nat_le before t.arrival && (nat_le t.arrival t.depart
 
 -- the same by the two tests
 split_tests : (a b c d e : Bool) → (b && (c && (d && e))) ≡ ((b && (d)) && (c && e))
-split_tests a true true d e = refl
-split_tests a true false true e = refl
-split_tests a true false false e = refl
-split_tests a false c d e = refl
+split_tests a b c d e = grind arith
 
 end_test : (b : Bool) → (b && true) ≡ ((b && true) && true)
-end_test true = refl
-end_test false = refl
+end_test b = grind arith
 
 follow_is : (before : ℕ) (t : Times) (ts : List Times) → follow before (t ∷ ts) ≡ (nat_le before t.arrival && (list_all is_stay (t ∷ ts) && are_moves (t ∷ ts)))
 follow_is before t [] = ap (λ b. nat_le before t.arrival && b) (end_test (nat_le t.arrival t.departure))
-follow_is before t (u ∷ ts) =
-    ap (λ b. nat_le before t.arrival && (nat_le t.arrival t.departure && b)) (follow_is t.departure u ts)
-    ∙ ap (λ b. nat_le before t.arrival && b) (split_tests true (nat_le t.arrival t.departure) (nat_le t.departure u.arrival) (list_all is_stay (u ∷ ts)) (are_moves (u ∷ ts)))
+follow_is before t (u ∷ ts) = grind (arith, follow_is t.departure u ts, split_tests true (nat_le t.arrival t.departure) (nat_le t.departure u.arrival) (list_all is_stay (u ∷ ts)) (are_moves (u ∷ ts)), nat_tests)
 
 zero_le : (n : ℕ) → nat_le 0 n ≡ true
 zero_le n = grind (arith, nat_tests)
@@ -48,23 +42,9 @@ follow_all (t ∷ ts) = follow_is 0 t ts ∙ ap (λ b. b && (list_all is_stay (t
 pub record Follows (visits : List Visit) (i before : ℕ) : Type 0 where
   pub told : follow 0 (known_times (given_of visits)) ≡ follow before (known_times (given_of (drop i visits)))
 
-pub follows_start : (visits : List Visit) → Follows visits 0 0
-follows_start visits = record { told = refl }
-
-pub follows_untimed : (visits : List Visit) (i before : ℕ) (visit : Visit) → Follows visits i before → slice_get visits i ≡ Some visit → visit.stay ≡ None → Follows visits (i + 1) before
-follows_untimed visits i before visit f at none = record {
-  told =
-      f.told ∙ ap (λ vs. follow before (known_times (given_of vs))) (drop_at visits i visit at)
-      ∙ ap (λ o. follow before (known_times (times_seen o ∷ given_of (drop (i + 1) visits)))) none;
-}
-
 timed_told : (visits : List Visit) (i before : ℕ) (visit : Visit) (stay : Stay) (a b : Bool) → Follows visits i before → slice_get visits i ≡ Some visit → visit.stay ≡ Some stay → nat_le before stay.arrival ≡ a → nat_le stay.arrival stay.departure ≡ b
     → follow 0 (known_times (given_of visits)) ≡ (a && (b && follow stay.departure (known_times (given_of (drop (i + 1) visits)))))
-timed_told visits i before visit stay a b f at some e h =
-    f.told ∙ ap (λ vs. follow before (known_times (given_of vs))) (drop_at visits i visit at)
-    ∙ ap (λ o. follow before (known_times (times_seen o ∷ given_of (drop (i + 1) visits)))) some
-    ∙ ap (λ c. c && (nat_le stay.arrival stay.departure && follow stay.departure (known_times (given_of (drop (i + 1) visits))))) e
-    ∙ ap (λ c. a && (c && follow stay.departure (known_times (given_of (drop (i + 1) visits))))) h
+timed_told visits i before visit stay a b f at some e h = grind (arith, drop_at, nat_tests)
 
 not_le : (a b : ℕ) → b < a → nat_le a b ≡ false
 not_le a b h = grind (arith, nat_tests)
@@ -72,15 +52,11 @@ not_le a b h = grind (arith, nat_tests)
 is_le : (a b : ℕ) → a ≤ b → nat_le a b ≡ true
 is_le a b h = grind (arith, nat_tests)
 
-pub follows_timed : (visits : List Visit) (i before : ℕ) (visit : Visit) (stay : Stay) → Follows visits i before → slice_get visits i ≡ Some visit → visit.stay ≡ Some stay → before ≤ stay.arrival → stay.arrival ≤ stay.departure → Follows visits (i + 1) stay.departure
-follows_timed visits i before visit stay f at some b s = record { told = timed_told visits i before visit stay true true f at some (is_le _ _ b) (is_le _ _ s) }
-
 pub late : (visits : List Visit) (i before : ℕ) (visit : Visit) (stay : Stay) → Follows visits i before → slice_get visits i ≡ Some visit → visit.stay ≡ Some stay → stay.arrival < before → false ≡ (list_all is_stay (known_times (given_of visits)) && are_moves (known_times (given_of visits)))
 late visits i before visit stay f at some l = sym (sym (follow_all (known_times (given_of visits))) ∙ timed_told visits i before visit stay false (nat_le stay.arrival stay.departure) f at some (not_le _ _ l) refl)
 
 and_false : (a : Bool) → (a && false) ≡ false
-and_false true = refl
-and_false false = refl
+and_false a = grind arith
 
 pub left_early : (visits : List Visit) (i before : ℕ) (visit : Visit) (stay : Stay) → Follows visits i before → slice_get visits i ≡ Some visit → visit.stay ≡ Some stay → stay.departure < stay.arrival → false ≡ (list_all is_stay (known_times (given_of visits)) && are_moves (known_times (given_of visits)))
 left_early visits i before visit stay f at some l =
@@ -123,16 +99,11 @@ step_untimed course visit rest ahead near time none is n at = record {
 
 pub step_timed : (course : Course) (visit : Visit) (rest : List Visit) (stay : Stay) → visit.stay ≡ Some stay → Steps course (record { departure = stay.departure; behind = 1; ahead = None }) stay visit rest
 unfolding times_behind
-step_timed course visit rest stay some = record {
-  times = ap (λ o. times_behind course.departure course.behind (times_seen o ∷ given_of rest)) some;
-  ahead = tt;
-  behind = omega arith;
-}
+step_timed course visit rest stay some = grind arith
 
 -- what is remembered in front of an untimed place is known
 pub knows : (known : Option (Option Ahead)) (visit : Visit) (rest : List Visit) → visit.stay ≡ None → Remembers known (visit ∷ rest) → Knows known rest
-knows None visit rest none r = tt
-knows (Some found) visit rest none r = r ∙ ap (λ o. next_timed 0 (times_seen o ∷ given_of rest)) none
+knows known visit rest none r = grind arith
 
 -- the places so far, and those of the visits that are left, are all
 pub record Fills (visits : List Visit) (i : ℕ) (course : Course) (so_far : List Place) : Type 0 where
@@ -140,41 +111,15 @@ pub record Fills (visits : List Visit) (i : ℕ) (course : Course) (so_far : Lis
   pub ahead : Remembers course.ahead (drop i visits)
   pub behind : course.behind ≤ i
 
-pub fills_start : (visits : List Visit) → Fills visits 0 (record { departure = 0; behind = 0; ahead = None }) []
-fills_start visits = record { places = refl; ahead = tt; behind = omega arith }
-
-pub fills_ahead : (visits : List Visit) (i : ℕ) (course : Course) (places : List Place) (visit : Visit) → Fills visits i course places → slice_get visits i ≡ Some visit → Remembers course.ahead (visit ∷ drop (i + 1) visits)
-fills_ahead visits i course places visit f at = subst (Remembers course.ahead) (drop_at visits i visit at) f.ahead
-
 pub fills_more : (visits : List Visit) (i : ℕ) (course next : Course) (places after : List Place) (visit : Visit) (stay : Stay) (place : Place) → Fills visits i course places → slice_get visits i ≡ Some visit → Steps course next stay visit (drop (i + 1) visits) → place ≡ place_in (visit, stay_times stay) → after ≡ places ++ place ∷ [] → Fills visits (i + 1) next after
-fills_more visits i course next places after visit stay place f at s is pushed =
-    let rest = drop (i + 1) visits in
-    let behind = map place_in (zip rest (times_behind next.departure next.behind (given_of rest))) in
-    let same : places ++ map place_in (zip (drop i visits) (times_behind course.departure course.behind (given_of (drop i visits)))) ≡ places ++ place_in (visit, stay_times stay) ∷ behind =
-    ap (λ vs. places ++ map place_in (zip vs (times_behind course.departure course.behind (given_of vs)))) (drop_at visits i visit at)
-    ∙ ap (λ ts. places ++ map place_in (zip (visit ∷ rest) ts)) s.times in
-    record {
-      places = ap (λ ps. ps ++ behind) pushed ∙ append_assoc places (place ∷ []) behind ∙ ap (λ p. places ++ p ∷ behind) is ∙ sym same ∙ f.places;
-      ahead = s.ahead;
-      behind = let b = s.behind in let h = f.behind in omega (arith, b, h);
-    }
-
-pub fills_all : (visits : List Visit) (i : ℕ) (course : Course) (places : List Place) → Fills visits i course places → length visits ≤ i → places ≡ places_in visits
-fills_all visits i course places f h =
-    sym (append-nil places)
-    ∙ ap (λ vs. places ++ map place_in (zip vs (times_behind course.departure course.behind (given_of vs)))) (sym (drop_past visits i h))
-    ∙ f.places
+fills_more visits i course next places after visit stay place f at s is pushed = grind (arith, append_assoc, drop_at)
 
 timed_steps : (steps : ℕ) (places : List (Option Times)) (found : Option Ahead) → ahead_seen found ≡ next_timed steps places → IfSome found (λ a. steps ≤ a.steps)
 timed_steps steps [] None e = tt
 timed_steps steps [] (Some a) e = absurd (none_some _ (sym e))
 timed_steps steps (Some t ∷ places) None e = tt
 timed_steps steps (Some t ∷ places) (Some a) e = let same : a.steps ≡ steps = ap (λ (q : ℕ × ℕ). q.0) (same_Some _ _ e) in omega (arith, same)
-timed_steps steps (None ∷ places) found e = weaker found (timed_steps (steps + 1) places found e)
-  where
-    weaker : (f : Option Ahead) → IfSome f (λ a. steps + 1 ≤ a.steps) → IfSome f (λ a. steps ≤ a.steps)
-    weaker None h = tt
-    weaker (Some a) h = omega (arith, h)
+timed_steps steps (None ∷ places) found e = grind (arith, timed_steps (steps + 1) places found e)
 
 -- a timed place that is known in front of an untimed one lies a step away or more
 pub known_steps : (found : Option Ahead) (rest : List Visit) → ahead_seen found ≡ next_timed 1 (given_of rest) → IfSome found (λ a. 1 ≤ a.steps)

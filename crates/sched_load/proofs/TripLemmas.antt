@@ -1,5 +1,5 @@
 -- The stop times of a trip, as they stand in the groups.
-use Rattle.std.proofs.Common.{◌≡◌, ℕ, ◌+◌, ◌≤◌, true, false, List, [], ◌∷◌, length, map, refl, ap, ◌∙◌}
+use Rattle.std.proofs.Common.{◌≡◌, ℕ, ◌+◌, ◌≤◌, true, false, List, [], ◌∷◌, length, map, refl, ap, ◌∙◌, arith}
 use Rattle.std.specs.Prelude.{slice_get, Option, Some, None, bytes_eq, Ok, Err, if◌then◌else◌}
 use Rattle.answer_defs.specs.Steps.{unless}
 use Rattle.gtfs_rows.specs.declared.rows.StopRow.{StopRow}
@@ -24,10 +24,7 @@ use Rattle.row_tables.proofs.Numbered.{has_by_number, text_itself}
 use Rattle.sched_load.proofs.ServiceLemmas.{any_at, some_of}
 
 given_one : (a d : Option ℕ) → times_seen (stay_of a d) ≡ times_of a d
-given_one (Some a) (Some d) = refl
-given_one (Some a) None = refl
-given_one None (Some d) = refl
-given_one None None = refl
+given_one a d = grind arith
 
 -- the given times of visits are those of their rows
 pub given_rows : (trips : List TripRow) (stops : List StopRow) (rows : List StopTimeRow) → given_of (map (visit_of trips stops) rows) ≡ given_times rows

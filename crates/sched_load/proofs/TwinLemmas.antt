@@ -1,24 +1,17 @@
 -- Which visits have an earlier twin.
-use Rattle.std.proofs.Common.{◌≡◌, ℕ, zero, suc, ◌+◌, ◌<◌, ◌≤◌, Bool, true, false, ◌&&◌, ◌||◌, ◌==◌, cond, List, [], ◌∷◌, length, take, get_or, set, refl, sym, ap, ◌∙◌, subst, arith, inl, inr, ◌⊎◌}
-use Rattle.std.specs.Prelude.{slice_get, Option, Some, None, is_some}
+use Rattle.std.proofs.Common.{◌≡◌, ℕ, zero, suc, ◌<◌, Bool, true, false, ◌&&◌, ◌||◌, ◌==◌, cond, List, [], ◌∷◌, length, take, get_or, refl, sym, ap, ◌∙◌, subst, arith, inl, inr}
+use Rattle.std.specs.Prelude.{slice_get, Option, Some, is_some}
 use Rattle.std.specs.List.{list_any}
 use Rattle.std.specs.Ordering.{nat_cmp, eq_by_cmp}
 use Rattle.std.specs.FinMap.Entries as entries
 use Rattle.std.specs.FinMap.Entries.{put, find-put}
-use Rattle.std.proofs.lemmas.Bool.{cases_order, cases_lt}
+use Rattle.std.proofs.lemmas.Bool.{cases_lt}
 use Rattle.std.proofs.lemmas.Bool.Decides.{nat_tests}
 use Rattle.std.proofs.lemmas.Cmp.{nat_cmp_total}
-use Rattle.std.proofs.lemmas.List.{get_or-set_same, get_or-set_other}
-use Rattle.std.proofs.Math.ListN.{length-set}
-use Rattle.std.proofs.lemmas.Option.{none-some as none_some, same_Some, slice_get_within}
+use Rattle.std.proofs.lemmas.Option.{none-some as none_some, same_Some}
 use Rattle.std.specs.declared.alloc.Global.{Global}
 use Rattle.std.specs.declared.collections.BTreeMap.{BTreeMap}
-use Rattle.std.specs.BTreeMap.{insert_entry, is_at, get}
-use Rattle.std.specs.Map.{lookup}
-use Rattle.std.specs.Ordering.{match_ordering}
-use Rattle.std.specs.FinMap.Entries.{by_order}
-use Rattle.std.specs.declared.cmp.Ordering.{Ordering}
-use Rattle.std.specs.declared.cmp.Ordering.TheVariants.{Less, Equal, Greater}
+use Rattle.std.specs.BTreeMap.{insert_entry, get}
 use Rattle.sched_load.specs.declared.visits.Visit.{Visit}
 use Rattle.sched_load.specs.Visits.{AreApart, FirstTwin, RisesByTrip, has_twin, is_twin_visit, key_of}
 use Rattle.sched_load.proofs.PairLemmas.{any_false}
@@ -30,54 +23,8 @@ pub record AreEnds (ends : List ℕ) (visits : List Visit) (n trips : ℕ) : Typ
   pub rising : (i j : ℕ) (v w : Visit) → i < j → j < n → slice_get visits i ≡ Some v → slice_get visits j ≡ Some w → v.trip ≡ w.trip → v.sequence < w.sequence
   pub below : (k : ℕ) (v : Visit) → k < n → slice_get visits k ≡ Some v → v.sequence < get_or ends v.trip 0
 
-pub ends_start : (ends : List ℕ) (visits : List Visit) (trips : ℕ) → length ends ≡ trips → AreEnds ends visits 0 trips
-ends_start ends visits trips e = record {
-  long = e;
-  rising = λ i j v w l m. absurd (omega (arith, m));
-  below = λ k v l. absurd (omega (arith, l));
-}
-
 same_visit : (visits : List Visit) (i j : ℕ) (v w : Visit) → i ≡ j → slice_get visits i ≡ Some v → slice_get visits j ≡ Some w → v ≡ w
 same_visit visits i j v w e a b = same_Some _ _ (sym a ∙ ap (slice_get visits) e ∙ b)
-
-pub ends_more : (ends : List ℕ) (visits : List Visit) (n trips : ℕ) (visit : Visit) → AreEnds ends visits n trips → slice_get visits n ≡ Some visit → visit.trip < trips → get_or ends visit.trip 0 ≤ visit.sequence
-    → AreEnds (set ends visit.trip (visit.sequence + 1)) visits (n + 1) trips
-ends_more ends visits n trips visit h at within low = record {
-  long = length-set ends visit.trip (visit.sequence + 1) ∙ h.long;
-  rising = λ i j v w l m a b same. elim (cases_lt j n) as (λ _. v.sequence < w.sequence) [
-    | inl before ↦ h.rising i j v w l before a b same
-    | inr here ↦
-        let is : visit ≡ w = same_visit visits n j visit w (omega (arith, m, here)) at b in
-        let e : v.trip ≡ visit.trip = same ∙ ap (λ z. z.trip) (sym is) in
-        let less = subst (λ t. v.sequence < get_or ends t 0) e (h.below i v (omega (arith, l, m, here)) a) in
-        let f : visit.sequence ≡ w.sequence = ap (λ z. z.sequence) is in
-        omega (arith, less, low, f)
-  ];
-  below = λ k v l a. elim (cases_lt k n) as (λ _. v.sequence < get_or (set ends visit.trip (visit.sequence + 1)) v.trip 0) [
-    | inl before ↦ kept k v before a (cases_order v.trip visit.trip)
-    | inr here ↦ new v (same_visit visits n k visit v (omega (arith, l, here)) at a)
-  ];
-}
-  where
-    within_ends : visit.trip < length ends
-    within_ends = omega (arith, within, h.long)
-
-    new : (v : Visit) → visit ≡ v → v.sequence < get_or (set ends visit.trip (visit.sequence + 1)) v.trip 0
-    new v e = subst (λ z. z.sequence < get_or (set ends visit.trip (visit.sequence + 1)) z.trip 0) e
-        (let s = get_or-set_same ends visit.trip (visit.sequence + 1) 0 within_ends in omega (arith, s))
-
-    kept : (k : ℕ) (v : Visit) → k < n → slice_get visits k ≡ Some v → (v.trip ≡ visit.trip) ⊎ ((v.trip < visit.trip) ⊎ (visit.trip < v.trip)) → v.sequence < get_or (set ends visit.trip (visit.sequence + 1)) v.trip 0
-    kept k v l a (inl e) =
-        let less = subst (λ t. v.sequence < get_or ends t 0) e (h.below k v l a) in
-        subst (λ t. v.sequence < get_or (set ends visit.trip (visit.sequence + 1)) t 0) (sym e)
-        (let s = get_or-set_same ends visit.trip (visit.sequence + 1) 0 within_ends in omega (arith, s, less, low))
-    kept k v l a (inr apart) =
-        let other = get_or-set_other ends visit.trip v.trip (visit.sequence + 1) 0 (λ e. elim apart as (λ _. ⊥) [ inl x ↦ absurd (omega (arith, x, e)) | inr x ↦ absurd (omega (arith, x, e)) ]) in
-        let less = h.below k v l a in
-        omega (arith, other, less)
-
-pub ends_all : (ends : List ℕ) (visits : List Visit) (n trips : ℕ) → AreEnds ends visits n trips → length visits ≤ n → RisesByTrip visits
-ends_all ends visits n trips h long = record { at = λ i j v w l a b. h.rising i j v w l (let within = slice_get_within visits j w b in omega (arith, within, long)) a b }
 
 pub any_on : {X : Type 0} (p q : X → Bool) (n : ℕ) (xs : List X) → ((k : ℕ) (x : X) → k < n → slice_get xs k ≡ Some x → p x ≡ q x) → list_any p (take n xs) ≡ list_any q (take n xs)
 any_on p q zero xs h = refl
@@ -86,16 +33,8 @@ any_on p q (suc n) (x ∷ xs) h = ap (λ b. b || list_any p (take n xs)) (h 0 x 
 
 any_more : {X : Type 0} (p : X → Bool) (n : ℕ) (xs : List X) (x : X) → slice_get xs n ≡ Some x → list_any p (take (suc n) xs) ≡ (list_any p (take n xs) || p x)
 any_more p n [] x at = absurd (none_some x at)
-any_more p zero (y ∷ ys) x at = or_none (p y) ∙ ap p (same_Some _ _ at)
-  where
-    or_none : (b : Bool) → (b || false) ≡ b
-    or_none true = refl
-    or_none false = refl
-any_more p (suc n) (y ∷ ys) x at = by (p y) (any_more p n ys x at)
-  where
-    by : (b : Bool) → list_any p (take (suc n) ys) ≡ (list_any p (take n ys) || p x) → (b || list_any p (take (suc n) ys)) ≡ ((b || list_any p (take n ys)) || p x)
-    by true r = refl
-    by false r = r
+any_more p zero (y ∷ ys) x at = grind arith
+any_more p (suc n) (y ∷ ys) x at = grind (arith, any_more p n ys x at)
 
 same_key : (t s u r : ℕ) → s < 4294967296 → r < 4294967296 → ((t == u) && (s == r)) ≡ (key_of t s == key_of u r)
 same_key t s u r h g = grind (arith, nat_tests)
@@ -111,9 +50,6 @@ pub record AreSeen (seen : List (ℕ × Unit {0})) (visits : List Visit) (n : �
   pub keys : (q : ℕ) → is_some (entries.find nat_cmp q seen) ≡ list_any (λ v. visit_key v == q) (take n visits)
   pub apart : AreApart visits n
   pub fit : (k : ℕ) (v : Visit) → k < n → slice_get visits k ≡ Some v → v.sequence < 4294967296
-
-pub seen_start : (visits : List Visit) → AreSeen [] visits 0
-seen_start visits = record { keys = λ q. refl; apart = record { apart = λ k w l. absurd (omega (arith, l)) }; fit = λ k v l. absurd (omega (arith, l)) }
 
 module _ (seen : List (ℕ × Unit {0})) (visits : List Visit) (n : ℕ) (visit : Visit) (h : AreSeen seen visits n) (at : slice_get visits n ≡ Some visit) (small : visit.sequence < 4294967296) where
   twin_found : has_twin visits n visit ≡ is_some (entries.find nat_cmp (visit_key visit) seen)
@@ -156,19 +92,9 @@ module _ (seen : List (ℕ × Unit {0})) (visits : List Visit) (n : ℕ) (visit 
           or_false true = refl
           or_false false = refl
 
-pub seen_all : (seen : List (ℕ × Unit {0})) (visits : List Visit) (n : ℕ) → AreSeen seen visits n → n ≡ length visits → FirstTwin visits None
-seen_all seen visits n h e = subst (AreApart visits) e h.apart
-
 -- where the visits of each trip rise, no two are twins
 pub rises_apart : (visits : List Visit) → RisesByTrip visits → AreApart visits (length visits)
-rises_apart visits h = record { apart = λ k w l at. any_false (λ v. is_twin_visit v w) k visits (λ i v before a. not_twin v w (h.at i k v w before a at)) }
-  where
-    not_twin : (v w : Visit) → (v.trip ≡ w.trip → v.sequence < w.sequence) → is_twin_visit v w ≡ false
-    not_twin v w g = by (v.trip == w.trip) refl
-      where
-        by : (b : Bool) → (v.trip == w.trip) ≡ b → (b && (v.sequence == w.sequence)) ≡ false
-        by false e = refl
-        by true e = let same : v.trip ≡ w.trip = grind (arith, nat_tests, e) in let less = g same in grind (arith, nat_tests, less)
+rises_apart visits h = grind (arith, any_false, nat_tests)
 
 -- what a map says of a key that is put into it
 pub key_found : (seen : BTreeMap ℕ (Unit {0}) Global) (key : ℕ) (old : Option (Unit {0})) (b : Bool) → old ≡ get nat_cmp seen key → is_some old ≡ b → is_some (entries.find nat_cmp key seen.entries) ≡ b

@@ -41,8 +41,7 @@ abbrev pub same_visit : StopTimeRow → StopTimeRow → Bool
 same_visit a b = bytes_eq a.trip_id b.trip_id && nat_eq a.stop_sequence b.stop_sequence
 
 some_there : {A : Type 0} (o : Option A) → is_some o ≡ true → (x : A) × (o ≡ Some x)
-some_there None e = absurd (true_false (sym e))
-some_there (Some x) e = (x, refl)
+some_there o e = grind (arith, true_false)
 
 same_take : {X : Type 0} (k n : ℕ) (xs : List X) → k ≤ n → take k (take n xs) ≡ take k xs
 same_take zero n xs h = refl
@@ -69,9 +68,7 @@ module _ (trips : List TripRow) (stops : List StopRow) where
 
   module _ (row : StopTimeRow) where
     judged_of : (t s : Bool) → has_id (λ trip. trip.trip_id) trips row.trip_id ≡ t → has_id (λ stop. stop.stop_id) stops row.stop_id ≡ s → unknown_in_stop_time trips stops row ≡ or_else (unless_known column.TripId t) (unless_known column.StopId s)
-    judged_of t s e f =
-        ap (λ b. or_else (unless_known column.TripId b) (unless_known column.StopId (has_id (λ stop. stop.stop_id) stops row.stop_id))) e
-        ∙ ap (λ b. or_else (unless_known column.TripId t) (unless_known column.StopId b)) f
+    judged_of t s e f = grind arith
 
     trip_there : (b : Bool) → is_some (trip_number row.trip_id) ≡ b → has_id (λ trip. trip.trip_id) trips row.trip_id ≡ b
     trip_there b e = sym (has_by_number (λ (trip : TripRow). trip.trip_id) row.trip_id trips) ∙ e
@@ -90,20 +87,12 @@ module _ (trips : List TripRow) (stops : List StopRow) where
 
     -- the trip of a row that refers to known rows
     pub trip_known : unknown_in_stop_time trips stops row ≡ None → (t : ℕ) × (trip_number row.trip_id ≡ Some t)
-    trip_known h = some_there (trip_number row.trip_id) (by (is_some (trip_number row.trip_id)) refl)
-      where
-        by : (b : Bool) → is_some (trip_number row.trip_id) ≡ b → b ≡ true
-        by true e = refl
-        by false e = absurd (none_some column.TripId (sym h ∙ judged_of false (has_id (λ stop. stop.stop_id) stops row.stop_id) (trip_there false e) refl))
+    trip_known h = grind (arith, judged_of, some_there, trip_there)
 
     -- the visit of a row whose numbers were found
     pub visit_is : (t s : ℕ) (visit : Visit) → trip_number row.trip_id ≡ Some t → stop_number row.stop_id ≡ Some s
         → visit ≡ record { trip = t; stop = s; sequence = row.stop_sequence; stay = stay_of row.arrival_time row.departure_time; pickup = unwrap_or row.pickup_type 0 } → IsVisit trips stops row (Ok visit)
-    visit_is t s visit e f is = (
-      is ∙ ap (λ o. record { trip = unwrap_or o 0; stop = s; sequence = row.stop_sequence; stay = stay_of row.arrival_time row.departure_time; pickup = unwrap_or row.pickup_type 0 }) (sym e)
-          ∙ ap (λ o. record { trip = unwrap_or (trip_number row.trip_id) 0; stop = unwrap_or o 0; sequence = row.stop_sequence; stay = stay_of row.arrival_time row.departure_time; pickup = unwrap_or row.pickup_type 0 }) (sym f),
-      known_row t s e f,
-    )
+    visit_is t s visit e f is = grind (arith, known_row)
 
   -- two known ids are one where their numbers are
   same_number : (one other : List ℕ) (t u : ℕ) → trip_number one ≡ Some t → trip_number other ≡ Some u → (t == u) ≡ bytes_eq one other
@@ -127,24 +116,14 @@ module _ (trips : List TripRow) (stops : List StopRow) where
   numbered id t e = ap (λ o. unwrap_or o 0) e
 
   twins_are : (a b : StopTimeRow) → unknown_in_stop_time trips stops a ≡ None → unknown_in_stop_time trips stops b ≡ None → is_twin_visit (visit_of trips stops a) (visit_of trips stops b) ≡ same_visit a b
-  twins_are a b h g =
-      let t = trip_known a h in
-      let u = trip_known b g in
-      ap (λ c. c && nat_eq a.stop_sequence b.stop_sequence)
-      (ap (λ n. n == known_number (λ trip. trip.trip_id) (by_id (λ trip. trip.trip_id) trips) b.trip_id) (numbered a.trip_id t.0 t.1) ∙ ap (λ n. t.0 == n) (numbered b.trip_id u.0 u.1) ∙ same_number a.trip_id b.trip_id t.0 u.0 t.1 u.1)
+  twins_are a b h g = grind (arith, numbered, same_number, trip_known, nat_tests)
 
   module _ (rows : List StopTimeRow) (visits : List Visit) (unknown : Option Column) (g : AreGathered trips stops rows visits unknown) where
     visit_at : (k : ℕ) (row : StopTimeRow) → k < length visits → slice_get rows k ≡ Some row → slice_get visits k ≡ Some (visit_of trips stops row)
-    visit_at k row h at =
-        ap (λ vs. slice_get vs k) g.visits_of ∙ slice_get-map (visit_of trips stops) (take (length visits) rows) k ∙ ap (option_map (visit_of trips stops)) (taken_at k (length visits) rows h ∙ at)
+    visit_at k row h at = grind (arith, slice_get-map, taken_at)
 
     twin_rows : (k : ℕ) (row : StopTimeRow) → k < length visits → slice_get rows k ≡ Some row → has_twin visits k (visit_of trips stops row) ≡ list_any (λ e. same_visit e row) (take k rows)
-    twin_rows k row h at =
-        ap (λ vs. list_any (λ v. is_twin_visit v (visit_of trips stops row)) (take k vs)) g.visits_of
-        ∙ ap (list_any (λ v. is_twin_visit v (visit_of trips stops row))) (take-map (visit_of trips stops) k (take (length visits) rows) ∙ ap (map (visit_of trips stops)) (same_take k (length visits) rows (omega (arith, h))))
-        ∙ any_mapped (λ v. is_twin_visit v (visit_of trips stops row)) (visit_of trips stops) (take k rows)
-        ∙ any_on (λ e. is_twin_visit (visit_of trips stops e) (visit_of trips stops row)) (λ e. same_visit e row) k rows
-        (λ i e l a. twins_are e row (g.known i e (omega (arith, l, h)) a) (g.known k row h at))
+    twin_rows k row h at = grind (arith, any_mapped, any_on, same_take, take-map, twins_are)
 
     pub row_there : (k : ℕ) → k < length visits → (row : StopTimeRow) × (slice_get rows k ≡ Some row)
     row_there k h = by (slice_get rows k) refl
@@ -221,11 +200,7 @@ taken_short (suc n) (x ∷ xs) = let h = taken_short n xs in omega (arith, h)
 
 -- no more visits are gathered than there are rows, and fewer where a row refers to nothing
 pub gathered_few : (trips : List TripRow) (stops : List StopRow) (rows : List StopTimeRow) (visits : List Visit) (unknown : Option Column) → AreGathered trips stops rows visits unknown → length visits ≤ length rows
-gathered_few trips stops rows visits unknown g =
-    let long : length visits ≡ length (take (length visits) rows) = ap length g.visits_of ∙ length-map (take (length visits) rows) (visit_of trips stops) in
-    let short = taken_short (length visits) rows in
-    omega (arith, long, short)
+gathered_few trips stops rows visits unknown g = grind (arith, length-map, taken_short)
 
 pub gathered_room : (trips : List TripRow) (stops : List StopRow) (rows : List StopTimeRow) (visits : List Visit) (unknown : Option Column) (most : ℕ) → AreGathered trips stops rows visits unknown → length rows ≤ most → IfSome unknown (λ _. length visits < most)
-gathered_room trips stops rows visits None most g h = tt
-gathered_room trips stops rows visits (Some c) most g h = let within = slice_get_within rows (length visits) (g.end).0 (g.end).1 in omega (arith, within, h)
+gathered_room trips stops rows visits unknown most g h = grind (arith, slice_get_within)

@@ -1,6 +1,6 @@
 -- The eight files of a folder, one after another, and stage by stage.
-use Rattle.std.proofs.Common.{◌≡◌, ℕ, List, refl}
-use Rattle.std.specs.Prelude.{Option, Result, Ok, Err}
+use Rattle.std.proofs.Common.{◌≡◌, ℕ, List, refl, arith}
+use Rattle.std.specs.Prelude.{Option, Result, Ok}
 use Rattle.answer_defs.specs.Steps.{◌>>=◌}
 use Rattle.gtfs_rows.specs.Tables.{agency, stops, routes, trips, stop_times, calendar, exceptions, frequencies}
 use Rattle.gtfs_rows.specs.declared.rows.AgencyRow.{AgencyRow}
@@ -25,13 +25,11 @@ use Rattle.sched_load.specs.Stages.{DayRows, days_where, network_where}
 through : {A B C : Type 0} (r : Result A LoadFault) (f : A → Result B LoadFault)
     (k : B → Result C LoadFault) (g : A → Result C LoadFault) → ((x : A) → (f x >>= k) ≡ g x)
     → (r >>= f >>= k) ≡ (r >>= g)
-through (Ok x) f k g h = h x
-through (Err e) f k g h = refl
+through r f k g h = grind arith
 
 beside : {A B : Type 0} (r : Result A LoadFault) (f g : A → Result B LoadFault)
     → ((x : A) → f x ≡ g x) → (r >>= f) ≡ (r >>= g)
-beside (Ok x) f g h = h x
-beside (Err e) f g h = refl
+beside r f g h = grind arith
 
 -- what is told of each file
 abbrev pub Told : Type 0
@@ -126,36 +124,13 @@ module _ (told : Told) where
   abbrev times_on : NetworkTables → List StopTimeRow → Result Dataset LoadFault
   times_on n ti = calendar_told >>= days_on n ti
 
-  abbrev trips_on : List AgencyRow → List StopRow → List RouteRow → List TripRow
-      → Result Dataset LoadFault
-  trips_on ag st ro tr =
-      let n : NetworkTables = record { agencies = ag; stops = st; routes = ro; trips = tr } in
-      times_told n >>= times_on n
-
-  abbrev routes_on : List AgencyRow → List StopRow → List RouteRow → Result Dataset LoadFault
-  routes_on ag st ro = trips_told ro >>= trips_on ag st ro
-
-  abbrev stops_on : List AgencyRow → List StopRow → Result Dataset LoadFault
-  stops_on ag st = routes_told ag >>= routes_on ag st
-
-  abbrev agencies_on : List AgencyRow → Result Dataset LoadFault
-  agencies_on ag = stops_told >>= stops_on ag
-
   days_joined : (n : NetworkTables) (ti : List StopTimeRow) → after_times n ti ≡ times_on n ti
   unfolding days_where
-  days_joined n ti =
-      through calendar_told after_calendar (after_days n ti) (days_on n ti) (λ ca.
-      through exceptions_told (after_exceptions ca) (after_days n ti) (last n ti ca) (λ ex. refl))
+  days_joined n ti = grind (arith, through)
 
   pub by_stages : (network_where told >>= after_network) ≡ dataset_where told
   unfolding network_where dataset_where
-  by_stages =
-      through agencies_told after_agencies after_network agencies_on (λ ag.
-      through stops_told (after_stops ag) after_network (stops_on ag) (λ st.
-      through (routes_told ag) (after_routes ag st) after_network (routes_on ag st) (λ ro.
-      through (trips_told ro) (after_trips ag st ro) after_network (trips_on ag st ro) (λ tr.
-      let n : NetworkTables = record { agencies = ag; stops = st; routes = ro; trips = tr } in
-      beside (times_told n) (after_times n) (times_on n) (days_joined n)))))
+  by_stages = grind (arith, beside, days_joined, through)
 
 -- the words of the code's contracts
 module _ (folder : List ℕ) (fs : List (List ℕ × List ℕ)) where

@@ -1,5 +1,6 @@
 -- A timetable of literals is a timetable where tests of its lists compute to true.
-use Rattle.std.proofs.Common.{◌≡◌, ℕ, ◌+◌, ◌^◌, Bool, true, false, nat_lt, nat_le, ◌==◌, ◌&&◌, ◌||◌, ◌<◌, ◌⊎◌, inl, inr, Some, List, [], ◌∷◌, length, map, sum_by, slice_get, refl, Less, Equal, Greater, arith}
+use Rattle.std.proofs.lemmas.Bool.Decides.{nat_tests}
+use Rattle.std.proofs.Common.{◌≡◌, ℕ, ◌+◌, ◌^◌, Bool, true, nat_lt, nat_le, ◌==◌, ◌&&◌, ◌||◌, ◌<◌, ◌⊎◌, Some, List, [], ◌∷◌, length, map, sum_by, slice_get, refl, Less, arith}
 use Rattle.std.specs.Cmp.Lexicographic.{slice_cmp}
 use Rattle.std.specs.List.{list_all}
 use Rattle.std.specs.Ordering.{nat_cmp, is_lt}
@@ -17,9 +18,7 @@ abbrev pub rises : {X : Type 0} → (X → List ℕ) → List X → Bool
 rises id xs = all_pairs (λ x y. is_lt (slice_cmp nat_cmp (id x) (id y))) xs
 
 is_less : (o : Ordering) → is_lt o ≡ true → o ≡ Less
-is_less Less e = refl
-is_less Equal e = cc
-is_less Greater e = cc
+is_less o e = grind arith
 
 rises-is : {X : Type 0} (id : X → List ℕ) (xs : List X) → rises id xs ≡ true → RisesById id xs
 rises-is id xs e = record { rise = λ i j x y h at then. is_less (slice_cmp nat_cmp (id x) (id y)) (pairs_at (λ x y. is_lt (slice_cmp nat_cmp (id x) (id y))) xs e i j x y h at then) }
@@ -29,12 +28,7 @@ abbrev pub starts_before : PlanDerived → PlanDerived → Bool
 starts_before a b = nat_lt a.pattern b.pattern || ((a.pattern == b.pattern) && nat_lt a.start b.start)
 
 is_before : (a b : PlanDerived) → starts_before a b ≡ true → (a.pattern < b.pattern) ⊎ ((a.pattern ≡ b.pattern) × (a.start < b.start))
-is_before a b e = by_pattern (nat_lt a.pattern b.pattern) refl e where
-  by_pattern : (lower : Bool) → nat_lt a.pattern b.pattern ≡ lower → (lower || ((a.pattern == b.pattern) && nat_lt a.start b.start)) ≡ true → (a.pattern < b.pattern) ⊎ ((a.pattern ≡ b.pattern) × (a.start < b.start))
-  by_pattern true lower passes = inl (ltb-true a.pattern b.pattern lower)
-  by_pattern false lower passes =
-      let parts = and_parts (a.pattern == b.pattern) (nat_lt a.start b.start) passes in
-      inr (eqb-true a.pattern b.pattern parts.0, ltb-true a.start b.start parts.1)
+is_before a b e = grind (arith, Bool, and_parts, eqb-true, ltb-true, nat_tests)
 
 starts-rise : (derived : List PlanDerived) → all_pairs starts_before derived ≡ true → RiseByStart derived
 starts-rise derived e = record { rise = λ i j a b h at then. is_before a b (pairs_at starts_before derived e i j a b h at then) }

@@ -1,5 +1,6 @@
 -- Facts of every element of a list, of every two and of every two neighbours, from tests that compute.
-use Rattle.std.proofs.Common.{◌≡◌, ℕ, zero, suc, ◌<◌, Bool, true, false, nat_lt, ◌&&◌, Option, Some, None, unwrap_or, List, [], ◌∷◌, slice_get, ℤ, pos, negsuc, refl, sym, ap, ◌∙◌, arith}
+use Rattle.std.proofs.lemmas.Bool.Decides.{nat_tests}
+use Rattle.std.proofs.Common.{◌≡◌, ℕ, zero, suc, ◌<◌, Bool, true, false, nat_lt, ◌&&◌, Option, Some, None, unwrap_or, List, [], ◌∷◌, slice_get, ℤ, pos, negsuc, sym, ap, ◌∙◌, arith}
 use Rattle.std.specs.List.{list_all}
 use Rattle.std.proofs.lemmas.Bool.{ltb-true}
 use Rattle.std.proofs.lemmas.Int.{ints}
@@ -7,12 +8,10 @@ use Rattle.std.proofs.lemmas.Option.{same_Some}
 use Rattle.sched_types.specs.Timetable.{IsSmall}
 
 first_part : (a b : Bool) → (a && b) ≡ true → a ≡ true
-first_part true b e = refl
-first_part false b e = e
+first_part a b e = grind arith
 
 second_part : (a b : Bool) → (a && b) ≡ true → b ≡ true
-second_part true b e = e
-second_part false b e = cc
+second_part a b e = grind arith
 
 -- each element passes
 pub all_at : {X : Type 0} (test : X → Bool) (xs : List X) → list_all test xs ≡ true → (i : ℕ) (x : X) → slice_get xs i ≡ Some x → test x ≡ true
@@ -35,10 +34,8 @@ pub pairs_at : {X : Type 0} (test : X → X → Bool) (xs : List X) → all_pair
 unfolding all_pairs
 pairs_at test [] e i j x y h at then = cc
 pairs_at test (z ∷ zs) e i zero x y h at then = absurd (omega arith)
-pairs_at test (z ∷ zs) e zero (suc j) x y h at then =
-    ap (λ w. test w y) (sym (same_Some z x at)) ∙ all_at (test z) zs (first_part (list_all (test z) zs) (all_pairs test zs) e) j y then
-pairs_at test (z ∷ zs) e (suc i) (suc j) x y h at then =
-    pairs_at test zs (second_part (list_all (test z) zs) (all_pairs test zs) e) i j x y (omega arith) at then
+pairs_at test (z ∷ zs) e zero (suc j) x y h at then = grind (arith, all_at (test z) zs (first_part (list_all (test z) zs) (all_pairs test zs) e) j y, first_part (list_all (test z) zs) (all_pairs test zs) e)
+pairs_at test (z ∷ zs) e (suc i) (suc j) x y h at then = grind (arith, pairs_at test zs (second_part (list_all (test z) zs) (all_pairs test zs) e) i j x y (omega arith) at)
 
 pub nested_pairs_at : {X : Type 0} (test : X → X → Bool) (xss : List (List X)) → list_all (all_pairs test) xss ≡ true → (k i j : ℕ) (x y : X) → i < j → slice_get (unwrap_or (slice_get xss k) []) i ≡ Some x → slice_get (unwrap_or (slice_get xss k) []) j ≡ Some y → test x y ≡ true
 nested_pairs_at test [] e k i j x y h at then = cc
@@ -59,5 +56,4 @@ is_small (pos n) = nat_lt n 1_000_000_000_000
 is_small (negsuc n) = false
 
 pub is_small-is : (seconds : ℤ) → is_small seconds ≡ true → IsSmall seconds
-is_small-is (pos n) e = let lt : n < 1_000_000_000_000 = ltb-true n 1_000_000_000_000 e in record { above = omega (arith, ints); below = omega (arith, ints) }
-is_small-is (negsuc n) e = cc
+is_small-is seconds e = grind (arith, ints, ltb-true, nat_tests)

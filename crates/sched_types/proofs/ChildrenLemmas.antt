@@ -1,5 +1,5 @@
 -- The children among the first stops, as a pass over the stops gathers them.
-use Rattle.std.proofs.Common.{◌≡◌, ◌≢◌, ℕ, ◌+◌, ◌<◌, Bool, true, false, nat_eq, Some, None, List, [], ◌∷◌, ◌++◌, length, map, filter, get_or, set, slice_get, refl, sym, ap, append-nil, ◌∙◌, inl, inr, arith}
+use Rattle.std.proofs.Common.{◌≡◌, ◌≢◌, ℕ, ◌+◌, ◌<◌, Bool, true, false, nat_eq, Some, None, List, [], ◌∷◌, ◌++◌, length, map, filter, get_or, set, slice_get, refl, sym, ap, append-nil, ◌∙◌, arith}
 use Rattle.std.specs.Global.{Vec}
 use Rattle.std.specs.List.{range_with_len}
 use Rattle.std.proofs.lemmas.Bool.{cases_order}
@@ -48,10 +48,7 @@ module _ (stops : List Stop) (i : ℕ) (stop : Stop) (at : slice_get stops i ≡
 
 -- lists of one function of their place, where the function stays
 pub lists_same : {X : Type 0} (lists : List X) (f g : ℕ → X) (n : ℕ) → lists ≡ map f (range_with_len 0 n) → ((k : ℕ) → g k ≡ f k) → lists ≡ map g (range_with_len 0 n)
-lists_same lists f g n is stays =
-    is ∙ same_lists (map f (range_with_len 0 n)) (map g (range_with_len 0 n)) (length-map-range_with_len f 0 n ∙ sym (length-map-range_with_len g 0 n))
-    (λ k d h. let lt : k < n = omega (arith, length-map-range_with_len f 0 n) in
-    get_or-map-range_with_len f 0 n k k d lt (omega arith) ∙ sym (stays k) ∙ sym (get_or-map-range_with_len g 0 n k k d lt (omega arith)))
+lists_same lists f g n is stays = grind (arith, get_or-map-range_with_len, length-map-range_with_len, same_lists)
 
 -- and where it changes at one place
 module _ {X : Type 0} (lists : List X) (f g : ℕ → X) (n p : ℕ) (y : X) (within : p < n) (is : lists ≡ map f (range_with_len 0 n)) (here : g p ≡ y) (others : (k : ℕ) → k ≢ p → g k ≡ f k) where
@@ -62,18 +59,10 @@ module _ {X : Type 0} (lists : List X) (f g : ℕ → X) (n p : ℕ) (y : X) (wi
   set_other k d lt other = get_or-set_other lists p k y d other ∙ ap (λ l. get_or l k d) is ∙ get_or-map-range_with_len f 0 n k k d lt (omega arith) ∙ sym (others k other)
 
   set_at : (k : ℕ) (d : X) → k < n → get_or (set lists p y) k d ≡ g k
-  set_at k d lt =
-      elim (cases_order k p) [
-        | inl same ↦ ap (λ j. get_or (set lists p y) j d) same ∙ get_or-set_same lists p y d (omega (arith, size)) ∙ sym here ∙ ap g (sym same)
-        | inr (inl below) ↦ set_other k d lt (omega arith)
-        | inr (inr above) ↦ set_other k d lt (omega arith)
-      ]
+  set_at k d lt = grind (arith, cases_order, get_or-set_same, set_other, size)
 
   pub lists_set : set lists p y ≡ map g (range_with_len 0 n)
-  lists_set =
-      same_lists (set lists p y) (map g (range_with_len 0 n)) (length-set lists p y ∙ size ∙ sym (length-map-range_with_len g 0 n))
-      (λ k d h. let lt : k < n = omega (arith, length-set lists p y, size) in
-      set_at k d lt ∙ sym (get_or-map-range_with_len g 0 n k k d lt (omega arith)))
+  lists_set = grind (arith, get_or-map-range_with_len, length-map-range_with_len, length-set, same_lists, set_at, size)
 
 -- lists in vectors that are those of a function: their number, and the list at a place
 module _ (vs : List (Vec ℕ)) (f : ℕ → List ℕ) (n : ℕ) (is : map (λ v. v.items) vs ≡ map f (range_with_len 0 n)) where

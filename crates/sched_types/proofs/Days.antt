@@ -38,11 +38,7 @@ first_number first day h =
 
 -- no date is before another whose number is no higher
 not_before : (a b : ℕ) → IsDay a → IsDay b → day_number a ≤ day_number b → a ≤ b
-not_before a b first second h =
-    elim (cases_lt b a) [
-      | inl lt ↦ absurd (omega (arith, day_number-lt b a second first lt))
-      | inr ge ↦ ge
-    ]
+not_before a b first second h = grind (arith, cases_lt, day_number-lt)
 
 module _ (t : Timetable) (sound : IsTimetable t) where
   pub first_day : IsDay t.first

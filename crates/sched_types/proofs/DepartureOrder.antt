@@ -1,9 +1,9 @@
 -- A list in order of a key: where those with one key stand, and that a stable sort keeps their order.
-use Rattle.std.proofs.Common.{◌≡◌, ℕ, zero, suc, ◌+◌, ◌-◌, ◌<◌, ◌≤◌, Bool, true, false, not, nat_eq, cond, ◌&&◌, Option, Some, None, List, [], ◌∷◌, length, filter, get_or, take, drop, refl, sym, ap, subst, ◌∙◌, Less, Equal, Greater, arith}
+use Rattle.std.proofs.Common.{◌≡◌, ℕ, zero, suc, ◌+◌, ◌-◌, ◌<◌, ◌≤◌, Bool, true, false, not, nat_eq, ◌&&◌, Option, Some, List, [], ◌∷◌, length, filter, get_or, take, drop, refl, sym, ap, subst, ◌∙◌, Equal, arith}
 use Rattle.std.specs.Cmp.{IsTotalOrder}
 use Rattle.std.specs.List.Sorted.{IsNonDecreasingBy, IsPartitionPoint, IsPartitionedBy, IsSortedByKey, IsStableByKey, ties}
 use Rattle.std.specs.Option.{option_cmp}
-use Rattle.std.specs.Ordering.{nat_cmp, is_lt, is_le, is_eq, ordering_index, ordering_reverse, ordering_then}
+use Rattle.std.specs.Ordering.{nat_cmp, is_lt, is_le, is_eq, ordering_index, ordering_reverse}
 use Rattle.std.specs.declared.cmp.Ordering.{Ordering}
 use Rattle.std.proofs.lemmas.Bool.Decides.{nat_tests}
 use Rattle.std.proofs.lemmas.Cmp.{nat_cmp_total, on_total, then_total}
@@ -22,27 +22,7 @@ departure_total : IsTotalOrder departure_cmp
 departure_total = then_total (on_total (λ d. d.route) nat_cmp_total) (then_total (on_total (λ d. d.direction) nat_cmp_total) (on_total (λ d. d.seconds) nat_cmp_total))
 
 option_total : {K : Type 0} {R : K → K → Ordering} → IsTotalOrder R → IsTotalOrder (option_cmp R)
-option_total {K} {R} o = record { antisymm = back; trans = chain; congr = alike } where
-  back : (x y : Option K) → option_cmp R x y ≡ ordering_reverse (option_cmp R y x)
-  back None None = refl
-  back None (Some y) = refl
-  back (Some x) None = refl
-  back (Some x) (Some y) = o.antisymm x y
-
-  chain : (x y z : Option K) → option_cmp R x y ≡ Less → option_cmp R y z ≡ Less → option_cmp R x z ≡ Less
-  chain None None z a b = cc
-  chain None (Some y) None a b = cc
-  chain None (Some y) (Some z) a b = refl
-  chain (Some x) None z a b = cc
-  chain (Some x) (Some y) None a b = cc
-  chain (Some x) (Some y) (Some z) a b = o.trans x y z a b
-
-  alike : (x y z : Option K) → option_cmp R x y ≡ Equal → option_cmp R x z ≡ option_cmp R y z
-  alike None None z e = refl
-  alike None (Some y) z e = cc
-  alike (Some x) None z e = cc
-  alike (Some x) (Some y) None e = refl
-  alike (Some x) (Some y) (Some z) e = o.congr x y z e
+option_total o = grind (arith, Option)
 
 pub departures_total : IsTotalOrder (option_cmp departure_cmp)
 departures_total = option_total departure_total
@@ -51,28 +31,17 @@ equal_number : (a b : ℕ) → nat_eq a b ≡ is_eq (nat_cmp a b)
 equal_number a b = grind (arith, nat_tests)
 
 and_last : (a b c : Bool) → (a && b && c) ≡ (a && (b && c))
-and_last true b c = refl
-and_last false b c = refl
+and_last a b c = grind arith
 
 -- a departure is the wanted one where it compares as Equal
 pub wanted_is : (wanted : Departure) (d : Option Departure) → is_departure wanted d ≡ is_eq (option_cmp departure_cmp d (Some wanted))
-wanted_is wanted None = refl
-wanted_is wanted (Some d) =
-    and_last (nat_eq d.route wanted.route) (nat_eq d.direction wanted.direction) (nat_eq d.seconds wanted.seconds)
-    ∙ ap (λ b. b && (nat_eq d.direction wanted.direction && nat_eq d.seconds wanted.seconds)) (equal_number d.route wanted.route)
-    ∙ ap (λ b. is_eq (nat_cmp d.route wanted.route) && (b && nat_eq d.seconds wanted.seconds)) (equal_number d.direction wanted.direction)
-    ∙ ap (λ b. is_eq (nat_cmp d.route wanted.route) && (is_eq (nat_cmp d.direction wanted.direction) && b)) (equal_number d.seconds wanted.seconds)
-    ∙ ap (λ b. is_eq (nat_cmp d.route wanted.route) && b) (sym (equal_then (nat_cmp d.direction wanted.direction) (nat_cmp d.seconds wanted.seconds)))
-    ∙ sym (equal_then (nat_cmp d.route wanted.route) (ordering_then (nat_cmp d.direction wanted.direction) (nat_cmp d.seconds wanted.seconds)))
+wanted_is wanted d = grind (arith, and_last, equal_number, equal_then, nat_tests)
 
 -- ---- filters
 
 first_passes : {X : Type 0} (p : X → Bool) (xs : List X) (y : X) (ys : List X) → filter p xs ≡ y ∷ ys → p y ≡ true
 first_passes p [] y ys e = cc
-first_passes p (x ∷ xs) y ys e = by_test (p x) refl e (λ rest. first_passes p xs y ys rest) where
-  by_test : (b : Bool) → p x ≡ b → cond b (x ∷ filter p xs) (filter p xs) ≡ y ∷ ys → (filter p xs ≡ y ∷ ys → p y ≡ true) → p y ≡ true
-  by_test true passes at rest = let same : x ≡ y = cc in ap p (sym same) ∙ passes
-  by_test false passes at rest = rest at
+first_passes p (x ∷ xs) y ys e = grind (arith, first_passes p xs y ys, Bool)
 
 -- the elements from a place on that pass, where no others do
 pub filter_between : {X : Type 0} (p : X → Bool) (xs : List X) (first count : ℕ) → ((k : ℕ) (d : X) → k < first → k < length xs → p (get_or xs k d) ≡ false)
@@ -92,50 +61,28 @@ filter_between p (x ∷ xs) zero zero before within behind =
 -- ---- tests of an Ordering
 
 less_not_equal : (o : Ordering) → is_lt o ≡ true → is_eq o ≡ false
-less_not_equal Less e = refl
-less_not_equal Equal e = cc
-less_not_equal Greater e = refl
+less_not_equal o e = grind arith
 
 up_to_is_equal : (o : Ordering) → is_lt o ≡ false → is_le o ≡ true → is_eq o ≡ true
-up_to_is_equal Less a b = cc
-up_to_is_equal Equal a b = refl
-up_to_is_equal Greater a b = cc
+up_to_is_equal o a b = grind arith
 
 above_not_equal : (o : Ordering) → is_le o ≡ false → is_eq o ≡ false
-above_not_equal Less e = refl
-above_not_equal Equal e = cc
-above_not_equal Greater e = refl
+above_not_equal o e = grind arith
 
 less_below : (o u : Ordering) → ordering_index o ≤ ordering_index u → is_lt u ≡ true → is_lt o ≡ true
-less_below Less u h e = refl
-less_below Equal Less h e = absurd (omega arith)
-less_below Equal Equal h e = cc
-less_below Equal Greater h e = cc
-less_below Greater Less h e = absurd (omega arith)
-less_below Greater Equal h e = cc
-less_below Greater Greater h e = cc
+less_below o u h e = grind arith
 
 up_to_below : (o u : Ordering) → ordering_index o ≤ ordering_index u → is_le u ≡ true → is_le o ≡ true
-up_to_below Less u h e = refl
-up_to_below Equal u h e = refl
-up_to_below Greater Less h e = absurd (omega arith)
-up_to_below Greater Equal h e = absurd (omega arith)
-up_to_below Greater Greater h e = e
+up_to_below o u h e = grind arith
 
 neither_is_equal : (o : Ordering) → (not (is_lt (ordering_reverse o)) && not (is_lt o)) ≡ is_eq o
-neither_is_equal Less = refl
-neither_is_equal Equal = refl
-neither_is_equal Greater = refl
+neither_is_equal o = grind arith
 
 back_again : (o : Ordering) → ordering_reverse (ordering_reverse o) ≡ o
-back_again Less = refl
-back_again Equal = refl
-back_again Greater = refl
+back_again o = grind arith
 
 is_equal : (o : Ordering) → is_eq o ≡ true → o ≡ Equal
-is_equal Less e = cc
-is_equal Equal e = refl
-is_equal Greater e = cc
+is_equal o e = grind arith
 
 -- ---- a key's place in an order
 
@@ -144,12 +91,7 @@ module _ {X K : Type 0} (R : K → K → Ordering) (total : IsTotalOrder R) (key
   has x = is_eq (R (key x) wanted)
 
   tied : (x : X) → has x ≡ true → (y : X) → ties (λ a b. is_lt (R (key a) (key b))) x y ≡ has y
-  tied x e y =
-      let there : R (key x) (key y) ≡ ordering_reverse (R (key y) wanted) = total.congr (key x) wanted (key y) (is_equal (R (key x) wanted) e) ∙ total.antisymm wanted (key y) in
-      let back : R (key y) (key x) ≡ R (key y) wanted = total.antisymm (key y) (key x) ∙ ap ordering_reverse there ∙ back_again (R (key y) wanted) in
-      ap (λ o. not (is_lt o) && not (is_lt (R (key y) (key x)))) there
-      ∙ ap (λ o. not (is_lt (ordering_reverse (R (key y) wanted))) && not (is_lt o)) back
-      ∙ neither_is_equal (R (key y) wanted)
+  tied x e y = grind (arith, back_again, is_equal, neither_is_equal)
 
   -- a stable sort keeps the order of those with one key
   pub kept : (xs ys : List X) → IsStableByKey key R xs ys → filter has ys ≡ filter has xs
@@ -192,9 +134,7 @@ module _ {X K : Type 0} (R : K → K → Ordering) (total : IsTotalOrder R) (key
 
     pub between_in : (first count : ℕ) (rest : List X) → rest ≡ drop first order → first ≤ length order → IsPartitionPoint (λ x. is_lt (R (key x) wanted) ≡ true) (λ x. is_lt (R (key x) wanted) ≡ false) order first
         → IsPartitionPoint (λ x. is_le (R (key x) wanted) ≡ true) (λ x. is_le (R (key x) wanted) ≡ false) rest count → take count rest ≡ filter has order
-    between_in first count rest whole inside low high =
-        ap (take count) whole
-        ∙ between first count inside low (subst (λ (xs : List X). IsPartitionPoint (λ x. is_le (R (key x) wanted) ≡ true) (λ x. is_le (R (key x) wanted) ≡ false) xs count) whole high)
+    between_in first count rest whole inside low high = grind (arith, between)
 
 -- a stable sort of the numbers of all trips by their departures puts them in order
 pub put_in_order : (trips : List Trip) (places : List (List Place)) (numbers order : List ℕ) → numbers ≡ range_with_len 0 (length trips)

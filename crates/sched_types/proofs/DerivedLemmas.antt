@@ -42,43 +42,27 @@ abbrev Before : PlanDerived → PlanDerived → Type 0
 Before a b = (a.pattern < b.pattern) ⊎ ((a.pattern ≡ b.pattern) × (a.start < b.start))
 
 not_lower : (a b : PlanDerived) → Before a b → is_lt (start_cmp b a) ≡ false
-not_lower a b (inl h) = ap (λ o. is_lt (ordering_then o (nat_cmp b.start a.start))) (compared_higher a.pattern b.pattern h)
-not_lower a b (inr both) =
-    ap (λ o. is_lt (ordering_then o (nat_cmp b.start a.start))) (compared_same a.pattern b.pattern both.0)
-    ∙ ap is_lt (compared_higher a.start b.start both.1)
+not_lower a b h2 = grind (arith, compared_higher, compared_same)
 
 not_lower_pattern : (a b : PlanDerived) → Before a b → is_lt (nat_cmp b.pattern a.pattern) ≡ false
-not_lower_pattern a b (inl h) = not_lower_number a.pattern b.pattern (omega arith)
-not_lower_pattern a b (inr both) = not_lower_number a.pattern b.pattern (omega (arith, both.0))
+not_lower_pattern a b h2 = grind (arith, not_lower_number)
 
 -- the trip at a start is the one that compares as Equal
 abbrev pub wanted : ℕ → ℕ → PlanDerived
 wanted pattern start = record { pattern = pattern; start = start; trip = 0 }
 
 wanted_is : (pattern start : ℕ) (d : PlanDerived) → starts_so pattern start d ≡ is_eq (start_cmp d (wanted pattern start))
-wanted_is pattern start d =
-    ap (λ b. b && nat_eq d.start start) (equal_number d.pattern pattern)
-    ∙ ap (λ b. is_eq (nat_cmp d.pattern pattern) && b) (equal_number d.start start)
-    ∙ sym (equal_then (nat_cmp d.pattern pattern) (nat_cmp d.start start))
+wanted_is pattern start d = grind (arith, equal_number, equal_then, nat_tests)
 
 -- what is before it starts otherwise
 other_number : (a b : ℕ) → a < b → nat_eq a b ≡ false
 other_number a b h = grind (arith, nat_tests)
 
 none_with : (b : Bool) → (b && false) ≡ false
-none_with true = refl
-none_with false = refl
+none_with b = grind arith
 
 other_start : (pattern start : ℕ) (a b : PlanDerived) → starts_so pattern start b ≡ true → Before a b → starts_so pattern start a ≡ false
-other_start pattern start a b e (inl h) =
-    let parts = and_parts (nat_eq b.pattern pattern) (nat_eq b.start start) e in
-    let same : b.pattern ≡ pattern = eqb-true b.pattern pattern parts.0 in
-    ap (λ p. p && nat_eq a.start start) (other_number a.pattern pattern (omega (arith, same, h)))
-other_start pattern start a b e (inr both) =
-    let parts = and_parts (nat_eq b.pattern pattern) (nat_eq b.start start) e in
-    let same : b.start ≡ start = eqb-true b.start start parts.1 in
-    ap (λ s. nat_eq a.pattern pattern && s) (other_number a.start start (omega (arith, same, both.1)))
-    ∙ none_with (nat_eq a.pattern pattern)
+other_start pattern start a b e h5 = grind (arith, and_parts, eqb-true, none_with, other_number, nat_tests)
 
 -- ---- what a list finds
 

@@ -44,11 +44,7 @@ higher_text xs ys e = sym (is_eq-slice_cmp xs ys) ∙ ap is_eq e
 
 -- what is below a text is below each text that stands as Equal to it
 below_same : (a b w : List ℕ) → slice_cmp nat_cmp a b ≡ Less → slice_cmp nat_cmp b w ≡ Equal → slice_cmp nat_cmp a w ≡ Less
-below_same a b w lt eq =
-    nat_list_cmp_total.antisymm a w
-    ∙ ap ordering_reverse (sym (nat_list_cmp_total.congr b w a eq))
-    ∙ sym (nat_list_cmp_total.antisymm a b)
-    ∙ lt
+below_same a b w lt eq = grind (arith, nat_list_cmp_total, nat_tests)
 
 module _ {X : Type 0} (id : X → List ℕ) (xs : List X) (up : RisesById id xs) where
   rises : (i j : ℕ) (d : X) → i < j → j < length xs → slice_cmp nat_cmp (id (get_or xs i d)) (id (get_or xs j d)) ≡ Less

@@ -30,8 +30,7 @@ taken_le vs i trip h e = omega (arith, taken_more vs i trip h e, sum_by-take-le 
 
 -- no trip has more places than all trips together
 pub few_places : (t : Timetable) (sound : IsTimetable t) (trip : ℕ) → trip < length t.trips → length (places_of t trip) < 2 ^ 32
-few_places t sound trip h =
-    omega (arith, sound.few_times, sound.places_each, get_or-le-sum_by length t.places trip [] (omega (arith, sound.places_each)), ap length (unwrap_or-slice_get t.places trip []))
+few_places t sound trip h = grind (arith, get_or-le-sum_by, unwrap_or-slice_get)
 
 module _ (p : Inside) (sound : IsSound p) where
   -- there is a list of places for each trip, one of marks for each service, and one of children for each stop
@@ -39,14 +38,10 @@ module _ (p : Inside) (sound : IsSound p) where
   length_places = sym (length-map p.places.items (λ v. v.items)) ∙ sound.table.places_each
 
   pub length_running : length p.running.items ≡ length (table_in p).active
-  length_running =
-      sym (length-map p.running.items (λ v. v.items)) ∙ ap length sound.running
-      ∙ length-map (table_in p).active (days_marked (length p.bases.items))
+  length_running = grind (arith, length-map)
 
   pub length_children : length p.children.items ≡ length p.stops.items
-  length_children =
-      sym (length-map p.children.items (λ v. v.items)) ∙ ap length sound.children
-      ∙ length-map-range_with_len (children_of p.stops.items) 0 (length p.stops.items)
+  length_children = grind (arith, length-map, length-map-range_with_len)
 
   -- the places that are kept for a trip, and the marks for a service
   pub places_at : (trip : ℕ) (places : Vec Place) → trip < length p.trips.items → places ≡ get_or p.places.items trip places → places.items ≡ places_of (table_in p) trip

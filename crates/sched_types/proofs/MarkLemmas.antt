@@ -10,18 +10,13 @@ use Rattle.sched_types.proofs.ChildrenLemmas.{lists_set}
 
 -- at first none is
 pub none_marked : (count : ℕ) → replicate count false ≡ days_marked count []
-none_marked count =
-    same_lists (replicate count false) (days_marked count []) (length-replicate count false ∙ sym (length-map-range_with_len (λ _. false) 0 count))
-    (λ k d h. let lt : k < count = omega (arith, length-replicate count false) in
-    get_or-replicate count k false d lt ∙ sym (get_or-map-range_with_len (λ _. false) 0 count k k d lt (omega arith)))
+none_marked count = grind (arith, get_or-map-range_with_len, get_or-replicate, length-map-range_with_len, length-replicate, same_lists)
 
 or_true : (a b : Bool) → b ≡ true → (a || b) ≡ true
-or_true true b e = refl
-or_true false b e = e
+or_true a b e = grind arith
 
 or_false : (a b : Bool) → b ≡ false → (a || b) ≡ a
-or_false true b e = refl
-or_false false b e = e
+or_false a b e = grind arith
 
 same_day : (a b : ℕ) → a ≡ b → nat_eq a b ≡ true
 same_day a b e = grind (arith, nat_tests)

@@ -1,5 +1,6 @@
 -- Laws of timetables, for the crates above: ids and numbers lead to one another, and what a run has.
-use Rattle.std.proofs.Common.{◌≡◌, ℕ, ◌<◌, Bool, true, false, nat_eq, nat_lt, ◌&&◌, Option, Some, None, List, [], ◌∷◌, length, get_or, slice_get, refl, sym, ap, ◌∙◌, inl, inr, Less, Equal}
+use Rattle.std.proofs.lemmas.Bool.Decides.{nat_tests}
+use Rattle.std.proofs.Common.{◌≡◌, ℕ, ◌<◌, Bool, true, nat_eq, ◌&&◌, Option, Some, List, [], ◌∷◌, length, get_or, slice_get, refl, sym, ap, ◌∙◌, inl, inr, Less, Equal, arith}
 use Rattle.std.specs.Bool.{OnTrue}
 use Rattle.std.specs.Cmp.Lexicographic.{slice_cmp, same_text}
 use Rattle.std.specs.List.{list_any}
@@ -53,29 +54,19 @@ pub record IsRunOf (t : Timetable) (run : Run) : Type 0 where
   pub active : list_any (λ day. nat_eq day run.day) (days_of_trip t (slice_get t.trips run.trip)) ≡ true
 
 front : (a b : Bool) → (a && b) ≡ true → a ≡ true
-front true b e = refl
-front false b e = e
+front a b e = grind arith
 
 back : (a b : Bool) → (a && b) ≡ true → b ≡ true
-back true b e = e
-back false b e = cc
+back a b e = grind arith
 
 pub run_has : (t : Timetable) (run : Run) → is_run t run ≡ true → IsRunOf t run
-run_has t run e =
-    let active = list_any (λ day. nat_eq day run.day) (days_of_trip t (slice_get t.trips run.trip)) in
-    let both = front (nat_lt run.day (length t.bases) && nat_lt 1 (length (places_of t run.trip))) active e in
-    record {
-      day = ltb-true run.day (length t.bases) (front (nat_lt run.day (length t.bases)) (nat_lt 1 (length (places_of t run.trip))) both);
-      many = ltb-true 1 (length (places_of t run.trip)) (back (nat_lt run.day (length t.bases)) (nat_lt 1 (length (places_of t run.trip))) both);
-      active = back (nat_lt run.day (length t.bases) && nat_lt 1 (length (places_of t run.trip))) active e;
-    }
+run_has t run e = grind (arith, back, front, ltb-true, slice_get, nat_tests)
 
 no_list : (run : Run) → list_any (λ day. nat_eq day run.day) [] ≡ true → ⊥
 no_list run e = cc
 
 there : (t : Timetable) (run : Run) (found : Option Trip) → slice_get t.trips run.trip ≡ found → list_any (λ day. nat_eq day run.day) (days_of_trip t found) ≡ true → run.trip < length t.trips
-there t run None at e = absurd (no_list run e)
-there t run (Some trip) at e = slice_get_within t.trips run.trip trip at
+there t run found at e = grind (arith, no_list, slice_get_within, nat_tests)
 
 pub run_trip : (t : Timetable) (run : Run) → is_run t run ≡ true → run.trip < length t.trips
 run_trip t run e = there t run (slice_get t.trips run.trip) refl (run_has t run e).active
@@ -87,5 +78,4 @@ pub record IsTold (t : Timetable) (run : Run) (result : Bool) : Type 0 where
   pub day : OnTrue result (run.day < length t.bases)
 
 pub run_told : (t : Timetable) (run : Run) (result : Bool) → result ≡ is_run t run → IsTold t run result
-run_told t run true e = record { trip = run_trip t run (sym e); places = (run_has t run (sym e)).many; day = (run_has t run (sym e)).day }
-run_told t run false e = record { trip = tt; places = tt; day = tt }
+run_told t run result e = grind (arith, run_has, run_trip)

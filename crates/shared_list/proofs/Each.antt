@@ -29,6 +29,10 @@ module _ {X : Type 0} (P : X → Type 0) where
   each_insert [] (suc i) x all h = (h, tt)
   each_insert (y ∷ xs) (suc i) x all h = (all.0, each_insert xs i x all.1 h)
 
+  pub each_push : (xs : List X) (x : X) → AllByRecursion P xs → P x → AllByRecursion P (xs ++ x ∷ [])
+  each_push [] x all h = (h, tt)
+  each_push (y ∷ xs) x all h = (all.0, each_push xs x all.1 h)
+
   pub each_before : (xs ys : List X) → AllByRecursion P (xs ++ ys) → AllByRecursion P xs
   each_before [] ys all = tt
   each_before (x ∷ xs) ys all = (all.0, each_before xs ys all.1)

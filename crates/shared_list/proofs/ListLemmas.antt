@@ -1,14 +1,15 @@
 -- What a list's nodes make of its count, its items and its order.
 use Rattle.std.proofs.Common.{◌≡◌, ℕ, ◌+◌, ◌-◌, List, [], ◌∷◌, Bool, true, false, cond, not, Option, Some, None, length, refl, sym, ap, ◌∙◌, subst, arith}
-use Rattle.std.specs.Prelude.{T, is_some, if◌then◌else◌, Vec}
+use Rattle.std.specs.Prelude.{T, is_some, if◌then◌else◌}
 use Rattle.std.specs.Cmp.{IsTotalOrder}
 use Rattle.std.specs.Option.{option_copied}
 use Rattle.std.specs.Ordering.{eq_by_cmp}
 use Rattle.std.specs.declared.cmp.Ordering.{Ordering}
 use Rattle.std.specs.FinMap.{find, put, is_sorted}
-use Rattle.std.specs.FinMap.Entries.{is_sorted-put, is_sorted-where_key, length-put, length_without, where_key}
+use Rattle.std.specs.FinMap.Entries.{is_sorted-put, is_sorted-where_key, length-put, length_without}
 use Rattle.std.specs.declared.sync.Arc.{Arc}
 use Rattle.std.specs.declared.alloc.Global.{Global}
+use Rattle.shared_list.specs.declared.leaf.Leaf.{Leaf}
 use Rattle.shared_list.specs.declared.node.Node.{Node}
 use Rattle.shared_list.specs.Order.{entries, item_with, without, Rises}
 use denote.Ref.{Bor}
@@ -18,8 +19,8 @@ one_less : (was_there : Bool) (before left all len : ℕ) → len ≡ (if was_th
 one_less true before left all len count own taken = omega arith
 one_less false before left all len count own taken = omega arith
 
-module _ {K X : Type 0} {cmp : K → K → Ordering} (o : IsTotalOrder cmp) (key : X → K) where
-  pub AreNodes-put : (old new : List (Arc (Node (Vec X Global)) Global)) (k : K) (v : X) (replaced : Option X) (before len : ℕ) → AreNodes cmp key old before → replaced ≡ item_with cmp key k (items_in node_items old) → len ≡ (if is_some replaced then before else before + 1) → entries key (items_in node_items new) ≡ put cmp k v (entries key (items_in node_items old)) → AreSound node_items IsFilled new → AreNodes cmp key new len
+module _ {K X : Type 0} {cmp : K → K → Ordering} (o : IsTotalOrder cmp) (key : X → K) (stamp : X → ℕ) where
+  pub AreNodes-put : (old new : List (Arc (Node (Leaf X)) Global)) (k : K) (v : X) (replaced : Option X) (before len : ℕ) → AreNodes cmp key stamp old before → replaced ≡ item_with cmp key k (items_in node_items old) → len ≡ (if is_some replaced then before else before + 1) → entries key (items_in node_items new) ≡ put cmp k v (entries key (items_in node_items old)) → AreSound node_items (IsFilled stamp) new → AreNodes cmp key stamp new len
   AreNodes-put old new k v replaced before len are told count is sound =
       let es = entries key (items_in node_items old) in
       record {
@@ -32,7 +33,7 @@ module _ {K X : Type 0} {cmp : K → K → Ordering} (o : IsTotalOrder cmp) (key
             ∙ sym (ap length is ∙ length-put cmp o k v es are.rising.sorted);
       }
 
-  pub AreNodes-without : (old new : List (Arc (Node (Vec X Global)) Global)) (k : K) (taken : Option X) (before len : ℕ) → AreNodes cmp key old before → taken ≡ item_with cmp key k (items_in node_items old) → len ≡ (if is_some taken then before - 1 else before) → entries key (items_in node_items new) ≡ without cmp k (entries key (items_in node_items old)) → AreSound node_items IsFilled new → AreNodes cmp key new len
+  pub AreNodes-without : (old new : List (Arc (Node (Leaf X)) Global)) (k : K) (taken : Option X) (before len : ℕ) → AreNodes cmp key stamp old before → taken ≡ item_with cmp key k (items_in node_items old) → len ≡ (if is_some taken then before - 1 else before) → entries key (items_in node_items new) ≡ without cmp k (entries key (items_in node_items old)) → AreSound node_items (IsFilled stamp) new → AreNodes cmp key stamp new len
   AreNodes-without old new k taken before len are told count is sound =
       let es = entries key (items_in node_items old) in
       record {
@@ -45,7 +46,7 @@ module _ {K X : Type 0} {cmp : K → K → Ordering} (o : IsTotalOrder cmp) (key
       }
 
   -- shares of the same nodes are the same list
-  pub AreNodes-same : (old new : List (Arc (Node (Vec X Global)) Global)) (len : ℕ) → items_in node_items new ≡ items_in node_items old → AreSound node_items IsFilled new → AreNodes cmp key old len → AreNodes cmp key new len
+  pub AreNodes-same : (old new : List (Arc (Node (Leaf X)) Global)) (len : ℕ) → items_in node_items new ≡ items_in node_items old → AreSound node_items (IsFilled stamp) new → AreNodes cmp key stamp old len → AreNodes cmp key stamp new len
   AreNodes-same old new len same sound are = record {
     sound = sound;
     rising = subst (λ xs. Rises cmp key xs) (sym same) are.rising;

@@ -12,10 +12,10 @@ use Rattle.std.specs.declared.alloc.Global.{Global}
 use Rattle.std.proofs.Math.Dec.{eqb-suc-zero}
 use Rattle.std.proofs.lemmas.Grind.{flat_map-append}
 use Rattle.std.proofs.lemmas.List.{length-map, map-append, map-set}
-use Rattle.shared_list.specs.Order.{entries, all_entries, item_with, items_from, entries_from, without, at_first, AllBelow, AllAbove, IsGap, IsHome, Rises, AreParts}
+use Rattle.shared_list.specs.Order.{entries, all_entries, item_with, items_from, entries_from, without, at_first, IsGap, IsHome, Rises, AreParts}
 use Rattle.shared_list.specs.Parts.{parts_of, items_in, AreSound, TellsLeft}
 use Rattle.shared_list.proofs.Places.{searched, search_same, items_entries, IsAt-map, IsGap-map, Rises-map}
-use Rattle.shared_list.proofs.Each.{each_front, each_back, each_at, each_set, each_insert, each_before, each_behind, remove_set}
+use Rattle.shared_list.proofs.Each.{each_at, each_set, each_insert, each_before, each_behind, remove_set}
 use Rattle.shared_list.proofs.Homes.{lead, Rises-leads, Rises-part, home_at, home_before, home_first, put_home, put_home_split, without_home, without_home_all, find_home, from_home}
 
 abbrev Share : Type 0 → Type 0
@@ -220,7 +220,7 @@ module _ {K P X : Type 0} {cmp : K → K → Ordering} (o : IsTotalOrder cmp) (k
 -- ---- parts stay sound
 
 module _ {P X : Type 0} (items : P → List X) (sound : P → Type 0) where
-  abbrev Good : Share P → Type 0
+  abbrev pub Good : Share P → Type 0
   Good share = (sound share.value) × (0 < length (items share.value))
 
   pub sound_set : (shares : List (Share P)) (i : ℕ) (share : Share P) → AreSound items sound shares → sound share.value → 0 < length (items share.value) → AreSound items sound (set shares i share)

@@ -1,13 +1,15 @@
 -- What stands in leaves and nodes that are made of pieces of a list.
-use Rattle.std.proofs.Common.{◌≡◌, ℕ, ◌<◌, ◌≤◌, ◌-◌, List, [], ◌∷◌, ◌++◌, length, map, take, drop, reverse, refl, sym, ap, ◌∙◌, subst, arith, append_assoc, append-nil}
+use Rattle.std.proofs.Common.{◌≡◌, ℕ, ◌<◌, List, [], ◌∷◌, ◌++◌, length, take, drop, reverse, refl, sym, ap, ◌∙◌, subst, arith, append_assoc, append-nil}
 use Rattle.std.specs.Prelude.{Vec}
 use Rattle.std.specs.List.{AllByRecursion, flat_map}
 use Rattle.std.specs.declared.sync.Arc.{Arc}
 use Rattle.std.specs.declared.alloc.Global.{Global}
 use Rattle.std.proofs.lemmas.List.{length-drop, reverse-append, take-append-drop}
+use Rattle.shared_list.specs.declared.leaf.Leaf.{Leaf}
 use Rattle.shared_list.specs.declared.node.Node.{Node}
-use Rattle.shared_list.specs.Parts.{items_in, leaf_items, node_items, AreSound, IsFilled, IsPlain}
-use Rattle.shared_list.proofs.PartLemmas.{join_parts, sound_front, sound_back, some_items}
+use Rattle.shared_list.specs.Parts.{items_in, leaf_items, node_items, AreSound, IsDated, IsFilled}
+use Rattle.shared_list.proofs.PartLemmas.{Good, join_parts, sound_front, sound_back, some_items}
+use Rattle.shared_list.proofs.Each.{each_push}
 
 -- what pieces have, one after another
 abbrev pub pieces_items : {X : Type 0} → List (Vec X Global) → List X
@@ -49,47 +51,65 @@ cut_goes_on all left kept at piece pieces more so_far less front back pushed = r
 pub cut_ends : {X : Type 0} (all left : List X) (pieces turned : List (Vec X Global)) → IsCut all left pieces → left ≡ [] → turned ≡ reverse pieces → pieces_items turned ≡ all
 cut_ends all left pieces turned so_far none is = ap pieces_items is ∙ ap (λ xs. xs ++ pieces_items (reverse pieces)) (sym none) ∙ so_far.whole
 
--- ---- leaves
+-- ---- parts that are made of pieces, one of each
 
-module _ {X : Type 0} where
-  pub leaves_items : (leaves : List (Arc (Vec X Global) Global)) (pieces : List (Vec X Global)) → map (λ leaf. leaf.value) leaves ≡ pieces → items_in leaf_items leaves ≡ pieces_items pieces
-  leaves_items leaves pieces are = by_values leaves ∙ ap pieces_items are
-    where
-      by_values : (ls : List (Arc (Vec X Global) Global)) → items_in leaf_items ls ≡ pieces_items (map (λ leaf. leaf.value) ls)
-      by_values [] = refl
-      by_values (l ∷ ls) = ap (λ xs. l.value.items ++ xs) (by_values ls)
+module _ {P X Y : Type 0} (items : P → List X) (sound : P → Type 0) (given : Vec Y Global → List X) (Fits : Vec Y Global → Type 0) where
+  -- parts that were made, and the pieces that are left
+  pub record MadeSoFar (parts : List (Arc P Global)) (left all : List (Vec Y Global)) : Type 0 where
+    pub whole : items_in items parts ++ flat_map given left ≡ flat_map given all
+    pub good : AreSound items sound parts
+    pub fit : AllByRecursion Fits left
 
-  pub leaves_sound : (leaves : List (Arc (Vec X Global) Global)) (pieces : List (Vec X Global)) → map (λ leaf. leaf.value) leaves ≡ pieces → AreFilled pieces → AreSound leaf_items IsPlain leaves
-  leaves_sound leaves pieces are filled = each leaves (subst (λ ps. AreFilled ps) (sym are) filled)
-    where
-      each : (ls : List (Arc (Vec X Global) Global)) → AreFilled (map (λ leaf. leaf.value) ls) → AreSound leaf_items IsPlain ls
-      each [] h = tt
-      each (l ∷ ls) h = ((tt, h.0), each ls h.1)
+  pub made_begins : (parts : List (Arc P Global)) (left pieces : List (Vec Y Global)) → parts ≡ [] → left ≡ pieces → AllByRecursion Fits pieces → MadeSoFar parts left pieces
+  made_begins parts left pieces none same fit = record {
+    whole = ap (λ ps. items_in items ps ++ flat_map given left) none ∙ ap (flat_map given) same;
+    good = subst (λ ps. AreSound items sound ps) (sym none) tt;
+    fit = subst (λ ps. AllByRecursion Fits ps) (sym same) fit;
+  }
 
--- ---- nodes
+  pub made_first : (parts : List (Arc P Global)) (left rest all : List (Vec Y Global)) (piece : Vec Y Global) → MadeSoFar parts left all → left ≡ piece ∷ rest → Fits piece
+  made_first parts left rest all piece so_far first = (subst (λ ps. AllByRecursion Fits ps) first so_far.fit).0
 
-module _ {X : Type 0} where
-  pub nodes_items : (nodes : List (Arc (Node (Vec X Global)) Global)) (pieces : List (Vec (Arc (Vec X Global) Global) Global)) → map (λ node. node.value.parts) nodes ≡ pieces → items_in node_items nodes ≡ items_in leaf_items (pieces_items pieces)
-  nodes_items nodes pieces are = by_values nodes ∙ ap (λ ps. items_in leaf_items (pieces_items ps)) are
-    where
-      by_values : (ns : List (Arc (Node (Vec X Global)) Global)) → items_in node_items ns ≡ items_in leaf_items (pieces_items (map (λ node. node.value.parts) ns))
-      by_values [] = refl
-      by_values (n ∷ ns) =
-          ap (λ xs. items_in leaf_items n.value.parts.items ++ xs) (by_values ns)
-          ∙ join_parts leaf_items n.value.parts.items (pieces_items (map (λ node. node.value.parts) ns)) _ refl
+  pub made_goes_on : (parts more : List (Arc P Global)) (left rest all : List (Vec Y Global)) (piece : Vec Y Global) (part : Arc P Global) → MadeSoFar parts left all → left ≡ piece ∷ rest → items part.value ≡ given piece → sound part.value → 0 < length (given piece) → more ≡ parts ++ part ∷ [] → MadeSoFar more rest all
+  made_goes_on parts more left rest all piece part so_far first same good some pushed = record {
+    whole =
+        ap (λ ps. items_in items ps ++ flat_map given rest) pushed
+        ∙ ap (λ xs. xs ++ flat_map given rest) (sym (join_parts items parts (part ∷ []) _ refl))
+        ∙ append_assoc (items_in items parts) (items part.value ++ []) (flat_map given rest)
+        ∙ ap (λ xs. items_in items parts ++ (xs ++ flat_map given rest)) (append-nil (items part.value) ∙ same)
+        ∙ ap (λ ps. items_in items parts ++ flat_map given ps) (sym first)
+        ∙ so_far.whole;
+    good = subst (λ ps. AreSound items sound ps) (sym pushed)
+        (each_push (Good items sound) parts part so_far.good (good, subst (λ xs. 0 < length xs) (sym same) some));
+    fit = (subst (λ ps. AllByRecursion Fits ps) first so_far.fit).1;
+  }
 
-  pub nodes_sound : (nodes : List (Arc (Node (Vec X Global)) Global)) (pieces : List (Vec (Arc (Vec X Global) Global) Global)) → map (λ node. node.value.parts) nodes ≡ pieces → AreFilled pieces → AreSound leaf_items IsPlain (pieces_items pieces) → AreSound node_items IsFilled nodes
-  nodes_sound nodes pieces are filled sound =
-      each nodes (subst (λ ps. AreFilled ps) (sym are) filled) (subst (λ ps. AreSound leaf_items IsPlain (pieces_items ps)) (sym are) sound)
-    where
-      each : (ns : List (Arc (Node (Vec X Global)) Global)) → AreFilled (map (λ node. node.value.parts) ns) → AreSound leaf_items IsPlain (pieces_items (map (λ node. node.value.parts) ns)) → AreSound node_items IsFilled ns
-      each [] h good = tt
-      each (n ∷ ns) h good =
-          let leaves = n.value.parts.items in
-          let later = pieces_items (map (λ node. node.value.parts) ns) in
-          let own = sound_front leaf_items IsPlain leaves later (leaves ++ later) refl good in
-          ((own, some_items leaf_items IsPlain leaves own h.0), each ns h.1 (sound_back leaf_items IsPlain leaves later (leaves ++ later) refl good))
+  pub made_ends : (parts : List (Arc P Global)) (left all : List (Vec Y Global)) → MadeSoFar parts left all → left ≡ [] → items_in items parts ≡ flat_map given all
+  made_ends parts left all so_far none =
+      sym (append-nil (items_in items parts)) ∙ ap (λ ps. items_in items parts ++ flat_map given ps) (sym none) ∙ so_far.whole
 
--- what was made of the pieces that are gone over, when none is left
-pub all_made : {A B : Type 0} (f : A → B) (made : List A) (left all : List B) → left ≡ [] → map f made ++ left ≡ all → map f made ≡ all
-all_made f made left all none so_far = sym (append-nil (map f made)) ∙ ap (λ xs. map f made ++ xs) (sym none) ∙ so_far
+-- leaves are made of items
+abbrev pub LeavesSoFar : {X : Type 0} → (X → ℕ) → List (Arc (Leaf X) Global) → List (Vec X Global) → List (Vec X Global) → Type 0
+LeavesSoFar stamp = MadeSoFar leaf_items (IsDated stamp) (λ piece. piece.items) (λ piece. 0 < length piece.items)
+
+-- nodes are made of leaves
+module _ {X : Type 0} (stamp : X → ℕ) where
+  abbrev pub in_leaves : Vec (Arc (Leaf X) Global) Global → List X
+  in_leaves piece = items_in leaf_items piece.items
+
+  abbrev pub FitsNode : Vec (Arc (Leaf X) Global) Global → Type 0
+  FitsNode piece = (AreSound leaf_items (IsDated stamp) piece.items) × (0 < length (in_leaves piece))
+
+  abbrev pub NodesSoFar : List (Arc (Node (Leaf X)) Global) → List (Vec (Arc (Leaf X) Global) Global) → List (Vec (Arc (Leaf X) Global) Global) → Type 0
+  NodesSoFar = MadeSoFar node_items (IsFilled stamp) in_leaves FitsNode
+
+  pub all_in_leaves : (pieces : List (Vec (Arc (Leaf X) Global) Global)) → flat_map in_leaves pieces ≡ items_in leaf_items (pieces_items pieces)
+  all_in_leaves [] = refl
+  all_in_leaves (p ∷ ps) =
+      ap (λ xs. in_leaves p ++ xs) (all_in_leaves ps) ∙ join_parts leaf_items p.items (pieces_items ps) _ refl
+
+  pub fit_nodes : (pieces : List (Vec (Arc (Leaf X) Global) Global)) → AreFilled pieces → AreSound leaf_items (IsDated stamp) (pieces_items pieces) → AllByRecursion FitsNode pieces
+  fit_nodes [] filled good = tt
+  fit_nodes (p ∷ ps) filled good =
+      let own = sound_front leaf_items (IsDated stamp) p.items (pieces_items ps) (p.items ++ pieces_items ps) refl good in
+      ((own, some_items leaf_items (IsDated stamp) p.items own filled.0), fit_nodes ps filled.1 (sound_back leaf_items (IsDated stamp) p.items (pieces_items ps) (p.items ++ pieces_items ps) refl good))

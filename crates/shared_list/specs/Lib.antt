@@ -1,3 +1,4 @@
 pub mod Changes
 pub mod Order
 pub mod Parts
+pub mod Stamps

@@ -1,12 +1,14 @@
 -- The parts of a list, as the lists that they are.
-use Rattle.std.specs.Prelude.{◌≡◌, ℕ, ◌<◌, List, [], ◌∷◌, ◌++◌, length, map, Vec, Option, Some, None, Bool, true, false, refl}
+use Rattle.std.specs.Prelude.{◌≡◌, ℕ, ◌<◌, List, [], ◌∷◌, ◌++◌, length, map, Option, Some, None, Bool, true, false, refl}
 use Rattle.std.proofs.Common.{◌∙◌, arith}
 use Rattle.std.specs.List.{flat_map, AllByRecursion}
 use Rattle.std.specs.declared.cmp.Ordering.{Ordering}
 use Rattle.std.specs.declared.sync.Arc.{Arc}
 use Rattle.std.specs.declared.alloc.Global.{Global}
+use Rattle.shared_list.specs.declared.leaf.Leaf.{Leaf}
 use Rattle.shared_list.specs.declared.node.Node.{Node}
 use Rattle.shared_list.specs.Order.{at_first, entries, Rises}
+use Rattle.shared_list.specs.Stamps.{NoneAbove}
 
 -- the items of each part that is shared
 abbrev pub parts_of : {P X : Type 0} → (P → List X) → List (Arc P Global) → List (List X)
@@ -47,21 +49,28 @@ first_leads {P} {X} items sound part_order item_order leads (share ∷ shares) a
     before (x ∷ xs) back some = refl
 
 -- the items of leaves, and of nodes of leaves
-abbrev pub leaf_items : {X : Type 0} → Vec X Global → List X
-leaf_items leaf = leaf.items
+abbrev pub leaf_items : {X : Type 0} → Leaf X → List X
+leaf_items leaf = leaf.items.items
 
-abbrev pub IsPlain : {X : Type 0} → Vec X Global → Type 0
-IsPlain leaf = Unit {0}
+-- no item is newer than the leaf says
+abbrev pub IsDated : {X : Type 0} → (X → ℕ) → Leaf X → Type 0
+IsDated stamp leaf = NoneAbove stamp leaf.newest leaf.items.items
 
-abbrev pub node_items : {X : Type 0} → Node (Vec X Global) → List X
+-- each part of a node is sound, and no item is newer than the node says
+abbrev pub IsNode : {P X : Type 0} → (P → List X) → (P → Type 0) → (X → ℕ) → Node P → Type 0
+IsNode items sound stamp node =
+    (AreSound items sound node.parts.items)
+    × (NoneAbove stamp node.newest (items_in items node.parts.items))
+
+abbrev pub node_items : {X : Type 0} → Node (Leaf X) → List X
 node_items node = items_in leaf_items node.parts.items
 
-abbrev pub IsFilled : {X : Type 0} → Node (Vec X Global) → Type 0
-IsFilled node = AreSound leaf_items IsPlain node.parts.items
+abbrev pub IsFilled : {X : Type 0} → (X → ℕ) → Node (Leaf X) → Type 0
+IsFilled stamp node = IsNode leaf_items (IsDated stamp) stamp node
 
 -- what is true of the nodes of a list with so many items
 pub record AreNodes {K X : Type 0} (cmp : K → K → Ordering) (key : X
-    → K) (nodes : List (Arc (Node (Vec X Global)) Global)) (len : ℕ) : Type 0 where
-  pub sound : AreSound node_items IsFilled nodes
+    → K) (stamp : X → ℕ) (nodes : List (Arc (Node (Leaf X)) Global)) (len : ℕ) : Type 0 where
+  pub sound : AreSound node_items (IsFilled stamp) nodes
   pub rising : Rises cmp key (items_in node_items nodes)
   pub counted : len ≡ length (entries key (items_in node_items nodes))

@@ -1,6 +1,6 @@
 //! Items that have a key, and keys by which they are found.
 
-ghost use Rattle.std.specs.Prelude.{◌≡◌, IfOk};
+ghost use Rattle.std.specs.Prelude.{◌≡◌, ℕ, IfOk};
 ghost use Rattle.std.specs.Cmp.{IsTotalOrder};
 ghost use Rattle.std.specs.FinMap.{IsAntisymmetric};
 ghost use Rattle.std.specs.declared.cmp.Ordering.{Ordering};
@@ -11,7 +11,8 @@ use std::cmp::Ordering;
 
 /// An item of a list that is ordered by keys. A copy of it should cost little: share what is large.
 pub trait Keyed: Copied {
-    /// What a contract sees as its key. Items are compared where they stand, so none is made for that.
+    /// What a contract sees as its key. Items are compared where they stand, so none is made for
+    /// that.
     type Key;
 
     ghost key_of: { Self → Self.Key };
@@ -19,12 +20,19 @@ pub trait Keyed: Copied {
     // How a key stands to another.
     ghost key_cmp: { Self.Key → Self.Key → Ordering };
 
+    // When it came, as a number that rises.
+    ghost stamp_of: { Self → ℕ };
+
+    /// Its stamp; 0 where nobody asks for what is newer.
+    fn stamp(&self) -> u64
+        ensures { result ≡ stamp_of self.now };
+
     /// How its key stands to that of another item.
     fn order(&self, other: &Self) -> Ordering
         ensures { result ≡ key_cmp (key_of self.now) (key_of other.now) };
 
-    /// The same items, with room for so many more; or out of memory. Each is copied by itself, unless the type of the
-    /// items can have all of them copied at once.
+    /// The same items, with room for so many more; or out of memory. Each is copied by itself,
+    /// unless the type of the items can have all of them copied at once.
     fn copies(items: &Vec<Self>, more: usize) -> Result<Vec<Self>, NoMemory>
         ensures { IfOk result (λ same. same.items ≡ items.now.items) }
     {
@@ -41,8 +49,8 @@ pub trait Keyed: Copied {
     ghost exact: { IsAntisymmetric key_cmp };
 }
 
-/// A key by which items are found, in whatever form it is at hand: a text, a struct of numbers, or an item
-/// that has it.
+/// A key by which items are found, in whatever form it is at hand: a text, a struct of numbers, or
+/// an item that has it.
 pub trait KeyFor<T: Keyed>: Copy {
     // The key that it is.
     ghost sought: { Self → T.Key };

@@ -11,6 +11,8 @@ ghost use Rattle.shared_list.specs.Order.{
   IsGap,
   Rises,
 };
+ghost use Rattle.shared_list.specs.Parts.{leaf_items, IsDated};
+ghost use Rattle.shared_list.specs.Stamps.{NoneAbove};
 
 use crate::NoMemory;
 use crate::keyed::{KeyFor, Keyed};
@@ -19,6 +21,36 @@ use crate::split::{Arrival, LEAF_MOST, split_off};
 use std::alloc::Global;
 use std::cmp::Ordering;
 use std::mem;
+
+/// Items one after another, in the order of their keys.
+#[derive(Drop)]
+pub(crate) struct Leaf<T> {
+    pub(crate) items: Vec<T>,
+    // No item has a stamp above it.
+    newest: u64,
+}
+
+impl<T: Keyed> Leaf<T> {
+    /// A leaf of these items.
+    pub(crate) fn of(items: Vec<T>) -> Leaf<T>
+        ensures items { leaf_items result ≡ items.items }
+        ensures dated { IsDated T.stamp_of result }
+    {
+        let newest = newest_of(items.as_slice());
+        Leaf { items, newest }
+    }
+}
+
+/// The greatest stamp of the items; 0 where there are none.
+fn newest_of<T: Keyed>(items: &[T]) -> u64
+    ensures { NoneAbove T.stamp_of result items.now }
+{
+    let mut newest = 0;
+    for item in items {
+        newest = newest.max(item.stamp());
+    }
+    newest
+}
 
 /// Where the item with that key stands, or where it would.
 fn place<T: Keyed, K: KeyFor<T>>(items: &[T], key: K) -> Result<usize, usize>
@@ -83,53 +115,77 @@ fn take_among<T: Keyed, K: KeyFor<T>>(items: &mut Vec<T>, key: K) -> Option<T>
     }
 }
 
-impl<T: Keyed> Part for Vec<T> {
+impl<T: Keyed> Part for Leaf<T> {
     type Item = T;
 
     ghost use Rattle.std.specs.Prelude.{refl};
     ghost use Rattle.shared_list.specs.Order.{at_first};
+    ghost use Rattle.shared_list.specs.Parts.{leaf_items, IsDated};
 
-    ghost items = { λ leaf. leaf.items };
+    ghost items = { leaf_items };
 
-    ghost sound = { λ leaf. Unit {0} };
+    ghost sound = { IsDated T.stamp_of };
 
-    ghost lead_cmp = { λ leaf k. at_first (λ item. T.key_cmp (T.key_of item) k) leaf.items };
+    ghost lead_cmp = { λ leaf k. at_first (λ item. T.key_cmp (T.key_of item) k)
+        (leaf_items leaf) };
 
     fn of_one(alloc: Global, item: T) -> Result<Self, NoMemory> {
         let mut items = Vec::new(alloc);
         items.push(item)?;
-        Ok(items)
+        Ok(Leaf::of(items))
     }
 
     fn lead_order<K: KeyFor<T>>(&self, key: K) -> Ordering {
-        match self.first() {
+        match self.items.first() {
             Some(item) => key.order_of(item),
             None => Ordering::Less,
         }
     }
 
     fn item_of<K: KeyFor<T>>(&self, key: K) -> Option<&T> {
-        match place(self.as_slice(), key) {
-            Ok(at) => Some(&self[at]),
+        match place(self.items.as_slice(), key) {
+            Ok(at) => Some(&self.items[at]),
             Err(_) => None,
         }
     }
 
+    fn newest(&self) -> u64 {
+        self.newest
+    }
+
     fn copied(&self, more: usize) -> Result<Self, NoMemory> {
-        T::copies(self, more)
+        Ok(Leaf {
+            items: T::copies(&self.items, more)?,
+            newest: self.newest,
+        })
     }
 
     fn put_item(&mut self, item: T) -> Result<PutOutcome<Self, T>, NoMemory> {
-        let Arrival { replaced, at_end } = put_among(self, item)?;
-        let back = split_off(self, LEAF_MOST, at_end)?;
-        Ok(PutOutcome { replaced, back })
+        let newest = self.newest.max(item.stamp());
+        let Arrival { replaced, at_end } = put_among(&mut self.items, item)?;
+        match split_off(&mut self.items, LEAF_MOST, at_end)? {
+            Some(back) => {
+                self.newest = newest_of(self.items.as_slice());
+                Ok(PutOutcome {
+                    replaced,
+                    back: Some(Leaf::of(back)),
+                })
+            }
+            None => {
+                self.newest = newest;
+                Ok(PutOutcome {
+                    replaced,
+                    back: None,
+                })
+            }
+        }
     }
 
     fn take_out<K: KeyFor<T>>(&mut self, key: K) -> Result<TakeOutcome<T>, NoMemory> {
-        let taken = take_among(self, key);
+        let taken = take_among(&mut self.items, key);
         Ok(TakeOutcome {
             taken,
-            none_left: self.is_empty(),
+            none_left: self.items.is_empty(),
         })
     }
 

@@ -5,11 +5,14 @@ ghost use Rattle.std.specs.FinMap.{put, find, is_sorted};
 ghost use Rattle.std.specs.Option.{option_copied};
 ghost use Rattle.shared_list.specs.Changes.{after_change, after_changes};
 ghost use Rattle.shared_list.specs.Order.{entries, entries_from, without, Rises};
+ghost use Rattle.shared_list.specs.Stamps.{newer};
 
 use crate::NoMemory;
 use crate::change::Change;
 use crate::iter::Iter;
 use crate::keyed::{KeyFor, Keyed};
+use crate::leaf::Leaf;
+use crate::newer::Newer;
 use crate::node::Node;
 use crate::shared::{item_in, put_shared, share, take_out_shared};
 use crate::sorted::nodes_of;
@@ -18,11 +21,12 @@ use std::alloc::Global;
 use std::marker::Model;
 use std::sync::Arc;
 
-/// Items in the order of their keys, each key once. A contract sees them as a list of pairs of key and item.
+/// Items in the order of their keys, each key once. A contract sees them as a list of pairs of key
+/// and item.
 #[derive(Drop)]
 pub struct SharedList<T: Keyed> {
     // Neither a node nor a leaf within one is empty.
-    nodes: Vec<Arc<Node<Vec<T>>>>,
+    nodes: Vec<Arc<Node<Leaf<T>>>>,
     len: usize,
 }
 
@@ -36,7 +40,7 @@ impl<T: Keyed> Model for SharedList<T> {
 
     ghost view = { λ list. entries T.key_of (items_in node_items list.nodes.items) };
 
-    ghost invariant = { λ list. AreNodes T.key_cmp T.key_of list.nodes.items list.len };
+    ghost invariant = { λ list. AreNodes T.key_cmp T.key_of T.stamp_of list.nodes.items list.len };
 }
 
 /// A list after a change at one key.
@@ -59,8 +63,8 @@ impl<T: Keyed> SharedList<T> {
         }
     }
 
-    /// The list of items whose keys strictly rise, or out of memory. It is made in one pass without a
-    /// comparison, and its leaves are full.
+    /// The list of items whose keys strictly rise, or out of memory. It is made in one pass without
+    /// a comparison, and its leaves are full.
     pub fn of_sorted(alloc: Global, items: Vec<T>) -> Result<Self, NoMemory>
         requires { Rises T.key_cmp T.key_of items.items }
         ensures { IfOk result (λ list. list ≡ entries T.key_of items.items) }
@@ -80,8 +84,8 @@ impl<T: Keyed> SharedList<T> {
         })
     }
 
-    /// The list with the item in its place, which is that of the item with its key, if there is one; or out
-    /// of memory.
+    /// The list with the item in its place, which is that of the item with its key, if there is
+    /// one; or out of memory.
     pub fn with(self, item: T) -> Result<Changed<T>, NoMemory>
         ensures list { IfOk result (λ changed. changed.list
             ≡ put T.key_cmp (T.key_of item) item self) }
@@ -118,10 +122,10 @@ impl<T: Keyed> SharedList<T> {
 
     /// The list after the changes, one after another; or out of memory.
     ///
-    /// A node or a leaf that other versions share is copied by the first change that touches it, and is this
-    /// version's own for those after it. So k changes copy at most k nodes of 32 shares and k leaves of 16
-    /// items, however many items the list has, and each change takes one search. Where they come in the order
-    /// of keys, those that touch one leaf find it in the cache.
+    /// A node or a leaf that other versions share is copied by the first change that touches it,
+    /// and is this version's own for those after it. So k changes copy at most k nodes of 32 shares
+    /// and k leaves of 16 items, however many items the list has, and each change takes one search.
+    /// Where they come in the order of keys, those that touch one leaf find it in the cache.
     pub fn with_all<K: KeyFor<T>>(self, changes: Vec<Change<T, K>>) -> Result<Self, NoMemory>
         ensures { IfOk result (λ list. list
             ≡ after_changes T.key_cmp T.key_of K.sought self changes.items) }
@@ -160,8 +164,8 @@ impl<T: Keyed> SharedList<T> {
         Iter::over(self.nodes.as_slice())
     }
 
-    /// The items from a key on, as `iter` gives them: those whose keys are not below it. The first is searched
-    /// for, so that it costs no walk over those before it.
+    /// The items from a key on, as `iter` gives them: those whose keys are not below it. The first
+    /// is searched for, so that it costs no walk over those before it.
     pub fn from<K: KeyFor<T>>(&self, key: K) -> Iter<'_, T>
         ensures items { result ≡ map (λ entry. entry.1)
             (entries_from T.key_cmp (K.sought key) self.entry.now) }
@@ -169,6 +173,14 @@ impl<T: Keyed> SharedList<T> {
         ensures keyed { entries T.key_of (map (λ entry. entry.1) self.entry.now) ≡ self.entry.now }
     {
         Iter::starting(self.nodes.as_slice(), key)
+    }
+
+    /// The items whose stamps are above the given one, in the order of their keys. Nodes and leaves
+    /// in which nothing is newer are passed over by one comparison each.
+    pub fn newer(&self, than: u64) -> Newer<'_, T>
+        ensures { result ≡ newer T.stamp_of than (map (λ entry. entry.1) self.entry.now) }
+    {
+        Newer::among(self.nodes.as_slice(), than)
     }
 
     /// How many items there are.
@@ -179,7 +191,8 @@ impl<T: Keyed> SharedList<T> {
     }
 }
 
-/// How many items there are with one that may be new. More than can be counted are more than memory holds.
+/// How many items there are with one that may be new. More than can be counted are more than memory
+/// holds.
 fn len_with(len: usize, replaced: bool) -> Result<usize, NoMemory>
     ensures { IfOk result (λ count. count ≡ (if replaced then len else len + 1)) }
 {

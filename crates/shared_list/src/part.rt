@@ -6,6 +6,7 @@ ghost use Rattle.std.specs.Option.{option_copied};
 ghost use Rattle.std.specs.declared.cmp.Ordering.{Ordering};
 ghost use Rattle.shared_list.specs.Order.{at_first, entries, item_with, without, Rises};
 ghost use Rattle.shared_list.specs.Parts.{items_if_some, TellsLeft};
+ghost use Rattle.shared_list.specs.Stamps.{NoneAbove};
 
 use crate::NoMemory;
 use crate::keyed::{KeyFor, Keyed};
@@ -38,7 +39,8 @@ pub(crate) trait Part: Drop {
     // Its items in order.
     ghost items: { Self → List Self.Item };
 
-    // What holds of it beside the order of its items: no part within it is empty.
+    // What holds of it beside the order of its items: no part within it is empty, and no item is
+    // newer than it says.
     ghost sound: { Self → Type 0 };
 
     // How the key of its first item stands to another.
@@ -60,7 +62,13 @@ pub(crate) trait Part: Drop {
         ensures { option_copied result
             ≡ item_with Self.Item.key_cmp Self.Item.key_of (K.sought key) (items self.entry.now) };
 
-    /// A part with the same items and room for so many more, which shares with this one what it can.
+    /// A stamp that none of its items is above. It was the greatest of them when the part was made.
+    fn newest(&self) -> u64
+        requires sound { sound self.now }
+        ensures { NoneAbove Self.Item.stamp_of result (items self.now) };
+
+    /// A part with the same items and room for so many more, which shares with this one what it
+    /// can.
     fn copied(&self, more: usize) -> Result<Self, NoMemory>
         requires sound { sound self.now }
         ensures items { IfOk result (λ same. items same ≡ items self.now) }

@@ -1,4 +1,5 @@
-//! Parts that several versions of a list may share. One that is shared is copied before it is changed.
+//! Parts that several versions of a list may share. One that is shared is copied before it is
+//! changed.
 
 ghost use Rattle.std.specs.Prelude.{◌≡◌, ◌<◌, ◌++◌, length, IfSome, IfOk, OnOk};
 ghost use Rattle.std.specs.FinMap.{put};
@@ -51,8 +52,8 @@ pub(crate) fn item_in<'a, P: Part, K: KeyFor<P::Item>>(
     parts[home(parts, key)].item_of(key)
 }
 
-/// The part in which the key stands, if it stands anywhere, and the parts after it. From the key on stand what
-/// that part has from it on, and all of the others.
+/// The part in which the key stands, if it stands anywhere, and the parts after it. From the key on
+/// stand what that part has from it on, and all of the others.
 pub(crate) fn part_and_rest<'a, P: Part, K: KeyFor<P::Item>>(
     parts: &'a [Arc<P>],
     key: K,
@@ -73,7 +74,8 @@ pub(crate) fn part_and_rest<'a, P: Part, K: KeyFor<P::Item>>(
     (&*parts[at], &parts[at + 1..])
 }
 
-/// Puts the item in its place in the part, and takes the back of the part off where it has become too long.
+/// Puts the item in its place in the part, and takes the back of the part off where it has become
+/// too long.
 fn put_in<P: Part>(
     alloc: Global,
     part: &mut Arc<P>,
@@ -102,7 +104,8 @@ fn put_in<P: Part>(
     Ok(outcome)
 }
 
-/// Takes the item with that key out of the part, if there is one. A part that has none stays shared.
+/// Takes the item with that key out of the part, if there is one. A part that has none stays
+/// shared.
 fn take_from<P: Part, K: KeyFor<P::Item>>(
     alloc: Global,
     part: &mut Arc<P>,
@@ -133,7 +136,8 @@ fn take_from<P: Part, K: KeyFor<P::Item>>(
     Ok(outcome)
 }
 
-/// Puts the item in its place in its part, whose back becomes a part of its own where it is taken off.
+/// Puts the item in its place in its part, whose back becomes a part of its own where it is taken
+/// off.
 pub(crate) fn put_shared<P: Part>(
     parts: &mut Vec<Arc<P>>,
     item: P::Item,
@@ -172,7 +176,8 @@ pub(crate) fn put_shared<P: Part>(
     }
 }
 
-/// Takes the item with that key out of its part, if there is one, and the part out where nothing is left in it.
+/// Takes the item with that key out of its part, if there is one, and the part out where nothing is
+/// left in it.
 pub(crate) fn take_out_shared<P: Part, K: KeyFor<P::Item>>(
     parts: &mut Vec<Arc<P>>,
     key: K,

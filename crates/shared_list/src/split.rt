@@ -14,14 +14,15 @@ pub(crate) struct Arrival<T> {
     pub(crate) at_end: bool,
 }
 
-/// The most items of a leaf. Changes that are spread over a long list are in leaves of their own, of which all items are
-/// copied: so a leaf has few.
+/// The most items of a leaf. Changes that are spread over a long list are in leaves of their own,
+/// of which all items are copied: so a leaf has few.
 pub(crate) const LEAF_MOST: usize = 16;
 
 /// The most parts of a node. A version of a list is a share of each node, so these are more.
 pub(crate) const NODE_MOST: usize = 32;
 
-/// Takes the back of a part that has more than so many items off, by whether the newest is the last.
+/// Takes the back of a part that has more than so many items off, by whether the newest is the
+/// last.
 pub(crate) fn split_off<X>(
     items: &mut Vec<X>,
     most: usize,
@@ -39,8 +40,8 @@ pub(crate) fn split_off<X>(
     Ok(Some(items.split_off(kept_count(most, at_end))?))
 }
 
-/// How many items stay in a part that has one too many. Where the newest is the last, all others stay, so
-/// that keys which come in rising order leave full parts; else about half of them.
+/// How many items stay in a part that has one too many. Where the newest is the last, all others
+/// stay, so that keys which come in rising order leave full parts; else about half of them.
 fn kept_count(most: usize, at_end: bool) -> usize
     requires { 1 < most }
     ensures some { 0 < result }

@@ -45,10 +45,6 @@ glances v w line x (Found f view) knows own is stands fits (le, same, begins, se
 glances v w line x Behind knows own is stands fits less = is ∙ passes_by (length line.log) x v less
 glances v w line x NoMemory knows own is stands fits le = (1, omega arith, is ∙ counts (length line.log) x v le)
 
--- the same from one who knows as much
-pub glances_on : (u v w : View) (line : Told) (found : Glance) → v ≡ u → Glances v w line found → Glances u w line found
-glances_on u v w line found e g = subst (λ (x : View). Glances x w line found) e g
-
 -- what is published goes on
 pub goes_on_of : {W : Type 0} (f : W → Shown) (o : Option W) (line : Told) → AtSome o (λ w. Publishes (f w) line) → is_ended line.log ≡ false
 goes_on_of f None line p = absurd p

@@ -23,9 +23,6 @@ fold_last f s (y ∷ xs) x = fold_last f (f s y) xs x
 pub one_self : (a : Told) → AreOne a a
 one_self a = record { book = refl; feeds = refl }
 
-pub one_back : {a b : Told} → AreOne a b → AreOne b a
-one_back o = record { book = sym o.book; feeds = sym o.feeds }
-
 pub one_trans : {a b c : Told} → AreOne a b → AreOne b c → AreOne a c
 one_trans o p = record { book = o.book ∙ p.book; feeds = o.feeds ∙ p.feeds }
 

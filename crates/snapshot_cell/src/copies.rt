@@ -22,9 +22,9 @@ pub(crate) type SnapReader = Reader<Shown, View, Rule, Global>;
 /// Who changes them.
 pub(crate) type SnapWriter = Writer<Shown, Shown, View, Rule, Global>;
 
-/// Tries once to show the view with that history to all who look from now on. It waits for those that
-/// still read what was shown before. Where no memory is found the writer is given back as the error, and
-/// still shows what it showed.
+/// Tries once to show the view with that history to all who look from now on. It waits for those
+/// that still read what was shown before. Where no memory is found the writer is given back as the
+/// error, and still shows what it showed.
 pub(crate) fn try_show<R: Wait>(
     rt: &R,
     first: SnapWriter,

@@ -1,7 +1,8 @@
 //! Passes.
 
-ghost use Rattle.std.specs.Prelude.{◌≡◌, ◌⊎◌, false, IfErr};
+ghost use Rattle.std.specs.Prelude.{◌≡◌, ◌⊎◌, ℕ, true, false, IfErr};
 ghost use mathlib.Core.List.{IsPrefix};
+ghost use Rattle.feed_defs.specs.History.{is_rising, stamps_of};
 ghost use Rattle.board_parts.specs.Looks.{Looked};
 ghost use Rattle.hub_history.specs.Told.{history_of, AreOne};
 
@@ -16,8 +17,8 @@ use std::alloc::Global;
 use std::marker::Model;
 use std::sync::Arc;
 
-/// A reader's pass. A contract sees what it knows of the history, how often it looked, the view that
-/// it shows, and whether that is one that a look found.
+/// A reader's pass. A contract sees what it knows of the history, how often it looked, the view
+/// that it shows, and whether that is one that a look found.
 #[derive(Drop)]
 pub struct Pass {
     pub(crate) reader: Option<SnapReader>,
@@ -62,8 +63,8 @@ impl Pass {
         self.line.learn(&receipt.line);
     }
 
-    /// Knows the whole of the ended history, which begins with all that it knew. It takes no memory,
-    /// and the view stays.
+    /// Knows the whole of the ended history, which begins with all that it knew. It takes no
+    /// memory, and the view stays.
     pub fn finish(&mut self, ending: &Ending)
         requires { AreOne ending.now self.old.line }
         ensures whole { self.new.line ≡ ending.now }
@@ -73,6 +74,13 @@ impl Pass {
         ensures held { self.new.holds ≡ self.old.holds }
     {
         self.line.finish(&ending.line);
+    }
+
+    /// Does nothing; its contract tells what is true of the history that every pass knows.
+    fn sound(&self)
+        ensures { (feed : ℕ) → is_rising (stamps_of feed (history_of self.now.line)) ≡ true }
+    {
+        self.line.sound();
     }
 
     /// A look, in the words of `Oracle`.
@@ -121,12 +129,16 @@ impl Oracle for Pass {
     fn look(&mut self) -> Result<u64, NoMemory>
         ensures looked { Looked (history_of self.old.line) (history_of self.new.line)
             self.old.shown self.new.shown self.old.reads self.new.reads false result }
+        ensures rising { (feed : ℕ)
+            → is_rising (stamps_of feed (history_of self.new.line)) ≡ true }
         ensures plans { self.new.shown.plans ≡ self.old.shown.plans }
         ensures held { IfErr result (λ none. self.new.holds ≡ self.old.holds) }
         ensures steady { false ≡ false }
         ensures hub { AreOne self.new.line self.old.line }
     {
-        self.take_look()
+        let found = self.take_look();
+        self.sound();
+        found
     }
 
     fn view(&self) -> &HubView {

@@ -45,9 +45,10 @@ impl Model for Publisher {
 }
 
 impl Publisher {
-    /// Shows the view, which stands for what was published with the named message at the end, in one
-    /// step. Want of memory comes before that step, and then nothing was published. It waits for those
-    /// that still read what was shown before, and for memory where the step itself finds none.
+    /// Shows the view, which stands for what was published with the named message at the end, in
+    /// one step. Want of memory comes before that step, and then nothing was published. It waits
+    /// for those that still read what was shown before, and for memory where the step itself finds
+    /// none.
     pub fn put<R: Wait>(
         &mut self,
         rt: &R,

@@ -6,8 +6,8 @@ ghost use Rattle.hub_history.specs.Told.{history_of};
 use hub_history::Line;
 use std::marker::Model;
 
-/// A receipt of an accepted message: it knows the history up to that message. A contract sees what it
-/// knows.
+/// A receipt of an accepted message: it knows the history up to that message. A contract sees what
+/// it knows.
 #[derive(Drop)]
 pub struct Receipt {
     pub(crate) line: Line,

@@ -22,8 +22,8 @@ use left_right::writer::Writer;
 use std::alloc::Global;
 use std::sync::{Arc, Wait};
 
-/// A publisher that shows the view of a hub that accepted nothing, and so many passes with that view,
-/// 1 to 128; or want of memory.
+/// A publisher that shows the view of a hub that accepted nothing, and so many passes with that
+/// view, 1 to 128; or want of memory.
 pub fn snapshots<R: Wait>(
     alloc: Global,
     rt: &R,
@@ -80,8 +80,8 @@ fn shown_of(view: &Arc<HubView, Global>, line: &Line) -> Result<Shown, NoMemory>
     })
 }
 
-/// The two copies, which show the view, with room for so many readers; or want of memory. Nobody reads
-/// yet, so there is none to be waited for.
+/// The two copies, which show the view, with room for so many readers; or want of memory. Nobody
+/// reads yet, so there is none to be waited for.
 fn copies<R: Wait>(
     alloc: Global,
     rt: &R,

@@ -11,7 +11,8 @@ use std::alloc::Global;
 use std::sync::Arc;
 use std::test::Fail;
 
-/// The city with the feeds `a`, of which an update counts for a minute, and `b`, of which it counts for ever.
+/// The city with the feeds `a`, of which an update counts for a minute, and `b`, of which it counts
+/// for ever.
 fn ageing_feeds(alloc: Global) -> Result<Arc<Plans>, NoMemory> {
     let plans = vec![in alloc; named_city(alloc)?]?;
     let first = NamedFeed {
@@ -22,8 +23,8 @@ fn ageing_feeds(alloc: Global) -> Result<Arc<Plans>, NoMemory> {
     Ok(Arc::new(alloc, Plans::new(plans, feeds))?)
 }
 
-/// Whether the board of the market at a moment begins with that row after a message of a, and after one of b where
-/// there is one, all of 1743314000.
+/// Whether the board of the market at a moment begins with that row after a message of a, and after
+/// one of b where there is one, all of 1743314000.
 fn shows_at(
     alloc: Global,
     first: Told,

@@ -88,7 +88,8 @@ fn entity(
     })
 }
 
-/// The entity that a word tells: an alert as `!id`, a trip update as `+id`, and `-id` takes an id away.
+/// The entity that a word tells: an alert as `!id`, a trip update as `+id`, and `-id` takes an id
+/// away.
 fn told(alloc: Global, word: &str) -> Result<Entity, NoMemory> {
     if let Some(id) = word.strip_prefix("!") {
         let alert = Shared::new(alloc, alert(alloc, None, None)?)?;
@@ -185,8 +186,9 @@ fn lists(index: &AlertIndex, ids: &[&str]) -> bool {
     place == ids.len()
 }
 
-/// Whether the alerts `c`, `a` and `e` and a trip update `b`, and then that message, leave the alerts of these ids,
-/// whether the index goes from message to message or is made of the whole table.
+/// Whether the alerts `c`, `a` and `e` and a trip update `b`, and then that message, leave the
+/// alerts of these ids, whether the index goes from message to message or is made of the whole
+/// table.
 fn leave(
     alloc: Global,
     kind: Incrementality,

@@ -1,5 +1,5 @@
-//! Departures that an update moves to another stop, in the small city (GTFS Realtime, StopTimeProperties,
-//! assigned_stop_id).
+//! Departures that an update moves to another stop, in the small city (GTFS Realtime,
+//! StopTimeProperties, assigned_stop_id).
 
 ghost use Rattle.std.specs.Prelude.{◌≡◌, Some, IfOk};
 ghost use Rattle.view_answers.specs.Questions.{question_seen};
@@ -19,7 +19,8 @@ use std::alloc::{AllocError, Global};
 use std::test::Fail;
 use view_answers::{Question, answer};
 
-/// A message of stamp 1743314000 with the alerts `at1` and `at2`, on departures of the route R7 at S1 and at S2.
+/// A message of stamp 1743314000 with the alerts `at1` and `at2`, on departures of the route R7 at
+/// S1 and at S2.
 const NOTICES: [u8; 53] = [
     0x0a, 0x0d, 0x0a, 0x03, 0x32, 0x2e, 0x30, 0x10, 0x00, 0x18, 0xd0, 0xb8, 0xa3, 0xbf, 0x06, 0x12,
     0x11, 0x0a, 0x03, 0x61, 0x74, 0x31, 0x2a, 0x0a, 0x2a, 0x08, 0x12, 0x02, 0x52, 0x37, 0x2a, 0x02,
@@ -115,8 +116,8 @@ fn an_alert_touches_it_at_its_new_platform(rt: HostRuntime) -> Result<(), Fail> 
     Ok(())
 }
 
-/// What a test's message says of trip T1 on 30 March: of the place with that sequence, or of the one at that stop by
-/// the timetable.
+/// What a test's message says of trip T1 on 30 March: of the place with that sequence, or of the
+/// one at that stop by the timetable.
 #[derive(Clone, Copy)]
 struct Said {
     trip: Option<TripRelation>,
@@ -241,7 +242,8 @@ fn one_place_is_moved(rt: HostRuntime) -> Result<(), Fail> {
     Ok(())
 }
 
-/// An update that gives no stop_sequence is about the place at that stop, and not about the one where it moves it.
+/// An update that gives no stop_sequence is about the place at that stop, and not about the one
+/// where it moves it.
 #[test]
 fn an_update_finds_its_place_by_the_timetable(rt: HostRuntime) -> Result<(), Fail> {
     let alloc = rt.alloc();
@@ -255,8 +257,8 @@ fn an_update_finds_its_place_by_the_timetable(rt: HostRuntime) -> Result<(), Fai
     Ok(())
 }
 
-/// A place that isn't served as scheduled, one of a trip that doesn't run, and one whose assigned stop isn't there
-/// keep their stops; and nobody boards at the last place, wherever that is.
+/// A place that isn't served as scheduled, one of a trip that doesn't run, and one whose assigned
+/// stop isn't there keep their stops; and nobody boards at the last place, wherever that is.
 #[test]
 fn other_departures_keep_their_platforms(rt: HostRuntime) -> Result<(), Fail> {
     let alloc = rt.alloc();

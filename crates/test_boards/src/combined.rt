@@ -72,7 +72,8 @@ fn vehicle_at(alloc: Global, stop: &str) -> Result<Shared<Vehicle>, NoMemory> {
     Shared::new(alloc, vehicle)
 }
 
-/// The combined feed of the schedule of that number, after the feed of that number sent the entity `x`.
+/// The combined feed of the schedule of that number, after the feed of that number sent the entity
+/// `x`.
 fn combined_after(
     alloc: Global,
     feed: u32,

@@ -1,8 +1,9 @@
-//! Tests of boards: of what is kept of a feed, and of the boards, lists, texts and combined feeds that a hub's views
-//! give.
+//! Tests of boards: of what is kept of a feed, and of the boards, lists, texts and combined feeds
+//! that a hub's views give.
 //!
-//! They call `alert_select`, `feed_view`, `board_core`, `board_lists`, `board_text`, `feed_out`, `view_answers` and
-//! `hub_state` by their public contracts. Every test is proved safe, and then it is run.
+//! They call `alert_select`, `feed_view`, `board_core`, `board_lists`, `board_text`, `feed_out`,
+//! `view_answers` and `hub_state` by their public contracts. Every test is proved safe, and then it
+//! is run.
 #![tactic(auto)]
 
 #[cfg(test)]

@@ -70,7 +70,8 @@ fn open_gate_holds_nobody(_rt: HostRuntime) -> Result<(), Fail> {
     Ok(())
 }
 
-/// What a door's next link reads and then answers to `told`, and the first three bytes that it read.
+/// What a door's next link reads and then answers to `told`, and the first three bytes that it
+/// read.
 fn serve_one<C: rt::Clock + Copy>(
     door: &mut TcpDoor<TcpListener, C>,
 ) -> Option<(ReadAnswer, [u8; 3], WriteAnswer)> {
@@ -149,8 +150,8 @@ impl<'a> rt::Clock for Counting<'a> {
     }
 }
 
-/// What a door answers over a listener of which so many calls fail so, where a client waits, and how
-/// often it paused.
+/// What a door answers over a listener of which so many calls fail so, where a client waits, and
+/// how often it paused.
 fn asked(rt: &HostRuntime, failures: u32, kind: ErrorKind) -> Result<(&'static str, u32), Fail> {
     let listener = TcpListener::bind(rt, "127.0.0.1:0")?;
     let _client = TcpStream::connect(rt, listener.local_addr()?)?;
@@ -247,8 +248,8 @@ fn an_answer_outlives_what_nobody_read(rt: HostRuntime) -> Result<(), Fail> {
     Ok(())
 }
 
-/// What a source and a sink answer whose clock shows these seconds at four reads, of which the first
-/// three give a byte each, and what a sink answers then and at that last moment.
+/// What a source and a sink answer whose clock shows these seconds at four reads, of which the
+/// first three give a byte each, and what a sink answers then and at that last moment.
 fn timed(rt: &HostRuntime, at: [u64; 4], last: u64) -> Result<([bool; 4], [bool; 2]), Fail> {
     let (pauses, seconds) = (Cell::new(0), Cell::new(0));
     let clock = Counting {

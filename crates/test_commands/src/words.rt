@@ -180,7 +180,7 @@ fn no_samples(rt: HostRuntime) -> Result<(), Fail> {
 #[test]
 fn refusals(rt: HostRuntime) -> Result<(), Fail> {
     let alloc = rt.alloc();
-    let refused: [&[&str]; 19] = [
+    let refused: [&[&str]; 16] = [
         &[],
         &["unknown"],
         &[""],
@@ -197,28 +197,28 @@ fn refusals(rt: HostRuntime) -> Result<(), Fail> {
         &["help", "check"],
         &["--", "replay"],
         &["replay", "--"],
-        &["board"],
-        &[
-            "board",
-            "hub.toml",
-            "city",
-            "ST",
-            "1743314000",
-            "3600",
-            "50",
-        ],
-        &[
-            "board",
-            "hub.toml",
-            "city",
-            "ST",
-            "1743314000",
-            "3600",
-            "50",
-            "text",
-            "text",
-        ],
     ];
+    for words in refused {
+        assert!(rt; is_usage(alloc, words)?);
+    }
+    Ok(())
+}
+
+#[test]
+fn no_board(rt: HostRuntime) -> Result<(), Fail> {
+    let alloc = rt.alloc();
+    let words = [
+        "board",
+        "hub.toml",
+        "city",
+        "ST",
+        "1743314000",
+        "3600",
+        "50",
+        "text",
+        "text",
+    ];
+    let refused: [&[&str]; 3] = [&words[..1], &words[..7], &words];
     for words in refused {
         assert!(rt; is_usage(alloc, words)?);
     }

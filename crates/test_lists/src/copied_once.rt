@@ -14,7 +14,8 @@ use std::marker::Model;
 use std::rc::Rc;
 use std::test::Fail;
 
-/// A number that is its own key, and the count of copies that were made of any. A contract sees the number.
+/// A number that is its own key, and the count of copies that were made of any. A contract sees the
+/// number.
 #[derive(Drop)]
 struct Tallied {
     number: u32,
@@ -55,6 +56,13 @@ impl Keyed for Tallied {
 
     ghost key_cmp = { nat_cmp };
 
+    // Nobody asks which are newer.
+    ghost stamp_of = { λ _. 0 };
+
+    fn stamp(&self) -> u64 {
+        0
+    }
+
     fn order(&self, other: &Self) -> Ordering {
         self.number.cmp(&other.number)
     }
@@ -81,8 +89,8 @@ fn full(alloc: Global, copies: &Rc<Cell<usize>>) -> Result<SharedList<Tallied>, 
     Ok(list)
 }
 
-/// How many items are copied when a version of the list is changed at so many numbers, each so far above the one
-/// before: every second one is replaced, and the others are taken out.
+/// How many items are copied when a version of the list is changed at so many numbers, each so far
+/// above the one before: every second one is replaced, and the others are taken out.
 fn copies_made(alloc: Global, count: u32, step: u32) -> Result<usize, NoMemory> {
     let copies = Rc::new(alloc, Cell::new(0usize))?;
     let old = full(alloc, &copies)?;

@@ -1,4 +1,5 @@
-//! Lists by a key of two numbers and a text: their parts from a key on, and changes that are done together.
+//! Lists by a key of two numbers and a text: their parts from a key on, and changes that are done
+//! together.
 
 ghost use Rattle.std.specs.Prelude.{◌≡◌, ℕ, ℤ, List};
 ghost use Rattle.std.specs.Cmp.Lexicographic.{slice_cmp};
@@ -24,7 +25,8 @@ use std::cmp::Ordering;
 use std::test::Fail;
 use texts::ShortText;
 
-/// A departure: of which stop, when and of which line, and a number that tells two of one key apart.
+/// A departure: of which stop, when and of which line, and a number that tells two of one key
+/// apart.
 #[derive(Drop)]
 struct Due {
     stop: u32,
@@ -66,6 +68,13 @@ impl Keyed for Due {
 
     ghost key_cmp = { λ a b. ordering_then (nat_cmp a.0 b.0)
         (ordering_then (int_cmp a.1.0 b.1.0) (slice_cmp nat_cmp a.1.1 b.1.1)) };
+
+    // Nobody asks which are newer.
+    ghost stamp_of = { λ _. 0 };
+
+    fn stamp(&self) -> u64 {
+        0
+    }
 
     fn order(&self, other: &Self) -> Ordering {
         in_turn(
@@ -184,7 +193,8 @@ fn a_part_begins_at_the_first_not_below_the_key(rt: HostRuntime) -> Result<(), F
     Ok(())
 }
 
-/// Whether the changes that are told make a list of those numbers of the four departures, which stay as they were.
+/// Whether the changes that are told make a list of those numbers of the four departures, which
+/// stay as they were.
 fn makes(alloc: Global, changes: &[Told<'_>], numbers: &[u32]) -> Result<bool, NoMemory> {
     let old = changed(alloc, &SharedList::empty(alloc), &FEW)?;
     let new = changed(alloc, &old, changes)?;
@@ -222,8 +232,8 @@ fn at_first(at: u32) -> Option<u32> {
     if at % 2 == 0 { Some(at / 2) } else { None }
 }
 
-/// The same after every tenth was replaced, every seventh of all was taken out, and at every ninth time one came
-/// in where there was none.
+/// The same after every tenth was replaced, every seventh of all was taken out, and at every ninth
+/// time one came in where there was none.
 fn at_last(at: u32) -> Option<u32> {
     let place = at / 2;
     if at % 2 == 1 {
@@ -306,7 +316,8 @@ fn is_in(alloc: Global, list: &SharedList<Due>, state: State) -> Result<bool, No
     Ok(has(list, numbers.as_slice()))
 }
 
-/// Whether a list of a thousand departures is brought to a state, back and to nothing, and each version stays.
+/// Whether a list of a thousand departures is brought to a state, back and to nothing, and each
+/// version stays.
 fn goes_to(alloc: Global, state: State) -> Result<bool, NoMemory> {
     let first = brought(
         alloc,

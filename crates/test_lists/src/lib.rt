@@ -1,8 +1,9 @@
-//! Tests of lists in the order of their keys: by a text, by a number, by two numbers and a text, and of a feed's table,
-//! which is one of them.
+//! Tests of lists in the order of their keys: by a text, by a number, by two numbers and a text,
+//! and of a feed's table, which is one of them.
 //!
-//! They call `shared_list`, `keyed_lists` and `entity_table` by their public contracts. Every test is proved safe, and then it is run: it compares whole
-//! lists, and counts copies, of which no contract tells.
+//! They call `shared_list`, `keyed_lists` and `entity_table` by their public contracts. Every test
+//! is proved safe, and then it is run: it compares whole lists, and counts copies, of which no
+//! contract tells.
 #![tactic(auto)]
 
 #[cfg(test)]

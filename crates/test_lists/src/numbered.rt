@@ -35,6 +35,12 @@ impl Keyed for Numbered {
 
     ghost key_cmp = { slice_cmp nat_cmp };
 
+    ghost stamp_of = { λ item. item.number };
+
+    fn stamp(&self) -> u64 {
+        u64::from(self.number)
+    }
+
     fn order(&self, other: &Self) -> Ordering {
         self.name.order(other.name.as_str())
     }
@@ -186,8 +192,8 @@ fn found_in(alloc: Global, list: &SharedList<Numbered>) -> Result<u32, NoMemory>
     Ok(count)
 }
 
-/// Whether a list of so many items that it has several nodes keeps them in order, as they come and go, while
-/// a version of it stays.
+/// Whether a list of so many items that it has several nodes keeps them in order, as they come and
+/// go, while a version of it stays.
 fn many(alloc: Global) -> Result<bool, NoMemory> {
     let old = with_places(alloc, SharedList::empty(alloc), 0, NUMBERS)?;
     let back = without_numbers(alloc, old.share()?, 0, 2000)?;
@@ -233,8 +239,9 @@ fn list_of(alloc: Global, items: Vec<Numbered>) -> Result<SharedList<Numbered>, 
     changed(&SharedList::empty(alloc), changes)
 }
 
-/// Whether a list that is made at once, of items in whatever order, is the one that has them put in: of so many
-/// that it has several nodes, of one leaf, and of none; and with two items of one key, of which the last stays.
+/// Whether a list that is made at once, of items in whatever order, is the one that has them put
+/// in: of so many that it has several nodes, of one leaf, and of none; and with two items of one
+/// key, of which the last stays.
 fn at_once(alloc: Global) -> Result<bool, NoMemory> {
     let all = list_of(alloc, items_at(alloc, NUMBERS)?)?;
     let back = without_numbers(alloc, all.share()?, 0, 2000)?;
@@ -257,5 +264,41 @@ fn at_once(alloc: Global) -> Result<bool, NoMemory> {
 #[test]
 fn a_list_is_made_at_once(rt: HostRuntime) -> Result<(), Fail> {
     assert!(rt; at_once(rt.alloc())?);
+    Ok(())
+}
+
+/// The same sum of the numbers of those items whose stamps are above the given one.
+fn newer_weighed(list: &SharedList<Numbered>, than: u64) -> u32 {
+    let mut place = 0u32;
+    let mut sum = 0u32;
+    for item in list.newer(than) {
+        place = place.wrapping_add(1);
+        sum = sum.wrapping_add(place.wrapping_mul(item.number));
+    }
+    sum
+}
+
+/// What is newer in a list of several nodes: nothing, its end, and all but its first item; when one
+/// in its middle is newer, and one more at its end; and when the one in its middle is gone again.
+fn newer_ones(alloc: Global) -> Result<[u32; 6], NoMemory> {
+    let old = with_places(alloc, SharedList::empty(alloc), 0, NUMBERS)?;
+    let middle = key_of(alloc, 500)?;
+    let replaced = with(alloc, old.share()?, middle.as_str(), 9000)?;
+    let new = with(alloc, replaced, "b", 9001)?;
+    let gone = new.share()?.without(middle.as_str())?.list;
+    Ok([
+        newer_weighed(&old, 3000),
+        newer_weighed(&old, 2997),
+        newer_weighed(&old, 0),
+        newer_weighed(&new, 3000),
+        newer_weighed(&new, 9000),
+        newer_weighed(&gone, 3000),
+    ])
+}
+
+#[test]
+fn newer_items_are_found(rt: HostRuntime) -> Result<(), Fail> {
+    let told = [0, 17_996, 414_565_908, 27_002, 9001, 9001];
+    assert_eq!(rt; newer_ones(rt.alloc())?, told);
     Ok(())
 }

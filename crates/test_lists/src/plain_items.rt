@@ -36,6 +36,13 @@ impl Keyed for Weight {
 
     ghost key_cmp = { nat_cmp };
 
+    // Nobody asks which are newer.
+    ghost stamp_of = { λ _. 0 };
+
+    fn stamp(&self) -> u64 {
+        0
+    }
+
     fn order(&self, other: &Self) -> Ordering {
         self.number.cmp(&other.number)
     }
@@ -77,7 +84,8 @@ fn weight_of(list: &SharedList<Weight>) -> u32 {
     sum
 }
 
-/// The list after changes of every 16th of so many numbers: the weight of one becomes 3, the next one goes.
+/// The list after changes of every 16th of so many numbers: the weight of one becomes 3, the next
+/// one goes.
 fn changed(
     alloc: Global,
     list: &SharedList<Weight>,

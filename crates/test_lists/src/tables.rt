@@ -246,3 +246,46 @@ fn hundreds_of_ids_stand_in_order(rt: HostRuntime) -> Result<(), Fail> {
     assert!(rt; large_ones(rt.alloc())?);
     Ok(())
 }
+
+/// Whether those ids have what is newer than the stamp.
+fn newer_are(table: &Table, than: u64, ids: &[&str]) -> bool {
+    let mut place = 0usize;
+    for stored in table.newer(than) {
+        match ids.get(place) {
+            Some(id) => {
+                if stored.entity.id.as_str() != *id || stored.stamp <= than {
+                    return false;
+                }
+            }
+            None => return false,
+        }
+        place = place.wrapping_add(1);
+    }
+    place == ids.len()
+}
+
+/// Whether what is newer is found: none, some and all of few ids, and of hundreds those that a
+/// message changed, and what is left of them.
+fn newer_ones(alloc: Global) -> Result<bool, NoMemory> {
+    let few = after_all(alloc, &["~ +a +b +c", "~ +b +d", "~ -a +c"])?;
+    let old = first_table(alloc, message(alloc, None, 1, many(alloc, 997, None)?)?)?;
+    let changes = many(alloc, 5, None)?;
+    let kind = Some(Incrementality::Differential);
+    let new = apply(alloc, &old, &message(alloc, kind, 2, changes)?)?;
+    let gone = new.share()?.without("1367")?.table;
+    Ok(
+        newer_are(&few, 3, &[])
+            && newer_are(&few, 2, &["c"])
+            && newer_are(&few, 0, &["b", "c", "d"])
+            && newer_are(&old, 1, &[])
+            && newer_are(&new, 2, &[])
+            && newer_are(&new, 1, &["1000", "1104", "1367", "1471", "1734"])
+            && newer_are(&gone, 1, &["1000", "1104", "1471", "1734"]),
+    )
+}
+
+#[test]
+fn newer_entities_are_found(rt: HostRuntime) -> Result<(), Fail> {
+    assert!(rt; newer_ones(rt.alloc())?);
+    Ok(())
+}

@@ -1,4 +1,5 @@
-//! The states of a trip of twenty places, which is left at 08:00:00, 08:01:00 and so on, and of one of the small city.
+//! The states of a trip of twenty places, which is left at 08:00:00, 08:01:00 and so on, and of one
+//! of the small city.
 
 ghost use Rattle.std.specs.Prelude.{◌≡◌, ◌<◌, map, IfOk};
 ghost use Rattle.std.specs.List.{range_with_len};
@@ -18,8 +19,8 @@ use std::test::Fail;
 
 const RUN: Run = Run { trip: 0, day: 0 };
 
-/// T1 of the city on 30 March 2025: by the stops S1, S3, S2 and S4, whose numbers are 0, 2, 1 and 3, with the
-/// sequences 1, 2, 5 and 9.
+/// T1 of the city on 30 March 2025: by the stops S1, S3, S2 and S4, whose numbers are 0, 2, 1 and
+/// 3, with the sequences 1, 2, 5 and 9.
 const CITY_RUN: Run = Run { trip: 1, day: 1 };
 
 fn places(alloc: Global) -> Result<Vec<Place>, NoMemory>

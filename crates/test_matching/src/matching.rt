@@ -177,8 +177,8 @@ fn departing(alloc: Global, plan: &Plan, date: &str, time: &str) -> Result<Found
     Ok(find(plan, &trip, 0))
 }
 
-/// What is found of a trip by its id, its start_time and its date, where they are not empty, in the morning of
-/// 25 October 2025.
+/// What is found of a trip by its id, its start_time and its date, where they are not empty, in the
+/// morning of 25 October 2025.
 fn starting(
     alloc: Global,
     plan: &Plan,
@@ -306,7 +306,8 @@ fn the_start_time_says_which_trip_of_a_pattern(rt: HostRuntime) -> Result<(), Fa
         ("T2", "8:00:00", day, run(2, 1)),
         ("T2", "08:30:00", day, run(3, 1)),
         ("T2", "08:30:00", "", run(3, 0)),
-        // The id of a derived trip is that of a trip, and of other trips the start_time says nothing.
+        // The id of a derived trip is that of a trip, and of other trips the start_time says
+        // nothing.
         ("T2@08:30:00", "", day, run(3, 1)),
         ("T1", "x", day, run(1, 1)),
         ("T2", "8:00:00", "20251027", Found::NoMatch(Why::NotActive)),

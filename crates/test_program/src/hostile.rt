@@ -1,5 +1,5 @@
-//! Messages that are at fault, each offered through a replay to a hub that holds nothing, with the line that
-//! answers it.
+//! Messages that are at fault, each offered through a replay to a hub that holds nothing, with the
+//! line that answers it.
 use crate::runs::replays;
 use std::alloc::Global;
 use std::test::Fail;

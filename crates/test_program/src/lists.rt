@@ -1,4 +1,5 @@
-//! The lists next to a board, and the row of an added trip, of the small city and of a hub without a timetable.
+//! The lists next to a board, and the row of an added trip, of the small city and of a hub without
+//! a timetable.
 use crate::city::plays;
 use crate::runs::replays;
 use std::test::Fail;
@@ -56,8 +57,8 @@ fn updates_of_unknown_trips_are_listed(rt: HostRuntime) -> Result<(), Fail> {
     Ok(())
 }
 
-/// An added trip of the route R7 that leaves S3 at 08:01:40 and arrives at S4 five minutes later. It tells no
-/// date.
+/// An added trip of the route R7 that leaves S3 at 08:01:40 and arrives at S4 five minutes later.
+/// It tells no date.
 const ADDED_TRIP: &[u8] =
     b"M a 62\n\x0a\x0d\x0a\x032.0\x10\x00\x18\xd0\xb8\xa3\xbf\x06\x12-\x0a\x01u\x1a(\x0a\x0a\x0a\x02X9 \x01*\x02R7\x12\x0c\x1a\x06\x10\xc4\xbc\xa3\xbf\x06\"\x02S3\x12\x0c\x12\x06\x10\xf0\xbe\xa3\xbf\x06\"\x02S4\nB city S3 1743314000 3600 50 text\nU city\nE\n";
 

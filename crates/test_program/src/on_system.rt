@@ -14,7 +14,8 @@ fn fresh_path(rt: &HostRuntime, name: &str) -> Result<String, Fail> {
     Ok(format!(in rt.alloc(); "/tmp/test_program.{process}{name}")?)
 }
 
-/// Whether the program of that command, configuration and input ends with the status and prints just that.
+/// Whether the program of that command, configuration and input ends with the status and prints
+/// just that.
 fn ends(
     rt: &HostRuntime,
     command: &str,

@@ -1,4 +1,5 @@
-//! Whole replays: one message, pieces of any size, faults of the input and of the output, and words of other commands.
+//! Whole replays: one message, pieces of any size, faults of the input and of the output, and words
+//! of other commands.
 use crate::runs::{ends, replays, run};
 use hub_outside::{MemoryFiles, MemorySource};
 use std::alloc::Global;
@@ -32,7 +33,8 @@ fn a_message_is_taken_once(rt: HostRuntime) -> Result<(), Fail> {
     Ok(())
 }
 
-/// Whether that script, read in these pieces while the reads and writes of these numbers fail, ends so.
+/// Whether that script, read in these pieces while the reads and writes of these numbers fail, ends
+/// so.
 fn ends_twice(
     alloc: Global,
     pieces: Vec<u32>,

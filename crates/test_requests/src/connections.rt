@@ -20,6 +20,10 @@ const FEED: &[u8] =
 const THOUSANDTH: &[u8] =
     b"HTTP/1.1 200 OK\r\nContent-Type: application/x-protobuf\r\nContent-Length: 11\r\nX-Hub-Sequence: 0\r\nX-Hub-Moment: 7\r\nConnection: close\r\n\r\n\x0a\x09\x0a\x032.0\x10\x00\x18\x00";
 
+/// The response to a request for what changed in it since it is as it is.
+const UNCHANGED: &[u8] =
+    b"HTTP/1.1 200 OK\r\nContent-Type: application/x-protobuf\r\nContent-Length: 11\r\nX-Hub-Sequence: 0\r\nX-Hub-Moment: 7\r\nConnection: keep-alive\r\n\r\n\x0a\x09\x0a\x032.0\x10\x01\x18\x00";
+
 /// The status, and what the schedule has no run for.
 const STATUS: &[u8] =
     b"HTTP/1.1 200 OK\r\nContent-Type: text/plain; charset=utf-8\r\nContent-Length: 46\r\nX-Hub-Sequence: 0\r\nX-Hub-Moment: 7\r\nConnection: keep-alive\r\n\r\nentries\t0\nfeed\taccepted\tlast\tentities\na\t0\t0\t0\n";
@@ -108,6 +112,16 @@ fn lists_are_answered(rt: HostRuntime) -> Result<(), Fail> {
 }
 
 #[test]
+fn changes_are_answered(rt: HostRuntime) -> Result<(), Fail> {
+    let alloc = rt.alloc();
+    let kept = b"GET /feed/city?since=0 HTTP/1.1\r\n\r\n".to_vec(alloc)?;
+    assert!(rt; is_served(alloc, kept, End::Ended, 0, UNCHANGED)?);
+    let not_kept = b"GET /feed/city?since=1 HTTP/1.1\r\n\r\n".to_vec(alloc)?;
+    assert!(rt; is_served(alloc, not_kept, End::Ended, 0, FEED)?);
+    Ok(())
+}
+
+#[test]
 fn heads_have_8192_bytes_at_most(rt: HostRuntime) -> Result<(), Fail> {
     let alloc = rt.alloc();
     assert!(rt;
@@ -142,12 +156,13 @@ fn other_methods_close(rt: HostRuntime) -> Result<(), Fail> {
 #[test]
 fn refusals_keep_the_connection(rt: HostRuntime) -> Result<(), Fail> {
     let alloc = rt.alloc();
-    let cases: [(&[u8], &[u8]); 5] = [
+    let cases: [(&[u8], &[u8]); 6] = [
         (b"GET /board/city/NO HTTP/1.1\r\n\r\n", NOT_FOUND),
         (b"GET /board/town/S3 HTTP/1.1\r\n\r\n", NOT_FOUND),
         (b"GET /alerts/city/NO HTTP/1.1\r\n\r\n", NOT_FOUND),
         (b"GET /unmatched/town HTTP/1.1\r\n\r\n", NOT_FOUND),
         (b"GET /board/city/S3?limit=0 HTTP/1.1\r\n\r\n", OUT_OF_RANGE),
+        (b"GET /feed/city?since=x HTTP/1.1\r\n\r\n", OUT_OF_RANGE),
     ];
     for (input, response) in cases.iter() {
         assert!(rt; is_served(alloc, input.to_vec(alloc)?, End::Ended, 0, response)?);
@@ -240,8 +255,8 @@ fn a_write_fails_after_a_whole_response(rt: HostRuntime) -> Result<(), Fail> {
     Ok(())
 }
 
-/// A source that compares, at each read, how many bytes its sink has got with those of all responses
-/// so far.
+/// A source that compares, at each read, how many bytes its sink has got with those of all
+/// responses so far.
 #[derive(Drop)]
 struct Watching<'a> {
     source: MemorySource,

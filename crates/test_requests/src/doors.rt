@@ -1,6 +1,7 @@
-//! Doors over a hub of one schedule without stops and of one feed, which sent nothing, at the second
-//! 7.
+//! Doors over a hub of one schedule without stops and of one feed, which sent nothing, at the
+//! second 7.
 use crate::given::{NOT_FOUND, hub};
+use delta_out::Kept;
 use http_door::{DoorEnd, DoorReport, serve_door};
 use hub_outside::{
     FixedClock, Gate, GatePoint, MemoryDoor, MemoryLink, MemorySink, MemorySource, NoMemory,
@@ -58,7 +59,8 @@ fn serve<R: Wait>(rt: &R, alloc: Global, door: &mut MemoryDoor) -> Result<(DoorR
     let log = Log {
         points: Cell::new(0),
     };
-    let report = serve_door(rt, alloc, door, &mut hub, &mut clock, &log, 3);
+    let mut kept = Kept::new(alloc)?;
+    let report = serve_door(rt, alloc, door, &mut hub, &mut clock, &log, 3, &mut kept);
     Ok((report, log.points.get()))
 }
 
@@ -105,8 +107,8 @@ fn door_that_fails_is_served_no_further(rt: HostRuntime) -> Result<(), Fail> {
     Ok(())
 }
 
-/// Whether that request is answered as ever after a link with these bytes, of which the reads of these
-/// numbers fail.
+/// Whether that request is answered as ever after a link with these bytes, of which the reads of
+/// these numbers fail.
 fn is_answered_after<R: Wait>(
     rt: &R,
     alloc: Global,
@@ -122,8 +124,8 @@ fn is_answered_after<R: Wait>(
     Ok(report.connections == 2 && second.output.bytes() == NOT_FOUND)
 }
 
-/// The front of a head, before a read that fails and before the end of its input; and a request after
-/// one that closes its connection.
+/// The front of a head, before a read that fails and before the end of its input; and a request
+/// after one that closes its connection.
 #[test]
 fn no_link_leaves_bytes_to_the_next(rt: HostRuntime) -> Result<(), Fail> {
     let alloc = rt.alloc();

@@ -1,4 +1,5 @@
-//! What tests of connections and of doors share: their hub, a refusal of it, and heads of a given length.
+//! What tests of connections and of doors share: their hub, a refusal of it, and heads of a given
+//! length.
 use hub_state::{NoMemory, ReplayHub};
 use rt_types::Text;
 use sched_types::{NamedFeed, NamedPlan, Plan, Plans};

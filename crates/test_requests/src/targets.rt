@@ -5,7 +5,7 @@ use std::alloc::Global;
 use std::test::Fail;
 
 /// Targets, and what they ask as `line_of` says it.
-const PATHS: [(&str, &str); 36] = [
+const PATHS: [(&str, &str); 41] = [
     ("/board/a/b", "board a b 3600 50 false"),
     ("/alerts/a/b", "alerts a b 3600 50 false"),
     ("/feed/a", "feed a"),
@@ -13,6 +13,14 @@ const PATHS: [(&str, &str); 36] = [
     ("/status", "status"),
     ("/status?span=0", "status"),
     ("/feed/a?x?span=0", "feed a"),
+    ("/feed/a?since=0", "feed a since 0"),
+    (
+        "/feed/a?since=18446744073709551615",
+        "feed a since 18446744073709551615",
+    ),
+    ("/feed/a?since=18446744073709551616", "400"),
+    ("/feed/a?since=000000000000000000001", "400"),
+    ("/feed/a?since=x", "400"),
     ("/board/a%2Fb/c", "board a/b c 3600 50 false"),
     ("/board/a/%2f", "board a / 3600 50 false"),
     ("/feed/%61", "feed a"),
@@ -100,9 +108,12 @@ fn line_of(alloc: Global, query: &Query) -> Result<String, NoMemory> {
             let (schedule, stop) = (schedule.as_str(), stop.as_str());
             format!(in alloc; "alerts {schedule} {stop} {span} {limit} {json}")
         }
-        Query::Feed { schedule } => {
+        Query::Feed { schedule, since } => {
             let schedule = schedule.as_str();
-            format!(in alloc; "feed {schedule}")
+            match since {
+                Some(look) => format!(in alloc; "feed {schedule} since {look}"),
+                None => format!(in alloc; "feed {schedule}"),
+            }
         }
         Query::Unmatched { schedule } => {
             let schedule = schedule.as_str();

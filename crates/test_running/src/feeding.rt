@@ -17,8 +17,8 @@ use std::alloc::Global;
 use std::sync::Wait;
 use std::test::Fail;
 
-/// What a report tells: how many were accepted, refused, starved and too long, and the last stamp; and
-/// the end.
+/// What a report tells: how many were accepted, refused, starved and too long, and the last stamp;
+/// and the end.
 fn told(report: &IngestReport) -> ([u64; 5], PortEnd) {
     let numbers = [
         report.accepted,
@@ -30,8 +30,8 @@ fn told(report: &IngestReport) -> ([u64; 5], PortEnd) {
     (numbers, report.end)
 }
 
-/// Takes in all that the port hands in, and ends the hub; what the report told, and how many messages
-/// the ended hub has.
+/// Takes in all that the port hands in, and ends the hub; what the report told, and how many
+/// messages the ended hub has.
 fn run<R: Wait, P: FeedPort>(
     rt: &R,
     alloc: Global,
@@ -102,8 +102,8 @@ fn a_port_that_fails_is_asked_no_more(rt: HostRuntime) -> Result<(), Fail> {
     Ok(())
 }
 
-/// A port that looks at the hub at each ask, and writes down how many messages it has: a digit for each
-/// ask.
+/// A port that looks at the hub at each ask, and writes down how many messages it has: a digit for
+/// each ask.
 #[derive(Drop)]
 struct Watching {
     inner: MemoryPort,

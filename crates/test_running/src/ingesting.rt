@@ -180,9 +180,9 @@ fn look_all<R: Threads + Wait + Sync>(rt: &R, passes: Vec<Pass>, odd: &AtomicU64
     passes
 }
 
-/// What a run of four ingesters beside four readers tells: how many messages of the feeds were accepted,
-/// and the stamp of each feed's last, all added up; how many messages the ended hub has; and how many
-/// looks were not as they must be.
+/// What a run of four ingesters beside four readers tells: how many messages of the feeds were
+/// accepted, and the stamp of each feed's last, all added up; how many messages the ended hub has;
+/// and how many looks were not as they must be.
 fn run_of_four<R: Threads + Wait + Sync>(rt: &R, alloc: Global) -> Option<[u64; 4]> {
     let Ok(plans) = four_feeds(alloc) else {
         return None;

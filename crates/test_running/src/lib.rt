@@ -1,8 +1,9 @@
-//! Tests of the parts of a running hub, over their public contracts alone: ended histories, permits, locks with a key,
-//! jobs of places, snapshots, and the hub that ingesters and readers share.
+//! Tests of the parts of a running hub, over their public contracts alone: ended histories,
+//! permits, locks with a key, jobs of places, snapshots, and the hub that ingesters and readers
+//! share.
 //!
-//! Each test is proved safe, and then run. Those of snapshots and of the shared hub run threads beside one another, and
-//! what their threads tell is the same whatever the schedule was.
+//! Each test is proved safe, and then run. Those of snapshots and of the shared hub run threads
+//! beside one another, and what their threads tell is the same whatever the schedule was.
 #![tactic(auto)]
 
 #[cfg(test)]

@@ -1,9 +1,9 @@
-//! Passes that look while a publisher shows one view after another, each in a thread of its own, and one
-//! that stands between two looks meanwhile.
+//! Passes that look while a publisher shows one view after another, each in a thread of its own,
+//! and one that stands between two looks meanwhile.
 //!
-//! The threads keep one another's pace, so that each view is put while passes look, and whoever waits for
-//! the others gives up in the end, which the test tells. A `put` that waited for ever is ended by the time
-//! that a test has.
+//! The threads keep one another's pace, so that each view is put while passes look, and whoever
+//! waits for the others gives up in the end, which the test tells. A `put` that waited for ever is
+//! ended by the time that a test has.
 
 ghost use Rattle.std.specs.Prelude.{◌≡◌};
 ghost use Rattle.std.specs.List.{All};
@@ -151,8 +151,8 @@ fn came_to(count: &AtomicU64, least: u64) -> bool {
     false
 }
 
-/// The stamp of the last message of a view's first feed, which is its number at a hub whose messages
-/// have the stamps 1, 2, 3 and so on.
+/// The stamp of the last message of a view's first feed, which is its number at a hub whose
+/// messages have the stamps 1, 2, 3 and so on.
 fn stamp_in(view: &HubView) -> Option<u64> {
     let feed = view.feeds().first()?;
     Some(feed.stamp())
@@ -174,8 +174,8 @@ fn put_all<R: Wait, H: OfHub>(rt: &R, alloc: Global, board: &Board<H>, shower: &
     }
 }
 
-/// Looks some times, and answers the number that was found last. No look may answer less than the one
-/// before, nor the first less than what is known.
+/// Looks some times, and answers the number that was found last. No look may answer less than the
+/// one before, nor the first less than what is known.
 fn look_round<H: OfHub>(board: &Board<H>, pass: &mut Pass, known: u64) -> u64
     requires { AreOne pass.old.line H.told }
     ensures { AreOne pass.new.line H.told }
@@ -196,8 +196,8 @@ fn look_round<H: OfHub>(board: &Board<H>, pass: &mut Pass, known: u64) -> u64
     last
 }
 
-/// Makes all rounds of a pass: it learns of the newest view, and looks. A round waits until the view
-/// before its own was put, so that all views come while passes look.
+/// Makes all rounds of a pass: it learns of the newest view, and looks. A round waits until the
+/// view before its own was put, so that all views come while passes look.
 fn look_beside<R: Wait, H: OfHub>(rt: &R, board: &Board<H>, pass: &mut Pass)
     requires { AreOne pass.old.line H.told }
 {
@@ -239,8 +239,8 @@ struct Beside {
     put: u64,
     /// How many rounds the passes made.
     rounds: u64,
-    /// What the pass that stood by found at its first look, what its view had just before its second, and
-    /// what it found there.
+    /// What the pass that stood by found at its first look, what its view had just before its
+    /// second, and what it found there.
     stood: [Option<u64>; 3],
     /// How many messages the ended hub has.
     ended: u64,
@@ -305,7 +305,8 @@ fn run_beside<H: OfHub + Send + Sync, R: Threads + Wait + Sync>(
     })
 }
 
-/// A run of a hub with a pass that stands by and those that look, or none where no memory was found.
+/// A run of a hub with a pass that stands by and those that look, or none where no memory was
+/// found.
 fn run_of_five<R: Threads + Wait + Sync>(rt: &R, alloc: Global) -> Option<Beside> {
     let Ok((shower, mut passes)) = opened(rt, alloc, LOOKERS as u32 + 1) else {
         return None;

@@ -109,8 +109,8 @@ pub(crate) fn opened<R: Wait>(
     Ok((shower, passes))
 }
 
-/// What two passes see while two messages are published: the first looks before and after it learns of
-/// the first message, the second is shown both, looks, and lets go of what it found.
+/// What two passes see while two messages are published: the first looks before and after it learns
+/// of the first message, the second is shown both, looks, and lets go of what it found.
 fn seen_by_two<R: Wait>(
     rt: &R,
     alloc: Global,

@@ -22,12 +22,12 @@ use std::test::Fail;
 use std::thread::Threads;
 use texts::read_number;
 
-/// The moment of all clocks: 08:10 on 30 March 2025 in the city. The run of the next day stays on the boards of
-/// a day from there on, however late these messages make it.
+/// The moment of all clocks: 08:10 on 30 March 2025 in the city. The run of the next day stays on
+/// the boards of a day from there on, however late these messages make it.
 const MOMENT: u64 = 1_743_315_000;
 
-/// How many messages each feed offers. Every fifth is refused: in turns it is cut short, or no newer than
-/// the one before.
+/// How many messages each feed offers. Every fifth is refused: in turns it is cut short, or no
+/// newer than the one before.
 const OFFERED: u64 = 500;
 
 /// How many of them are accepted.
@@ -39,8 +39,8 @@ const LINKS: u64 = 100;
 /// So many messages of each feed go beside two links of each reader.
 const BATCH: u64 = 10;
 
-/// The stamp of a feed, and the delay of its trip in seconds, is above this by how many messages of the
-/// feed were accepted.
+/// The stamp of a feed, and the delay of its trip in seconds, is above this by how many messages of
+/// the feed were accepted.
 const BASE: u64 = 128;
 
 /// A delay of which no message is accepted.
@@ -126,8 +126,8 @@ fn offered(alloc: Global, teller: &Teller, place: u64) -> Result<Vec<u8>, NoMemo
     accepted(alloc, teller, nth)
 }
 
-/// Keeps ingesters and readers side by side: neither goes on by more than about two batches before the
-/// others.
+/// Keeps ingesters and readers side by side: neither goes on by more than about two batches before
+/// the others.
 #[derive(Drop)]
 struct Pace<C> {
     patience: Patience<C>,
@@ -304,8 +304,8 @@ fn offer(hub: &mut ReplayHub, teller: &Teller, bytes: &[u8]) -> bool {
     hub.offer(teller.feed, bytes).is_ok()
 }
 
-/// Lets a hub accept the messages of a feed up to that number; whether it has no more of them, and accepts
-/// each.
+/// Lets a hub accept the messages of a feed up to that number; whether it has no more of them, and
+/// accepts each.
 fn offer_up_to(
     alloc: Global,
     hub: &mut ReplayHub,
@@ -355,8 +355,8 @@ fn is_answer(
     Ok(anew.written.bytes() == response)
 }
 
-/// Whether the responses of a door are those of one history that grows, each computed anew; then how many
-/// of them were answered behind the first message and before the last.
+/// Whether the responses of a door are those of one history that grows, each computed anew; then
+/// how many of them were answered behind the first message and before the last.
 fn explained(alloc: Global, door: &MemoryDoor) -> Result<Option<u64>, NoMemory> {
     let mut hub = ReplayHub::new(alloc, four_feeds(alloc)?)?;
     let mut between: u64 = 0;

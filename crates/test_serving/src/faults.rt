@@ -20,8 +20,8 @@ enum Ports {
     TooLong,
 }
 
-/// A run: its ports, the calls that fail at the first door and at the output, and then the status, what is
-/// written, and how many links are given back by the first door.
+/// A run: its ports, the calls that fail at the first door and at the output, and then the status,
+/// what is written, and how many links are given back by the first door.
 struct Case {
     ports: Ports,
     door_failing: &'static [u64],

@@ -1,5 +1,6 @@
-//! Runs of the small city whose threads a gate holds: that they go on side by side, that readers see what
-//! was taken in before they answer, and that the numbers of a reader go by the order in time.
+//! Runs of the small city whose threads a gate holds: that they go on side by side, that readers
+//! see what was taken in before they answer, and that the numbers of a reader go by the order in
+//! time.
 
 ghost use Rattle.feed_defs.specs.History.{longest_message};
 ghost use Rattle.hub_outside.specs.Buffer.{room_of};
@@ -19,8 +20,8 @@ use std::{rt, thread};
 /// How many turns of a millisecond a thread is held at a point.
 const TURNS: u32 = 20_000;
 
-/// Holds threads until others have come by, up to so many turns. Once a thread was held longer than that,
-/// nobody is held any more.
+/// Holds threads until others have come by, up to so many turns. Once a thread was held longer than
+/// that, nobody is held any more.
 #[derive(Drop)]
 pub(crate) struct Patience<C> {
     clock: C,
@@ -52,8 +53,8 @@ impl<C: rt::Clock> Patience<C> {
     }
 }
 
-/// How often the points were passed at which the readers 0 and 1 have a link, and that behind the messages
-/// of the feed 0.
+/// How often the points were passed at which the readers 0 and 1 have a link, and that behind the
+/// messages of the feed 0.
 #[derive(Drop)]
 struct Points {
     first: AtomicU64,

@@ -46,8 +46,8 @@ fn served_by(alloc: Global, pass: &mut Pass) -> Result<Option<u64>, NoMemory> {
     }
 }
 
-/// The number of the response of a pass that learned of the update, and whether one which did not serves
-/// either.
+/// The number of the response of a pass that learned of the update, and whether one which did not
+/// serves either.
 fn serve_both<R: Wait>(
     rt: &R,
     alloc: Global,

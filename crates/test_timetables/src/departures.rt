@@ -82,8 +82,8 @@ fn agrees(alloc: Global, plan: &Plan, stop: u32, start: i64, end: i64) -> Result
     Ok(by_index.as_slice() == by_scan.as_slice())
 }
 
-/// A timetable of the city's stops in a window of 400 days from 29 March 2025 on: W and N run on weekdays, S and N2
-/// on Sundays, and all but W go on into later days.
+/// A timetable of the city's stops in a window of 400 days from 29 March 2025 on: W and N run on
+/// weekdays, S and N2 on Sundays, and all but W go on into later days.
 fn year(alloc: Global) -> Result<Plan, AllocError> {
     let trips = b"route_id,service_id,trip_id\nR7,WK,W\nR7,SU,S\nR7,WK,N\nR7,SU,N2\n";
     let stop_times =
@@ -158,7 +158,8 @@ fn of_one_instant_trips_go_by_their_numbers(rt: HostRuntime) -> Result<(), Fail>
 fn stops_without_departures_have_none(rt: HostRuntime) -> Result<(), Fail> {
     let alloc = rt.alloc();
     let plan = city(alloc)?;
-    // The hill, where trips end, the station, whose platforms are stops of their own, and no stop at all.
+    // The hill, where trips end, the station, whose platforms are stops of their own, and no stop
+    // at all.
     for stop in [3, 4, 5, u32::MAX] {
         assert!(rt; found(alloc, &plan, stop, i64::MIN, i64::MAX)?.is_empty());
     }
@@ -171,8 +172,8 @@ fn stops_without_departures_have_none(rt: HostRuntime) -> Result<(), Fail> {
 fn times_go_past_one_and_two_midnights(rt: HostRuntime) -> Result<(), Fail> {
     let alloc = rt.alloc();
     let plan = year(alloc)?;
-    // The trips are N, N2, S and W. On Sunday 30 March N2 is at S1 at 31:00 and S at 23:59:59 and 48:00:01; on the
-    // two days after, W and N run.
+    // The trips are N, N2, S and W. On Sunday 30 March N2 is at S1 at 31:00 and S at 23:59:59 and
+    // 48:00:01; on the two days after, W and N run.
     let found = found(alloc, &plan, 0, i64::MIN, 1743580800)?;
     let expected = [
         slot(1743371999, 2, 1, 0),

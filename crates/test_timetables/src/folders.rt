@@ -1,4 +1,5 @@
-//! Folders in memory, and what hinders their loading. Folders at fault are checked in `test_program`.
+//! Folders in memory, and what hinders their loading. Folders at fault are checked in
+//! `test_program`.
 
 use crate::city_files::{AGENCY, CALENDAR, ROUTES, STOP_TIMES, STOPS, TRIPS, ZONE, file, loaded};
 use hub_outside::MemoryFiles;

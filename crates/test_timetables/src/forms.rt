@@ -16,7 +16,8 @@ const PLAIN: [(&str, &[u8]); 6] = [
     ("city/calendar.txt", CALENDAR),
 ];
 
-/// The same with a byte order mark, swapped columns, a column more, and rows cut before empty last fields.
+/// The same with a byte order mark, swapped columns, a column more, and rows cut before empty last
+/// fields.
 const CHANGED: [(&str, &[u8]); 6] = [
     (
         "city/agency.txt",

@@ -53,7 +53,8 @@ fn board(
     rows(alloc, view, &query)
 }
 
-/// Whether a row of the board is about what was seen. The numbers of stops and trips go by their ids.
+/// Whether a row of the board is about what was seen. The numbers of stops and trips go by their
+/// ids.
 fn is_about(subject: &Subject<'_>, seen: &Seen) -> bool {
     match *subject {
         Subject::Row(run, stop) => {
@@ -141,8 +142,8 @@ struct Count {
     moves: MoveCount,
 }
 
-/// How many rows were seen at another stop of their station, how many at a stop of the other station, and how many
-/// where they were planned, since the assigned stop isn't there.
+/// How many rows were seen at another stop of their station, how many at a stop of the other
+/// station, and how many where they were planned, since the assigned stop isn't there.
 #[derive(Clone, Copy, Debug)]
 struct MoveCount {
     sibling: u32,

@@ -121,8 +121,8 @@ fn unmatched_agree(
     )
 }
 
-/// How many alerts came to what, so that a test can tell that it has seen enough, and of how many that was decided by
-/// where the rows are, which were planned elsewhere.
+/// How many alerts came to what, so that a test can tell that it has seen enough, and of how many
+/// that was decided by where the rows are, which were planned elsewhere.
 #[derive(Clone, Copy, Debug)]
 struct AlertCount {
     listed: u32,
@@ -158,8 +158,8 @@ impl AlertCount {
         count
     }
 
-    /// The count with the alerts of a world to which something else would come if all rows were where they were
-    /// planned.
+    /// The count with the alerts of a world to which something else would come if all rows were
+    /// where they were planned.
     fn with_moves(
         self,
         world: &World,
@@ -178,8 +178,8 @@ impl AlertCount {
     }
 }
 
-/// How many were unmatched for each reason, how many of them were vehicles, and how many runs were deleted, which
-/// leaves them matched.
+/// How many were unmatched for each reason, how many of them were vehicles, and how many runs were
+/// deleted, which leaves them matched.
 #[derive(Clone, Copy, Debug)]
 struct UnmatchedCount {
     no_trip: u32,

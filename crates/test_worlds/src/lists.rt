@@ -33,7 +33,8 @@ fn gives_more(selector: &MadeSelector) -> bool {
         || selector.trip.is_some()
 }
 
-/// Whether a selector gives a stop alone: the asked one, one in which it lies or one that lies in it.
+/// Whether a selector gives a stop alone: the asked one, one in which it lies or one that lies in
+/// it.
 fn touches_stop(world: &World, selector: &MadeSelector, stop: u32) -> bool {
     match selector.stop {
         Some(named) if !gives_more(selector) => {
@@ -270,7 +271,8 @@ fn push_all_unmatched(
     Ok(())
 }
 
-/// The updates and vehicles that mean nothing, by feed and then by id, an update before its vehicle.
+/// The updates and vehicles that mean nothing, by feed and then by id, an update before its
+/// vehicle.
 pub(crate) fn made_unmatched(
     alloc: Global,
     world: &World,

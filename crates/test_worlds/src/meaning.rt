@@ -1,4 +1,5 @@
-//! What a trip descriptor means, by going over all days and trips (GTFS Realtime 2.0, TripDescriptor).
+//! What a trip descriptor means, by going over all days and trips (GTFS Realtime 2.0,
+//! TripDescriptor).
 
 use crate::scan::runs;
 use rt_types::TripRelation;
@@ -45,7 +46,8 @@ struct Day {
     distance: i64,
 }
 
-/// How far an instant lies outside a trip that leaves its first place and reaches its last on a day.
+/// How far an instant lies outside a trip that leaves its first place and reaches its last on a
+/// day.
 fn distance(trip: &MadeTrip, base: i64, instant: i64) -> i64 {
     let (Some(first), Some(last)) = (trip.places.first(), trip.places.last()) else {
         return 0;
@@ -61,12 +63,14 @@ fn distance(trip: &MadeTrip, base: i64, instant: i64) -> i64 {
     }
 }
 
-/// Whether an instant lies less than a day and a half before the noon of a day, or so long behind it.
+/// Whether an instant lies less than a day and a half before the noon of a day, or so long behind
+/// it.
 fn is_near(base: i64, instant: i64) -> bool {
     base.saturating_sub(86_400) <= instant && instant < base.saturating_add(172_800)
 }
 
-/// The run of a trip that lies nearest to an instant, of those on days that are near; of two alike the earlier.
+/// The run of a trip that lies nearest to an instant, of those on days that are near; of two alike
+/// the earlier.
 fn nearest(world: &World, made: &MadeTrip, trip: u32, instant: i64) -> Found {
     let mut why = Why::NoDay;
     let mut best: Option<Day> = None;

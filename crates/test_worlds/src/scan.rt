@@ -27,8 +27,9 @@ pub(crate) struct Key {
     pub(crate) place: u32,
 }
 
-/// A row, with trip, day, stop and route by their numbers. Besides the stop at which it is, it has the one that was
-/// planned, by the timetable or by an added trip's call, and the one that was assigned, if there was one.
+/// A row, with trip, day, stop and route by their numbers. Besides the stop at which it is, it has
+/// the one that was planned, by the timetable or by an added trip's call, and the one that was
+/// assigned, if there was one.
 #[derive(Clone, Copy)]
 pub(crate) struct Seen {
     pub(crate) key: Key,
@@ -41,7 +42,8 @@ pub(crate) struct Seen {
     pub(crate) route: Option<u32>,
 }
 
-/// A state, a delay where it is known, and the stop that was assigned, if there was one, which may not be there.
+/// A state, a delay where it is known, and the stop that was assigned, if there was one, which may
+/// not be there.
 #[derive(Clone, Copy)]
 struct Sign {
     state: RowState,
@@ -49,8 +51,8 @@ struct Sign {
     assigned: Option<u32>,
 }
 
-/// Whether an update speaks of a run: added trips, those without a timetable and those that take the place of
-/// others are no runs.
+/// Whether an update speaks of a run: added trips, those without a timetable and those that take
+/// the place of others are no runs.
 fn is_about(update: &MadeUpdate, trip: u32, day: u32) -> bool {
     let is_run = match update.relation {
         Some(
@@ -70,8 +72,8 @@ pub(crate) fn stamp_of(world: &World, update: &MadeUpdate) -> u64 {
     update.stamp.or(message).unwrap_or(FIRST_STAMP)
 }
 
-/// Whether the first update counts more than the second: by the later stamp, then the lower feed, then the
-/// greater id.
+/// Whether the first update counts more than the second: by the later stamp, then the lower feed,
+/// then the greater id.
 fn counts_more(world: &World, a: &MadeUpdate, b: &MadeUpdate) -> bool {
     let by_stamp = stamp_of(world, a).cmp(&stamp_of(world, b));
     let by_feed = b.feed.cmp(&a.feed);

@@ -11,7 +11,7 @@ ghost use Rattle.board_text_defs.specs.Asked.{asked_seen};
 ghost use Rattle.view_answers.specs.Questions.{question_seen, schedule_of};
 ghost use Rattle.view_answers.specs.Replies.{Replies, Answers, answer_in, board_in, alerts_in, status_in};
 
-use crate::lookup::{name_of, number_of};
+use crate::lookup::{name_of, schedule_number};
 use crate::question::{is_status, schedule_of};
 use crate::{NoMemory, Question};
 use alert_defs::AlertRow;
@@ -24,8 +24,8 @@ use feed_out::push_combined;
 use rt_types::Text;
 use std::alloc::Global;
 
-/// Appends the answer to the question, of what the feeds of the view hold: true, or false where there is no such
-/// schedule or stop. Then, and at want of memory, `out` is as it was.
+/// Appends the answer to the question, of what the feeds of the view hold: true, or false where
+/// there is no such schedule or stop. Then, and at want of memory, `out` is as it was.
 pub fn answer(
     alloc: Global,
     view: &HubView,
@@ -42,7 +42,7 @@ pub fn answer(
     if is_status(question) {
         return push_status(view, out);
     }
-    match number_of(view.plans(), schedule_of(question)) {
+    match schedule_number(view.plans(), schedule_of(question)) {
         Some(plan) => answer_of(alloc, view, plan, question, out),
         None => Ok(false),
     }

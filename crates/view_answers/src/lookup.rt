@@ -6,9 +6,9 @@ ghost use Rattle.board_text_defs.specs.Answers.{name_in, schedule_number};
 
 use sched_types::{NamedPlan, Plan, Plans};
 
-/// The number of the schedule of that name.
+/// The number of the schedule of that name, if there is one.
 #[tactic(auto, unfolding(board_text_defs::specs::Answers::schedule_number))]
-pub(crate) fn number_of(plans: &Plans, name: &str) -> Option<u32>
+pub fn schedule_number(plans: &Plans, name: &str) -> Option<u32>
     ensures value { result ≡ schedule_number plans.now name.now }
     ensures within { IfSome result (λ plan. plan < length plans.now.plans) }
 {

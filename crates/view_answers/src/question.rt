@@ -15,7 +15,8 @@ pub enum Question<'a> {
     },
     /// A board of one stop, from a moment on.
     Board(BoardAsked<'a>),
-    /// The alerts next to that board: those that are active at its moment and touch its stop or one of its rows.
+    /// The alerts next to that board: those that are active at its moment and touch its stop or one
+    /// of its rows.
     Alerts(BoardAsked<'a>),
     /// What the feeds of a schedule say of trips that it has no run for.
     Unmatched {

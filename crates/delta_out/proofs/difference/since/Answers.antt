@@ -4,8 +4,14 @@ use Rattle.std.specs.Prelude.{IfOk, OnOk}
 use Rattle.board_defs.specs.Views.{folds_of}
 use Rattle.delta_defs.specs.Applied.{BringsTo}
 use Rattle.delta_defs.specs.Changes.{changes, changes_bytes}
+use Rattle.delta_defs.specs.Kept.{is_numbered}
+use Rattle.delta_defs.proofs.OneHistory.{found_of_one}
 use Rattle.delta_out.proofs.KeptLemmas.{found_folds, none_at}
 use Rattle.delta_out.proofs.difference.since.Goals as goal
+
+pub changed_since-requires-clause-one_history : goal.changed_since-requires-clause-one_history
+changed_since-requires-clause-one_history c =
+    found_of_one (is_numbered c.args.number) c.args.kept.now c.in-Some.old.now c.args.view.now c.in-Some.ensures c.requires.one_history
 
 pub returns-in-Some-clause-changes : goal.returns-in-Some-clause-changes
 returns-in-Some-clause-changes c = λ old at.

@@ -11,4 +11,5 @@ abbrev pub invariant-loop-pair : goal.invariant-loop-pair
 invariant-loop-pair l =
     (option_or l.given.span (value_in (codes "span") (pairs_left l.pair-iterator)) ≡ value_in (codes "span") (raw_pairs l.form))
     × ((option_or l.given.limit (value_in (codes "limit") (pairs_left l.pair-iterator)) ≡ value_in (codes "limit") (raw_pairs l.form))
-    × (option_or l.given.format (value_in (codes "format") (pairs_left l.pair-iterator)) ≡ value_in (codes "format") (raw_pairs l.form)))
+    × ((option_or l.given.format (value_in (codes "format") (pairs_left l.pair-iterator)) ≡ value_in (codes "format") (raw_pairs l.form))
+    × (option_or l.given.since (value_in (codes "since") (pairs_left l.pair-iterator)) ≡ value_in (codes "since") (raw_pairs l.form))))

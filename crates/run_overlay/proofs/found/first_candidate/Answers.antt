@@ -24,14 +24,14 @@ returns-in_err-first c =
     ∙ ap (head_of c.args.run) (sym none)
     ∙ first_at c.args.run c.args.candidates.now c.from-from.ensures.rising c.from-from.ensures.keyed c.from-from.result c.from-from.ensures.items
 
-pub returns-then-is_of_run : goal.returns-then-is_of_run
-returns-then-is_of_run c =
-    sym (ap (λ b. cond b (Some c.in_ok-first.first.now) None) (sym c.is_of_run.ensures ∙ c.if-is_of_run.true))
+pub returns-then-eq : goal.returns-then-eq
+returns-then-eq c =
+    sym (ap (λ b. cond b (Some c.in_ok-first.first.now) None) (sym c.eq.ensures ∙ c.if-eq.true))
     ∙ ap (head_of c.args.run) (sym c.in_ok-first.ensures.steps)
     ∙ first_at c.args.run c.args.candidates.now c.from-from.ensures.rising c.from-from.ensures.keyed c.from-from.result c.from-from.ensures.items
 
-pub returns-else-is_of_run : goal.returns-else-is_of_run
-returns-else-is_of_run c =
-    sym (ap (λ b. cond b (Some c.in_ok-first.first.now) None) (sym c.is_of_run.ensures ∙ c.if-is_of_run.false))
+pub returns-else-eq : goal.returns-else-eq
+returns-else-eq c =
+    sym (ap (λ b. cond b (Some c.in_ok-first.first.now) None) (sym c.eq.ensures ∙ c.if-eq.false))
     ∙ ap (head_of c.args.run) (sym c.in_ok-first.ensures.steps)
     ∙ first_at c.args.run c.args.candidates.now c.from-from.ensures.rising c.from-from.ensures.keyed c.from-from.result c.from-from.ensures.items

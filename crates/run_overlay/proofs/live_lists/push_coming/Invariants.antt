@@ -6,7 +6,7 @@ use Rattle.run_overlay.specs.Sought.{row_at}
 use Rattle.run_overlay.specs.Turning.{same_row}
 use Rattle.run_overlay.proofs.live_lists.push_coming.Given as goal
 
-abbrev pub invariant-loop-row : goal.invariant-loop-row
-invariant-loop-row l =
-    naming_keys row_at l.out.items ++ map Put (unlike same_row (drop l.row-index l.rows) l.others)
-    ≡ naming_keys row_at l.initial.out.items ++ map Put (unlike same_row l.rows l.fn.others)
+abbrev pub invariant-loop-place : goal.invariant-loop-place
+invariant-loop-place l =
+    naming_keys row_at l.out.items ++ map Put (unlike same_row (drop l.place l.rows) (drop l.place l.others))
+    ≡ naming_keys row_at l.initial.out.items ++ map Put (unlike same_row l.rows l.others)

@@ -31,12 +31,12 @@ pub place_rows-requires-clause-many : goal.place_rows-requires-clause-many
 place_rows-requires-clause-many g c = (run_has c.args.plan.now c.args.run c.requires).many
 
 pub place_rows-requires-clause-near : goal.place_rows-requires-clause-near
-place_rows-requires-clause-near g c = rw (c.as_slice.ensures.value, c.in_ok-walk.ensures.written, c.new-states.ensures.items) c.in_ok-walk.ensures.near
+place_rows-requires-clause-near g c = rw (c.as_slice.ensures.value, c.in_ok-walk.ensures.written, c.clear.ensures.items) c.in_ok-walk.ensures.near
 
 pub returns-clause-rows : goal.returns-clause-rows
 returns-clause-rows g c =
     let told = states c.args.plan.now c.args.run c.args.update.now in
     if_ok_is c.place_rows.result (λ rows. rows.items) _ (rows_with c.args.plan.now c.args.run c.args.update.now)
     (same_rows c.args.plan.now c.args.run c.unwrap_or-relation.result (relation_of c.args.update.now.trip) c.as_slice.result.now told c.unwrap_or-relation.ensures
-    (written c.as_slice.result.now _ _ told c.as_slice.ensures.value c.in_ok-walk.ensures.written c.new-states.ensures.items))
+    (written c.as_slice.result.now _ _ told c.as_slice.ensures.value c.in_ok-walk.ensures.written c.clear.ensures.items))
     c.place_rows.ensures

@@ -1,5 +1,5 @@
 -- One piece more is cut off.
-use Rattle.std.proofs.Common.{◌<◌, length, arith, rules}
+use Rattle.std.proofs.Common.{◌<◌, length, arith}
 use Rattle.std.proofs.lemmas.Grind.{common_steps}
 use Rattle.shared_list.proofs.Pieces.{cut_goes_on}
 use Rattle.shared_list.proofs.sorted.pieces_of.Goals as goal

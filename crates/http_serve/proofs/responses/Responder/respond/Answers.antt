@@ -10,5 +10,5 @@ unfolding answer
 returns-clause-made c =
     let room : length c.resize.new.self.items ≡ 224 = omega (arith, c.in_ok-resize.ensures.len) in
     response_as c.put_head.result c.resize.new.self.items c.answer_item.new.bytes.items c.put_head.new.bytes.items c.in_ok-heading.heading
-    (item_answered c.args.view.now.plans (folds_of c.args.view.now) c.args.item.now c.args.moment) c.args.number c.args.moment c.closes_behind.result
+    (item_answered c.args.view.now.plans (folds_of c.args.view.now) c.args.kept.now c.args.item.now c.args.moment) c.args.number c.args.moment c.closes_behind.result
     (closes_behind c.args.item.now c.args.thousandth) room c.in_ok-heading.ensures.answered c.closes_behind.ensures c.put_head.ensures.makes_the_response

@@ -10,4 +10,4 @@ returns-clause-transcript g c = λ still.
     (ap (λ (s : SourceState). Some (bytes_left s)) c.new-source.ensures ∙ ap Some c.in_ok-bytes.ensures.items)
     (ap (λ (s : SinkState). Some (bytes_written s)) c.new-written.ensures)
     (ap Some (c.new-clock.ensures ∙ c.in_ok-vec.ensures.items))
-    still refl c.in_ok-finish.ensures c.serve-session.ensures.serves
+    still refl refl c.in_ok-finish.ensures c.serve-session.ensures.serves.1

@@ -13,7 +13,7 @@ returns g c =
     (take_rest c.as_slice-items.result.now c.start_at.result
     ∙ c.start_at.ensures.start
     ∙ ap (items_from g.T.Keyed.key_cmp g.T.Keyed.key_of (g.K.KeyFor.sought c.args.key)) c.as_slice-items.ensures.value)
-    ∙ sym (append_assoc (items_from g.T.Keyed.key_cmp g.T.Keyed.key_of (g.K.KeyFor.sought c.args.key) c.part_and_rest-2.result.0.now.items) (items_in leaf_items leaves) (items_in node_items nodes))
+    ∙ sym (append_assoc (items_from g.T.Keyed.key_cmp g.T.Keyed.key_of (g.K.KeyFor.sought c.args.key) c.part_and_rest-2.result.0.now.items.items) (items_in leaf_items leaves) (items_in node_items nodes))
     ∙ ap (λ xs. xs ++ items_in node_items nodes)
     (sym c.part_and_rest-2.ensures.from
     ∙ ap (λ shares. items_from g.T.Keyed.key_cmp g.T.Keyed.key_of (g.K.KeyFor.sought c.args.key) (items_in leaf_items shares)) c.as_slice.ensures.value)
