@@ -1,5 +1,5 @@
 -- The ended history is what was published.
-use Rattle.std.proofs.Common.{length, ap, ◌∙◌}
+use Rattle.std.proofs.Common.{◌≡◌, length, ap, ◌∙◌}
 use Rattle.hub_shared.specs.Seats.{Ties}
 use Rattle.hub_shared.proofs.Dealt.{closes, closes_hub, closes_legal}
 use Rattle.hub_shared.proofs.closing.end.Goals as goal

@@ -1,4 +1,8 @@
 -- Without memory for the buffer nothing was asked.
+use Rattle.std.proofs.Common.{sym, subst}
+use Rattle.hub_shared.specs.declared.report.PortEnd.{PortEnd}
+use Rattle.hub_shared.specs.declared.report.Tally.{Tally}
+use Rattle.hub_shared.specs.Feeding.{Ingests}
 use Rattle.hub_shared.proofs.Asking.{unasked, ingests_as}
 use Rattle.hub_shared.proofs.feeding.ingest_port.Goals as goal
 

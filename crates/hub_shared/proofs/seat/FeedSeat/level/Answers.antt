@@ -1,7 +1,8 @@
 -- What was published begins with what the seat's pass knew, and has no more messages of the feed.
-use Rattle.std.proofs.Common.{◌≡◌, ◌≤◌, sym, ap, arith}
+use Rattle.std.proofs.Common.{◌≡◌, ◌≤◌, ◌<◌, List, length, sym, ap, arith}
+use Rattle.rt_types.specs.declared.message.FeedMessage.{FeedMessage}
 use Rattle.feed_defs.specs.History.{messages_of, last_stamp}
-use Rattle.hub_history.specs.Told.{history_of, AreOne}
+use Rattle.hub_history.specs.Told.{Told, history_of, AreOne}
 use Rattle.hub_shared.specs.Seats.{SeatSeen, history_at, count_of, Begins}
 use Rattle.hub_shared.proofs.Sitting.{shown, levelled, agreed, one_hub}
 use Rattle.hub_shared.proofs.seat.FeedSeat.level.Goals as goal
