@@ -98,7 +98,13 @@ replies_append : (plans : Schedules) (h : List Entry) (kept : List KeptView) (pl
     → replies_bytes plans h kept place (rs ++ qs)
     ≡ replies_bytes plans h kept place rs ++ replies_bytes plans h (kept_behind plans h kept (numbers_of rs)) (place + length rs) qs
 replies_append plans h kept place [] qs = ap (λ n. replies_bytes plans h kept n qs) (sym (add-zero place))
-replies_append plans h kept place (r ∷ rs) qs = grind (arith, append_assoc, replies_append plans h)
+replies_append plans h kept place (r ∷ rs) qs =
+    let next : place + 1 + length rs ≡ place + length (r ∷ rs) = omega arith in
+    let seen = kept_at plans h r.number kept in
+    ap (λ xs. reply_bytes plans h kept place r ++ xs)
+    (replies_append plans h seen (place + 1) rs qs
+    ∙ ap (λ n. replies_bytes plans h seen (place + 1) rs ++ replies_bytes plans h (kept_behind plans h seen (numbers_of rs)) n qs) next)
+    ∙ sym (append_assoc (reply_bytes plans h kept place r) _ _)
 
 -- a response of a history that goes on is the same
 reply_kept : (plans : Schedules) (h later : List Entry) (kept : List KeptView) (place : ℕ) (r : Reply) → GoesOn h later → r.number ≤ length h
