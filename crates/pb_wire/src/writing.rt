@@ -9,13 +9,15 @@ use crate::NoMemory;
 /// The bytes of the longest varint.
 const LONGEST_VARINT: usize = 10;
 
-/// The least number whose varint has five groups. Instants of our time, in seconds since 1970, have as many.
+/// The least number whose varint has five groups. Instants of our time, in seconds since 1970, have
+/// as many.
 const LEAST_OF_FIVE: u64 = 268_435_456;
 
-/// Appends the shortest varint of the value (Protocol Buffers, "Encoding", "Base 128 Varints"). Want of memory
-/// leaves `out` as it was.
+/// Appends the shortest varint of the value (Protocol Buffers, "Encoding", "Base 128 Varints").
+/// Want of memory leaves `out` as it was.
 ///
-/// Most tags, lengths and numbers are below 128: in line, those are one push, and a tag is a constant.
+/// Most tags, lengths and numbers are below 128: in line, those are one push, and a tag is a
+/// constant.
 #[inline(always)]
 pub fn write_varint(value: u64, out: &mut Vec<u8>) -> Result<(), NoMemory>
     ensures written { OnOk result (out.new.items ≡ out.old.items ++ varint value) }
@@ -59,8 +61,8 @@ fn five_groups(value: u64, last: u64) -> [u8; 5]
     ]
 }
 
-/// Appends the shortest varint, group by group. Room for the longest varint is taken first, so that no push runs out of
-/// memory.
+/// Appends the shortest varint, group by group. Room for the longest varint is taken first, so that
+/// no push runs out of memory.
 fn write_groups(value: u64, out: &mut Vec<u8>) -> Result<(), NoMemory>
     ensures written { OnOk result (out.new.items ≡ out.old.items ++ varint value) }
     ensures kept { OnErr result (out.new.items ≡ out.old.items) }
@@ -75,9 +77,10 @@ fn write_groups(value: u64, out: &mut Vec<u8>) -> Result<(), NoMemory>
     Ok(())
 }
 
-/// Puts the length of what stands behind the place, as its shortest varint, in place of the byte there. So a run of
-/// bytes is written before its length is known: the byte is kept for it, and only a longer length moves the run.
-/// What stands before the place stays, also where memory is wanting.
+/// Puts the length of what stands behind the place, as its shortest varint, in place of the byte
+/// there. So a run of bytes is written before its length is known: the byte is kept for it, and
+/// only a longer length moves the run. What stands before the place stays, also where memory is
+/// wanting.
 pub fn write_length(place: usize, out: &mut Vec<u8>) -> Result<(), NoMemory>
     requires { place < length out.old.items }
     ensures written { OnOk result (out.new.items ≡ take place out.old.items
@@ -96,8 +99,8 @@ pub fn write_length(place: usize, out: &mut Vec<u8>) -> Result<(), NoMemory>
     Ok(())
 }
 
-/// Appends a field of wire type 0: its tag and the value, in shortest varints. Want of memory leaves `out`
-/// as it was.
+/// Appends a field of wire type 0: its tag and the value, in shortest varints. Want of memory
+/// leaves `out` as it was.
 pub fn write_scalar(number: u32, value: u64, out: &mut Vec<u8>) -> Result<(), NoMemory>
     requires first { 1 ≤ number }
     requires last { number ≤ 536870911 }
@@ -114,8 +117,8 @@ pub fn write_scalar(number: u32, value: u64, out: &mut Vec<u8>) -> Result<(), No
     answer
 }
 
-/// Appends a field of wire type 2: its tag, the length of the bytes and the bytes. Want of memory leaves
-/// `out` as it was.
+/// Appends a field of wire type 2: its tag, the length of the bytes and the bytes. Want of memory
+/// leaves `out` as it was.
 pub fn write_field(number: u32, bytes: &[u8], out: &mut Vec<u8>) -> Result<(), NoMemory>
     requires first { 1 ≤ number }
     requires last { number ≤ 536870911 }
@@ -132,8 +135,8 @@ pub fn write_field(number: u32, bytes: &[u8], out: &mut Vec<u8>) -> Result<(), N
     answer
 }
 
-/// Appends a field of wire type 5: its tag and the four bytes of the value, the lowest first. Want of memory
-/// leaves `out` as it was.
+/// Appends a field of wire type 5: its tag and the four bytes of the value, the lowest first. Want
+/// of memory leaves `out` as it was.
 pub fn write_four(number: u32, value: u32, out: &mut Vec<u8>) -> Result<(), NoMemory>
     requires first { 1 ≤ number }
     requires last { number ≤ 536870911 }

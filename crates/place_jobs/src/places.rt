@@ -7,8 +7,8 @@ ghost use Rattle.place_jobs.specs.Places.{ArePlaces, PlacesChanged};
 use crate::job::PlaceJob;
 use std::thread::{Threads, join_mut};
 
-/// Does the job at each place of three slices of one length, whose first place has the number `first`.
-/// Each place has a thread of its own where one can be had.
+/// Does the job at each place of three slices of one length, whose first place has the number
+/// `first`. Each place has a thread of its own where one can be had.
 #[cycle(places)]
 pub fn each_place<R: Threads + Sync, A: Send, B: Send, C: Send, J: PlaceJob<A, B, C> + Sync>(
     rt: &R,
@@ -34,8 +34,8 @@ pub fn each_place<R: Threads + Sync, A: Send, B: Send, C: Send, J: PlaceJob<A, B
     first_and_rest(rt, job, first, x, y, z, xs, ys, zs);
 }
 
-/// Does the job at a place, beside those that follow. What the two threads require is what this function
-/// is given.
+/// Does the job at a place, beside those that follow. What the two threads require is what this
+/// function is given.
 #[cycle(places)]
 fn first_and_rest<R: Threads + Sync, A: Send, B: Send, C: Send, J: PlaceJob<A, B, C> + Sync>(
     rt: &R,

@@ -44,8 +44,8 @@ FoundIs bytes headers (FoundHead spans) = StandsAt bytes headers spans
 FoundIs bytes headers More = HasNoResponse bytes × (length bytes < head_limit)
 FoundIs bytes headers Never = (more : List ℕ) → NoHead (bytes ++ more)
 
--- what bytes are that begin with a head: those of a good reply, which ends at a place of them, or no
--- good reply whatever follows, for this reason
+-- what bytes are that begin with a head: those of a good reply, which ends at a place of them, or
+-- no good reply whatever follows, for this reason
 abbrev pub JudgesHead : HeadRead → List ℕ → Type 0
 JudgesHead (Good extent start filled) bytes =
     (filled ≡ length bytes) × (start ≤ filled) × IsGood bytes extent (drop start bytes)
@@ -106,8 +106,8 @@ ReadsMessage (Unfit fault) extent front left held =
     (fault ≡ Cut) × IfSome left (λ bytes. message_in extent (front ++ bytes) ≡ None)
 ReadsMessage Failed extent front left held = Unit {0}
 
--- what reading a reply came to, by the bytes that its source has: its message, a longer one, no good
--- reply for this reason, or a fault
+-- what reading a reply came to, by the bytes that its source has: its message, a longer one, no
+-- good reply for this reason, or a fault
 abbrev pub ReadsReply : Reply → Option (List ℕ) → List ℕ → Type 0
 ReadsReply Message left held =
     (length held ≤ longest_message) × IfSome left (λ bytes. IsReply bytes held)

@@ -203,8 +203,8 @@ struct DayTables {
     active: Vec<BTreeMap<u32, Exception>>,
 }
 
-/// The rows of calendar.txt and calendar_dates.txt with the services that any file names, or the first fault,
-/// file by file.
+/// The rows of calendar.txt and calendar_dates.txt with the services that any file names, or the
+/// first fault, file by file.
 fn read_days<F: Files>(
     alloc: Global,
     files: &mut F,

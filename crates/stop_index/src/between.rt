@@ -12,8 +12,8 @@ use crate::trip_departure::TripDeparture;
 use sched_types::Plan;
 use std::marker::Model;
 
-/// Departures at a stop, in order of the instant, the trip, the day and the place. A contract sees the list of
-/// those that are left.
+/// Departures at a stop, in order of the instant, the trip, the day and the place. A contract sees
+/// the list of those that are left.
 #[derive(Drop)]
 pub struct Between<'a> {
     plan: &'a Plan,

@@ -31,7 +31,8 @@ pub(crate) fn ahead_on<'a>(
     &departures[first..]
 }
 
-/// The first departure of a run of the day, and those after it; none if it doesn't leave before `end`.
+/// The first departure of a run of the day, and those after it; none if it doesn't leave before
+/// `end`.
 pub(crate) fn first_run<'a>(
     plan: &Plan,
     departures: &'a [TripDeparture],
@@ -117,8 +118,8 @@ fn earlier(best: Option<Slot>, found: Option<Slot>) -> Option<Slot>
     }
 }
 
-/// Before which instant a departure has to leave to be the first of all: one that leaves after the best so
-/// far is none.
+/// Before which instant a departure has to leave to be the first of all: one that leaves after the
+/// best so far is none.
 pub(crate) fn until(best: &Option<Slot>, end: i64) -> i64
     requires { IfSome best.now (λ slot. slot.at <ℤ end) }
     ensures { result ≡ until_of best.now end }

@@ -18,7 +18,8 @@ pub record Appends (answered : Option (List ℕ)) (old new : List ℕ) : Type 0 
   pub are : answered ≡ Some bytes
   pub appended : new ≡ old ++ bytes
 
--- The answer is appended, or there is none, or memory is wanting; in these two cases nothing is appended.
+-- The answer is appended, or there is none, or memory is wanting; in these two cases nothing is
+-- appended.
 abbrev pub Replies : Option (List ℕ) → List ℕ → List ℕ → Result Bool AllocError → Type 0
 Replies answered old new (Ok true) = Appends answered old new
 Replies answered old new (Ok false) = (answered ≡ None) × (new ≡ old)

@@ -32,8 +32,8 @@ impl Model for MemoryFile {
     ghost view = { λ file. (string_bytes file.path, file.bytes.items) };
 }
 
-/// Files in memory, of which the first of a path counts, with faults as they were told. They keep the
-/// path of the call that failed last, as far as there is memory for it.
+/// Files in memory, of which the first of a path counts, with faults as they were told. They keep
+/// the path of the call that failed last, as far as there is memory for it.
 #[derive(Drop)]
 pub struct MemoryFiles {
     files: Vec<MemoryFile>,
