@@ -11,7 +11,8 @@ use Rattle.board_core.specs.declared.fault.RowsFault.TheVariants.{NoStop, NoMemo
 
 -- the alerts that are defined, or that there is no such stop, just where none are defined, or want
 -- of memory
-abbrev pub AreAlerts : Schedules → List FeedFold → BoardQuery → Result (Vec AlertRow) RowsFault → Type 0
+abbrev pub AreAlerts : Schedules → List FeedFold → BoardQuery → Result (Vec AlertRow) RowsFault
+    → Type 0
 AreAlerts schedules folds query (Ok answer) = alerts schedules folds query ≡ Some answer.items
 AreAlerts schedules folds query (Err NoStop) = alerts schedules folds query ≡ None
 AreAlerts schedules folds query (Err NoMemory) = ⊤

@@ -98,7 +98,8 @@ impl HubView {
     pub fn with_feed(&self, alloc: Global, feed: u32, view: FeedView) -> Result<HubView, NoMemory>
         requires feed { feed < length self.now.feeds }
         requires more { view.fold.count ≡ (feed_at self.now feed).fold.count + 1 }
-        requires over { (t : Timetable) → timetable_of self.now.plans feed ≡ Some t → IsOver t view }
+        requires over { (t : Timetable) → timetable_of self.now.plans feed ≡ Some t
+            → IsOver t view }
         ensures { IfOk result (λ next. next ≡ hub_with feed (kept_of view) self.now) }
     {
         self.plans.sound();

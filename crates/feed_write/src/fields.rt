@@ -163,7 +163,8 @@ fn put_all<M: Message>(
     requires last { number ≤ 536870911 }
     ensures written { OnOk result (out.new.items
         ≡ out.old.items
-        ++ flat_map field_bytes (write_all number M.table (map (M.renamed prefix.now) messages.now))) }
+        ++ flat_map field_bytes (write_all number M.table
+        (map (M.renamed prefix.now) messages.now))) }
     ensures begins { StartsWith out.old.items out.new.items }
 {
     for message in messages {
@@ -183,7 +184,8 @@ pub(crate) fn put_items<M: Message>(
     requires last { number ≤ 536870911 }
     ensures written { OnOk result (out.new.items
         ≡ out.old.items
-        ++ flat_map field_bytes (write_all number M.table (map (M.renamed prefix.now) messages.now))) }
+        ++ flat_map field_bytes (write_all number M.table
+        (map (M.renamed prefix.now) messages.now))) }
     ensures begins { StartsWith out.old.items out.new.items }
 {
     put_all(number, messages.as_slice(), prefix, out)

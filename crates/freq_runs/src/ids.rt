@@ -53,7 +53,8 @@ pub(crate) fn adds_ids(
     trips: &[Derived],
 ) -> Result<bool, NoMemory>
     ensures { (others before : List (List ℕ)) → AreKeys taken.now others → AreIn ids.old before
-        → IfOk result (λ are_new. (are_new ≡ not (comes_again (others ++ before) (ids_of trips.now)))
+        → IfOk result (λ are_new.
+        (are_new ≡ not (comes_again (others ++ before) (ids_of trips.now)))
         × OnTrue are_new (AreIn ids.new (before ++ ids_of trips.now))) }
 {
     for trip in trips {

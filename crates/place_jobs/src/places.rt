@@ -57,12 +57,17 @@ fn first_and_rest<R: Threads + Sync, A: Send, B: Send, C: Send, J: PlaceJob<A, B
 {
     let next = first + 1;
     let mut front = ||
-        requires { IsSync J.row × IsSend A.row × IsSend B.row × IsSend C.row × J.accepts job.now first x.now y.now z.now }
-        ensures { J.does job.entry.now first x.entry.now y.entry.now z.entry.now x.exit.now y.exit.now z.exit.now }
+        requires { IsSync J.row × IsSend A.row × IsSend B.row × IsSend C.row
+            × J.accepts job.now first x.now y.now z.now }
+        ensures { J.does job.entry.now first
+            x.entry.now y.entry.now z.entry.now x.exit.now y.exit.now z.exit.now }
     { job.work(first, x, y, z) };
     let mut back = ||
-        requires { IsSync R.row × IsSync J.row × IsSend A.row × IsSend B.row × IsSend C.row × ArePlaces (J.accepts job.now) next xs.now ys.now zs.now × (next + length xs.now < 2 ^ 64) }
-        ensures { PlacesChanged (J.does job.entry.now) next xs.entry.now ys.entry.now zs.entry.now xs.exit.now ys.exit.now zs.exit.now }
+        requires { IsSync R.row × IsSync J.row × IsSend A.row × IsSend B.row × IsSend C.row
+            × ArePlaces (J.accepts job.now) next xs.now ys.now zs.now
+            × (next + length xs.now < 2 ^ 64) }
+        ensures { PlacesChanged (J.does job.entry.now) next
+            xs.entry.now ys.entry.now zs.entry.now xs.exit.now ys.exit.now zs.exit.now }
     { each_place(rt, job, next, xs, ys, zs) };
     join_mut(rt, &mut front, &mut back);
 }

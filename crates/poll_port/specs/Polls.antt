@@ -123,7 +123,8 @@ FailPolls {I} {O} (suc n) seen before after =
     (mid : PortState I O) × FailPolls n seen before mid × FailsPoll seen mid after
 
 -- fewer polls than the tries failed, one after another, and then this was so
-abbrev pub AfterFewer : {I O : Type 0} → Ends I O → PortState I O → (PortState I O → Type 0) → Type 0
+abbrev pub AfterFewer : {I O : Type 0} → Ends I O → PortState I O → (PortState I O → Type 0)
+    → Type 0
 AfterFewer {I} {O} seen before P =
     (n : ℕ) × (n < before.polling.tries)
     × (mid : PortState I O) × FailPolls n seen before mid × P mid

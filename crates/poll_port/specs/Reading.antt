@@ -32,7 +32,8 @@ JudgesExtent (Ok extent) head = Some extent ≡ extent_behind head
 JudgesExtent (Err fault) head = (None ≡ extent_behind head) × (fault ≡ head_fault head)
 
 -- the bytes begin with a head that is not too long, whose parts stand at the spans
-pub record StandsAt (bytes : List ℕ) (headers : List HeaderSpan) (spans : ResponseSpans) : Type 0 where
+pub record StandsAt (bytes : List ℕ) (headers : List HeaderSpan)
+    (spans : ResponseSpans) : Type 0 where
   pub head : ResponseHead
   pub at : IsResponseAt bytes headers spans head
   pub short : length (print_response head) ≤ head_limit

@@ -95,7 +95,8 @@ same_delay (Some a) None = false
 
 abbrev pub same_slot : LiveSlot → LiveSlot → Bool
 same_slot a b =
-    int_eq a.at b.at && ((a.run.trip == b.run.trip) && (a.run.day == b.run.day)) && (a.place == b.place)
+    int_eq a.at b.at && ((a.run.trip == b.run.trip) && (a.run.day == b.run.day))
+    && (a.place == b.place)
     && same_state a.state b.state && same_delay a.delay b.delay
 
 abbrev pub same_row : LiveRow → LiveRow → Bool

@@ -170,7 +170,8 @@ impl Overlay {
     /// it. It takes no memory.
     pub fn chosen<'a>(&'a self, run: Run) -> Option<Chosen<'a>>
         ensures kept { option_map told result ≡ chosen_in self.entry.now run }
-        ensures said { (t : Timetable) (entities : List Change) → self.entry.now ≡ overlay_of t entities
+        ensures said { (t : Timetable) (entities : List Change)
+            → self.entry.now ≡ overlay_of t entities
             → option_map told result ≡ option_map told_update (chosen t (updates_of entities) run) }
     {
         match self.live.runs().get(run) {
@@ -188,7 +189,8 @@ impl Overlay {
     /// memory.
     pub fn at_stop<'a>(&'a self, stop: u32, start: i64, end: i64) -> AtStop<'a>
         ensures kept { result ≡ slots_in self.entry.now stop start end }
-        ensures said { (t : Timetable) (entities : List Change) → self.entry.now ≡ overlay_of t entities
+        ensures said { (t : Timetable) (entities : List Change)
+            → self.entry.now ≡ overlay_of t entities
             → result ≡ live_between t (updates_of entities) stop start end }
     {
         let first = RowKey {

@@ -77,7 +77,8 @@ impl Plans {
     /// counts; 0 for no end.
     pub fn max_age(&self, feed: u32) -> u64
         requires { feed < length self.now.feeds }
-        ensures { option_map (λ named. named.max_age) (slice_get self.now.feeds feed) ≡ Some result }
+        ensures { option_map (λ named. named.max_age) (slice_get self.now.feeds feed)
+            ≡ Some result }
     {
         self.feeds()[feed as usize].max_age
     }

@@ -53,7 +53,8 @@ impl<'a> Between<'a> {
     ) -> Between<'a>
         requires are { AreDepartures departures.now }
         requires rise { days_rise ≡ days_are_rising plan.now }
-        ensures { result ≡ slots_left plan.entry.now departures.entry.now (Reached.Instant start) end }
+        ensures { result ≡ slots_left plan.entry.now departures.entry.now
+            (Reached.Instant start) end }
     {
         let reached = Reached::Instant(start);
         let stand = stand_at(plan, departures, days_rise, 0, plan.days(), reached, end);

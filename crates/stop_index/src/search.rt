@@ -42,7 +42,8 @@ pub(crate) fn first_run<'a>(
 ) -> Option<(Slot, &'a [TripDeparture])>
     requires sorted { IsSorted departure_cmp departures.now }
     requires small { IsSmall base }
-    ensures first { option_map (λ found. found.0) result ≡ soonest plan.now base day end departures.now }
+    ensures first { option_map (λ found. found.0) result
+        ≡ soonest plan.now base day end departures.now }
     ensures rest { IfSome result (λ found. slots_from plan.now base day departures.now
         ≡ found.0 ∷ slots_from plan.now base day found.1.now) }
     ensures in_order { IfSome result (λ found. IsSorted departure_cmp found.1.now) }
@@ -92,7 +93,8 @@ fn first_on_other(
     requires sorted { IsSorted departure_cmp departures.now }
     requires day { day < length plan.now.bases }
     ensures { result
-        ≡ slice_get (filter (is_left reached.now end) (others_on plan.now departures.now apart day)) 0 }
+        ≡ slice_get (filter (is_left reached.now end)
+        (others_on plan.now departures.now apart day)) 0 }
 {
     if day == apart {
         None

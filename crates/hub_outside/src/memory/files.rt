@@ -59,7 +59,11 @@ impl Model for MemoryFiles {
 impl MemoryFiles {
     /// These files. The calls whose numbers, from 1 on, are in `failing` fail. It takes no memory.
     pub fn new(files: Vec<MemoryFile>, failing: Vec<u64>) -> MemoryFiles
-        ensures { result ≡ record { files = files.items; calls = no_calls failing.items; fault = None } }
+        ensures { result ≡ record {
+          files = files.items;
+          calls = no_calls failing.items;
+          fault = None;
+        } }
     {
         MemoryFiles {
             files,
