@@ -1,11 +1,11 @@
 -- What is written reads back, with the fields that were read before behind it.
 use Rattle.std.specs.Prelude.{map, filter}
-use Rattle.std.proofs.Common.{◌≡◌, ℕ, zero, suc, ◌+◌, ◌*◌, ◌/◌, ◌%◌, ◌^◌, ◌<◌, ◌≤◌, Bool, true, false, cond, List, [], ◌∷◌, ◌++◌, length, Ok, refl, sym, ap, subst, ◌∙◌, append_assoc, arith, inl, inr}
+use Rattle.std.proofs.Common.{◌≡◌, ℕ, zero, suc, ◌+◌, ◌*◌, ◌/◌, ◌%◌, ◌^◌, ◌<◌, ◌≤◌, Bool, cond, List, [], ◌∷◌, ◌++◌, length, Ok, refl, sym, subst, append_assoc, arith}
 use Rattle.std.specs.List.{flat_map, AllByRecursion}
 use Rattle.std.proofs.Math.Nat.{pow-suc, mod-eq_of_lt}
 use Rattle.std.proofs.lemmas.Bool.{cases_lt, lt-ltb, le-ltb}
 use Rattle.std.proofs.lemmas.List.Concat.{flat_map-cons}
-use Rattle.pb_wire_defs.specs.Field.{Payload, Field, wire_type, tag_of, deepest_group}
+use Rattle.pb_wire_defs.specs.Field.{Payload, Field, deepest_group}
 use Rattle.pb_wire_defs.specs.Field.Payload.{Varint, Eight, Span, Four, Group}
 use Rattle.pb_wire_defs.specs.Spelling.{IsGroups, IsVarint, IsPayload, IsGroup, IsField}
 use Rattle.pb_wire_defs.specs.Reading.{fields_of}

@@ -1,5 +1,5 @@
 -- Groups, one field at a time, with no count of the fields.
-use Rattle.std.proofs.Common.{◌≡◌, ℕ, zero, suc, ◌-◌, ◌/◌, ◌%◌, ◌<◌, true, false, eqb, cond, List, length, take, Result, Ok, Err, refl, sym, ap, ◌∙◌, arith, inl, inr}
+use Rattle.std.proofs.Common.{◌≡◌, ℕ, zero, suc, ◌-◌, ◌/◌, ◌%◌, ◌<◌, false, eqb, cond, List, length, take, Result, Ok, Err, refl, sym, ap, ◌∙◌, arith, inl, inr}
 use Rattle.std.proofs.lemmas.Bool.{eqb-true, eq-eqb, cases_Bool}
 use Rattle.pb_wire_defs.specs.Field.{Payload, Field, Fault}
 use Rattle.pb_wire_defs.specs.Field.Payload.{Group}

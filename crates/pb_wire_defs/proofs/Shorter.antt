@@ -1,10 +1,10 @@
 -- What a reader leaves is shorter than what it was given, whatever the numbers are.
-use Rattle.std.proofs.Common.{◌≡◌, ℕ, zero, suc, ◌+◌, ◌*◌, ◌/◌, ◌%◌, ◌^◌, ◌<◌, ◌≤◌, ltb, eqb, List, [], ◌∷◌, length, take, drop, Result, Ok, Err, sym, ap, subst, cond, arith, inl, inr}
-use Rattle.std.specs.Int.{Width, w32, w64, byte_len, from_le_bytes}
+use Rattle.std.proofs.Common.{◌≡◌, ℕ, zero, suc, ◌+◌, ◌*◌, ◌/◌, ◌%◌, ◌<◌, ◌≤◌, ltb, eqb, List, [], ◌∷◌, length, Result, Ok, Err, sym, ap, subst, cond, arith, inl, inr}
+use Rattle.std.specs.Int.{Width, w32, w64}
 use Rattle.std.proofs.lemmas.List.{length-drop}
 use Rattle.pb_wire_defs.specs.Field.{Payload, Field, Fault, deepest_group}
 use Rattle.pb_wire_defs.specs.Field.Payload.{Varint, Eight, Span, Four, Group}
-use Rattle.pb_wire_defs.specs.Field.Fault.{Cut, BadGroup}
+use Rattle.pb_wire_defs.specs.Field.Fault.{BadGroup}
 use Rattle.answer_defs.specs.Steps.{◌>>=◌}
 use Rattle.pb_wire_defs.specs.Reading.{groups_at, varint_at, fixed_at, span_at, tag_at, payload_at, field_with, behind_end, group_at, field_at}
 use Rattle.answer_defs.proofs.Steps.{ok_is, bind_ok, chosen, guard_ok}

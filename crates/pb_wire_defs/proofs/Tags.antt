@@ -1,9 +1,7 @@
 -- Tags: a varint that passes three tests.
-use Rattle.std.proofs.Common.{◌≡◌, ℕ, ◌-◌, ◌/◌, ◌%◌, ◌^◌, ◌<◌, ◌≤◌, Bool, true, false, ltb, leb, cond, ◌||◌, List, length, take, Result, Ok, Err, refl, subst, inl, inr, arith}
+use Rattle.std.proofs.Common.{◌≡◌, ℕ, ◌-◌, ◌/◌, ◌%◌, ◌^◌, ◌<◌, ◌≤◌, Bool, false, ltb, leb, ◌||◌, List, length, take, Result, Ok, arith}
 use Rattle.std.proofs.lemmas.Bool.{ltb-false, cases_lt, le-leb, lt-leb, le-ltb}
 use Rattle.pb_wire_defs.specs.Field.{Payload, Field, Fault}
-use Rattle.pb_wire_defs.specs.Field.Fault.{BadTag}
-use Rattle.answer_defs.specs.Steps.{◌>>=◌}
 use Rattle.pb_wire_defs.specs.Reading.{varint_at, tag_at, payload_at, field_with}
 use Rattle.answer_defs.proofs.Steps.{ok_is, bind_ok, guard_ok}
 
