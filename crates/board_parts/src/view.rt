@@ -4,7 +4,7 @@ ghost use Rattle.std.specs.Prelude.{◌≡◌, ◌+◌, ◌<◌, Some, true, fal
 ghost use Rattle.std.specs.Arc.{arc_value};
 ghost use Rattle.std.specs.Option.{option_map};
 ghost use Rattle.text_defs.specs.Moments.{is_stamp};
-ghost use Rattle.feed_defs.specs.History.{stamp_of};
+ghost use Rattle.feed_defs.specs.History.{is_full, stamp_of};
 ghost use Rattle.sched_types.specs.Schedules.{AreSchedules};
 ghost use Rattle.sched_types.specs.Timetable.{Timetable};
 ghost use Rattle.stop_index.specs.Index.{index_of};
@@ -25,6 +25,7 @@ use sched_types::{Plan, Plans};
 use std::alloc::Global;
 use std::marker::Model;
 use std::sync::Arc;
+use std::thread::Threads;
 use stop_index::StopIndex;
 
 /// What is kept of a hub. A contract sees it as `HubKept`, and it never changes.
@@ -89,6 +90,27 @@ impl HubView {
         self.sound();
         let plan = self.timetable(self.plans().feeds()[feed as usize].plan);
         let next = FeedView::after(alloc, plan, self.feed(feed), message)?;
+        self.with_feed(alloc, feed, next)
+    }
+
+    /// What [`HubView::after`] gives of a whole data set (`feed_view`'s `is_whole`), whose updates
+    /// are matched and whose runs are walked on as many threads as the machine has processors.
+    pub fn after_whole(
+        &self,
+        rt: &(impl Threads + Sync),
+        alloc: Global,
+        feed: u32,
+        message: FeedMessage,
+    ) -> Result<HubView, NoMemory>
+        requires whole { is_full message ≡ true }
+        requires feed { feed < length self.now.plans.feeds }
+        requires moment { IsTrue (is_stamp (stamp_of message)) }
+        requires newer { (feed_at self.now feed).fold.stamp < stamp_of message }
+        ensures { IfOk result (λ next. next ≡ hub_after feed message self.now) }
+    {
+        self.sound();
+        let plan = self.timetable(self.plans().feeds()[feed as usize].plan);
+        let next = FeedView::after_whole(rt, alloc, plan, self.feed(feed), message)?;
         self.with_feed(alloc, feed, next)
     }
 

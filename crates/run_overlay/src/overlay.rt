@@ -19,8 +19,9 @@ use crate::id_changes::{IdChange, changes_of_ids, changes_of_table};
 use crate::live_lists::LiveLists;
 use crate::mention_lists::MentionLists;
 use crate::message_ids::MessageIds;
+use crate::on_threads::{changes_on, turns_on};
 use crate::row::RowKey;
-use crate::turns::touched_runs;
+use crate::turns::{touched_runs, turns_of};
 use delay_rule::Steps;
 use entity_table::{SharedStored, Table};
 use rt_types::{FeedMessage, Text};
@@ -29,6 +30,7 @@ use shared_list::Iter;
 use std::alloc::Global;
 use std::marker::Model;
 use std::sync::ledger::Ledger;
+use std::thread::Threads;
 
 /// The update that counts for a run.
 #[derive(Clone, Copy)]
@@ -82,6 +84,34 @@ impl Overlay {
         let ids = changes_of_table(alloc, plan, table)?;
         let none = Overlay::empty(alloc);
         none.after(alloc, plan, table, ids.as_slice(), steps)
+    }
+
+    /// The overlay of a table; or out of memory. It is what [`Overlay::build`] makes, but updates
+    /// are matched and runs are walked on as many threads as the machine has processors. It is
+    /// worth the threads for tables of some thousand entities.
+    pub fn build_on(
+        rt: &(impl Threads + Sync),
+        alloc: Global,
+        plan: &Plan,
+        table: &Table,
+    ) -> Result<Overlay, NoMemory>
+        ensures { IfOk result (λ overlay. overlay ≡ overlay_of plan.now table.now) }
+    {
+        let _all = table.iter();
+        let none = Overlay::empty(alloc);
+        let ids = changes_on(rt, alloc, plan, table)?;
+        let mentions = none.mentions.after(alloc, table, ids.as_slice())?;
+        let runs = touched_runs(alloc, ids.as_slice())?;
+        let turns = turns_on(
+            rt,
+            alloc,
+            plan,
+            table,
+            mentions.candidates(),
+            runs.as_slice(),
+        )?;
+        let live = none.live.after(alloc, turns)?;
+        Ok(Overlay { mentions, live })
     }
 
     /// The overlay after a message, which is that of the table after it: what [`Overlay::build`]
@@ -153,7 +183,7 @@ impl Overlay {
         let runs = touched_runs(alloc, ids)?;
         let hints = Hints::of(alloc, table, ids, runs.as_slice())?;
         let candidates = mentions.candidates();
-        let live = self.live.after(
+        let turns = turns_of(
             alloc,
             plan,
             table,
@@ -162,6 +192,7 @@ impl Overlay {
             &hints,
             steps,
         )?;
+        let live = self.live.after(alloc, turns)?;
         Ok(Overlay { mentions, live })
     }
 

@@ -14,10 +14,10 @@ naming_same [] = refl
 naming_same (Put x ∷ cs) = ap (λ ds. Put x ∷ ds) (naming_same cs)
 naming_same (Remove k ∷ cs) = ap (λ ds. Remove k ∷ ds) (naming_same cs)
 
-pub returns-clause-lists : goal.returns-clause-lists
-returns-clause-lists g c = rw (← c.self.view_is) (λ i. record {
+pub returns : goal.returns
+returns c = rw (← c.self.view_is) (λ i. record {
   runs = (c.in_ok-runs.ensures
-      ∙ ap (changed run_cmp live_run_key c.self.inside.runs) (naming_same c.in_ok-run_changes.field-0.items ∙ c.in_ok-run_changes.ensures ∙ ap (map run_change) c.in_ok-turns.ensures.turns)) i;
+      ∙ ap (changed run_cmp live_run_key c.self.inside.runs) (naming_same c.in_ok-run_changes.field-0.items ∙ c.in_ok-run_changes.ensures)) i;
   rows = (c.in_ok-rows.ensures
-      ∙ ap (λ turns. changed row_cmp row_key c.self.inside.rows (flat_map (row_changes c.self.inside.runs) turns)) (c.as_slice.ensures.value ∙ c.in_ok-turns.ensures.turns)) i;
+      ∙ ap (λ turns. changed row_cmp row_key c.self.inside.rows (flat_map (row_changes c.self.inside.runs) turns)) c.as_slice.ensures.value) i;
 })
