@@ -31,7 +31,7 @@ use Rattle.delta_feed.specs.Sent.{IsShort, AreShort, IsShortPair}
 use Rattle.delta_out.specs.Feeds.{IsShortFeed}
 
 -- what is found under an id has what each has
-found_has : (P : Stored → Type 0) (id : List ℕ) (s : Stored) (es : List Change) → AllByRecursion (λ c. P c.1) es → find id_cmp id es ≡ Some s → P s
+pub found_has : (P : Stored → Type 0) (id : List ℕ) (s : Stored) (es : List Change) → AllByRecursion (λ c. P c.1) es → find id_cmp id es ≡ Some s → P s
 found_has P id s [] each found = absurd (cc)
 found_has P id s (c ∷ es) each found = by_tie (eq_by_cmp id_cmp id c.0) found (found_has P id s es each.1)
   where
