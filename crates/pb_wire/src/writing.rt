@@ -13,6 +13,10 @@ const LONGEST_VARINT: usize = 10;
 /// as many.
 const LEAST_OF_FIVE: u64 = 268_435_456;
 
+/// The least number whose varint has ten groups. Negative numbers, as 64 bits of two's complement,
+/// are no less.
+const LEAST_OF_TEN: u64 = 9_223_372_036_854_775_808;
+
 /// Appends the shortest varint of the value (Protocol Buffers, "Encoding", "Base 128 Varints").
 /// Want of memory leaves `out` as it was.
 ///
@@ -30,18 +34,36 @@ pub fn write_varint(value: u64, out: &mut Vec<u8>) -> Result<(), NoMemory>
     write_long(value, out)
 }
 
-/// The same of larger numbers. Most of these are instants, which are appended in one piece.
+/// The same of larger numbers. Most of these are instants, delays of some minutes, or negative
+/// delays, which have the greatest: those are appended in one piece.
 #[inline(never)]
 fn write_long(value: u64, out: &mut Vec<u8>) -> Result<(), NoMemory>
     ensures written { OnOk result (out.new.items ≡ out.old.items ++ varint value) }
     ensures kept { OnErr result (out.new.items ≡ out.old.items) }
 {
-    let last = value / LEAST_OF_FIVE;
-    if 0 < last && last < 128 {
-        out.extend_from_slice(&five_groups(value, last))
-    } else {
-        write_groups(value, out)
+    let second = value / 128;
+    if 0 < second && second < 128 {
+        return out.extend_from_slice(&two_groups(value, second));
     }
+    let fifth = value / LEAST_OF_FIVE;
+    if 0 < fifth && fifth < 128 {
+        return out.extend_from_slice(&five_groups(value, fifth));
+    }
+    if value < LEAST_OF_TEN {
+        return write_groups(value, out);
+    }
+    out.extend_from_slice(&ten_groups(value))
+}
+
+/// The varint of a number that has two groups, the last of which is given.
+#[inline(always)]
+fn two_groups(value: u64, last: u64) -> [u8; 2]
+    requires last { last ≡ value / 128 }
+    requires some { 0 < last }
+    requires below { last < 128 }
+    ensures { result ≡ varint value }
+{
+    [(value % 128) as u8 + 128, last as u8]
 }
 
 /// The varint of a number that has five groups, the last of which is given.
@@ -57,6 +79,35 @@ fn five_groups(value: u64, last: u64) -> [u8; 5]
         (value / 128 % 128) as u8 + 128,
         (value / 16_384 % 128) as u8 + 128,
         (value / 2_097_152 % 128) as u8 + 128,
+        last as u8,
+    ]
+}
+
+/// The varint of a number that has ten groups.
+#[inline(always)]
+fn ten_groups(value: u64) -> [u8; 10]
+    requires { 9223372036854775808 ≤ value }
+    ensures { result ≡ varint value }
+{
+    let second = value / 128;
+    let third = second / 128;
+    let fourth = third / 128;
+    let fifth = fourth / 128;
+    let sixth = fifth / 128;
+    let seventh = sixth / 128;
+    let eighth = seventh / 128;
+    let ninth = eighth / 128;
+    let last = ninth / 128;
+    [
+        (value % 128) as u8 + 128,
+        (second % 128) as u8 + 128,
+        (third % 128) as u8 + 128,
+        (fourth % 128) as u8 + 128,
+        (fifth % 128) as u8 + 128,
+        (sixth % 128) as u8 + 128,
+        (seventh % 128) as u8 + 128,
+        (eighth % 128) as u8 + 128,
+        (ninth % 128) as u8 + 128,
         last as u8,
     ]
 }
