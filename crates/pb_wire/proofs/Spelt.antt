@@ -34,20 +34,19 @@ abbrev listed : ℕ → ℕ → List ℕ
 listed zero n = n ∷ []
 listed (suc k) n = (n % 128 + 128) ∷ listed k (n / 128)
 
+pow_some : (k : ℕ) → 1 ≤ 128 ^ k
+pow_some zero = omega arith
+pow_some (suc k) = rw pow-suc (omega (arith, pow_some k))
+
 all_listed : (most k n : ℕ) → k ≤ most → 128 ^ k ≤ n → n < 128 ^ suc k → listed k n ≡ groups (suc most) n
-all_listed most zero n few from below = sym (last_group most n (omega (arith, pow-suc {128} {0})))
+all_listed most zero n few from below = sym (last_group most n (omega arith))
 all_listed zero (suc k) n few from below = absurd (omega arith)
 all_listed (suc most) (suc k) n few from below =
-    let long : 128 ≤ n = omega (arith, pow_some k, rw pow-suc at from) in
-    ap (λ rest. (n % 128 + 128) ∷ rest) (all_listed most k (n / 128) (omega arith) (quotient_from n (128 ^ k) (rw pow-suc at from)) (quotient_below n (128 ^ suc k) (rw pow-suc at below)))
+    let longer : 128 ^ k * 128 ≤ n = rw pow-suc at from in
+    let some = pow_some k in
+    let long : 128 ≤ n = omega arith in
+    ap (λ rest. (n % 128 + 128) ∷ rest) (all_listed most k (n / 128) (omega arith) (at_least n (128 ^ k) longer) (quotient_below n (128 ^ suc k) (rw pow-suc at below)))
     ∙ sym (more_groups (suc most) n long)
-  where
-    pow_some : (k : ℕ) → 1 ≤ 128 ^ k
-    pow_some zero = omega arith
-    pow_some (suc k) = omega (arith, pow_some k, pow-suc {128} {k})
-
-    quotient_from : (n m : ℕ) → 128 * m ≤ n → m ≤ n / 128
-    quotient_from n m le = omega arith
 
 pub ten : (n : ℕ) → 9223372036854775808 ≤ n → n < 2 ^ 64 → listed 9 n ≡ varint n
 unfolding varint
