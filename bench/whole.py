@@ -52,7 +52,7 @@ def took(hub, sender, count, link):
     while True:
         link.request("GET", "/status")
         accepted = int(link.getresponse().read().split(b"\n")[0].split(b"\t")[1])
-        if accepted >= count:
+        if accepted >= count and sender.gone is not None:
             return time.monotonic() - sender.gone
 
 
