@@ -19,7 +19,7 @@ use Rattle.pb_wire_defs.specs.Field.Payload.{Span}
 use Rattle.pb_wire_defs.specs.Writing.{field_bytes}
 use Rattle.pb_wire_defs.proofs.Bytes.{AreBytes}
 use Rattle.pb_wire_defs.proofs.Again.{as_field}
-use Rattle.feed_defs.specs.Rows.{span_in, occurrences_of, last_of, unknown_bytes_of, fields_of_all, value, message_bytes, numbered_values, with_entity_number, text, embedded, required, numbered, write_all}
+use Rattle.feed_defs.specs.Rows.{span_in, occurrences_of, last_of, unknown_bytes_of, fields_of_all, merged_message, value, message_bytes, numbered_values, with_entity_number, text, embedded, required, numbered, write_all}
 use Rattle.feed_defs.specs.Enums.{incrementality_number}
 use Rattle.feed_defs.specs.Table.{header_shape, header, entity_shape, entity, feed_shape, feed, read, write}
 use Rattle.feed_defs.proofs.FieldKinds.{embedded_lawful, text_lawful, text_is, text_again, last_own, span_fits, occurring_own, occurring_none, occurring_bytes, merged_again}
@@ -100,16 +100,16 @@ abbrev gone_told : Option Bool × (Option TripUpdate × (Option Vehicle × Optio
 gone_told = (Some true, (None, (None, None)))
 
 told_back : told_rows.read entity_shape.kind (map as_field (told_rows.write gone_told)) ≡ Ok (Ok gone_told)
-unfolding last_of occurrences_of
+unfolding last_of occurrences_of merged_message
 told_back = refl
 
 pub gone_again : (id : List ℕ) → is_utf8 id ≡ true → ReadsAgain (gone_with id)
 unfolding unknown_bytes_of
-gone_again id text small =
+gone_again id is_text small =
     made_again entity_shape 1 5 entity_law (lit≤ tt) (lit≤ tt) (λ v unknown. (refl, refl)) [] (id, gone_told) tt
     (λ short. (span_fits id (short_payload (record { number = 1; payload = Span id }) (told_rows.write gone_told) short).0, (lit< tt, tt)))
     (λ short. joined_back (required 1 text) told_rows 1 1 2 5 (required_lawful (text_lawful 1)) told_law (lit< tt) entity_shape.kind (id, gone_told)
-    (rw (last_own span_in 1 (Span id) (field_bytes (record { number = 1; payload = Span id })) id refl, text_again entity_shape.kind 1 id text) refl)
+    (rw (last_own span_in 1 (Span id) (field_bytes (record { number = 1; payload = Span id })) id refl, text_again entity_shape.kind 1 id is_text) refl)
     told_back)
     small
 
