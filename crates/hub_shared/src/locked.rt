@@ -103,7 +103,7 @@ fn next_view(
     ensures stands { (h : List Entry) → StandsFor h core.now → IfOk result (λ next.
         StandsFor (h ++ record { feed = feed; message = message } ∷ []) (arc_value next)) }
 {
-    if message.entity.len() >= MANY_ENTITIES && is_whole(&message) {
+    if message.entity.as_slice().len() >= MANY_ENTITIES && is_whole(&message) {
         core.prepare_full(rt, alloc, feed, message)
     } else {
         core.prepare(alloc, feed, message)
