@@ -38,7 +38,7 @@ pub(crate) fn changes_on(
         .with_min_len(LEAST_PIECE)
         .map(
             |stored: &&Stored| -> Result<IdChange, NoMemory>
-                ensures { IfOk result (λ one. one ≡ id_change_new plan.now stored.now.now) }
+                ensures { IfOk result (λ one. one ≡ id_change_new plan.entry.now stored.now.now) }
             { change_of_stored(plan, stored, None) },
         )
         .collect::<Result<Vec<IdChange>, NoMemory>>(rt, alloc)?;
@@ -55,7 +55,7 @@ pub(crate) fn turns_on(
     candidates: &SharedList<Candidate>,
     runs: &[Run],
 ) -> Result<Vec<Turn>, NoMemory>
-    requires { candidates.now ≡ (mentions_of plan.now table.now).candidates }
+    requires candidates { candidates.now ≡ (mentions_of plan.now table.now).candidates }
     ensures { IfOk result (λ turns. turns.items
         ≡ map (rule.turn_of plan.now (updates_of table.entry.now)) runs.now) }
 {
@@ -66,7 +66,7 @@ pub(crate) fn turns_on(
             |run: &Run| -> Result<Turn, NoMemory>
                 requires { candidates.now ≡ (mentions_of plan.now table.now).candidates }
                 ensures { IfOk result (λ turn. turn
-                    ≡ rule.turn_of plan.now (updates_of table.entry.now) run.now) }
+                    ≡ rule.turn_of plan.entry.now (updates_of table.entry.now) run.now) }
             { turn_of(alloc, plan, table, candidates, *run) },
         )
         .collect::<Result<Vec<Turn>, NoMemory>>(rt, alloc)?;

@@ -99,17 +99,12 @@ impl Overlay {
     {
         let _all = table.iter();
         let none = Overlay::empty(alloc);
-        let ids = changes_on(rt, alloc, plan, table)?;
-        let mentions = none.mentions.after(alloc, table, ids.as_slice())?;
-        let runs = touched_runs(alloc, ids.as_slice())?;
-        let turns = turns_on(
-            rt,
-            alloc,
-            plan,
-            table,
-            mentions.candidates(),
-            runs.as_slice(),
-        )?;
+        let changes = changes_on(rt, alloc, plan, table)?;
+        let ids = changes.as_slice();
+        let mentions = none.mentions.after(alloc, table, ids)?;
+        let runs = touched_runs(alloc, ids)?;
+        let candidates = mentions.candidates();
+        let turns = turns_on(rt, alloc, plan, table, candidates, runs.as_slice())?;
         let live = none.live.after(alloc, turns)?;
         Ok(Overlay { mentions, live })
     }

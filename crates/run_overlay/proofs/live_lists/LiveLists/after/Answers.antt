@@ -1,11 +1,11 @@
 -- Each list is changed once, by what the turns change.
-use Rattle.std.proofs.Common.{◌≡◌, List, [], ◌∷◌, map, refl, ap, ◌∙◌}
+use Rattle.std.proofs.Common.{◌≡◌, List, [], ◌∷◌, refl, ap, ◌∙◌}
 use Rattle.std.specs.List.{flat_map}
 use Rattle.shared_list.specs.declared.change.Change.{Change}
 use Rattle.shared_list.specs.declared.change.Change.TheVariants.{Put, Remove}
 use Rattle.keyed_lists.specs.Keyed.{changed, naming_keys}
 use Rattle.run_overlay.specs.Keys.{live_run_key, row_cmp, row_key, run_cmp}
-use Rattle.run_overlay.specs.Turning.{row_changes, run_change}
+use Rattle.run_overlay.specs.Turning.{row_changes}
 use Rattle.run_overlay.proofs.live_lists.LiveLists.after.Goals as goal
 
 -- changes that name keys themselves
