@@ -1,5 +1,5 @@
 -- All ids of the table, where there was nothing, and all runs that they touch.
-use Rattle.std.proofs.Common.{◌≡◌, ap, ◌∙◌}
+use Rattle.std.proofs.Common.{ap, ◌∙◌}
 use Rattle.run_overlay.specs.Changing.{AreIdChanges, mentions_after}
 use Rattle.run_overlay.specs.Kept.{FeedOverlay, IsTable, no_overlay}
 use Rattle.run_overlay.specs.Turning.{live_turned}
