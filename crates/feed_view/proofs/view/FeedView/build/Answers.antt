@@ -9,7 +9,7 @@ use Rattle.feed_view.proofs.view.FeedView.build.Goals as goal
 
 seen_is : (t : Timetable) (fold : FeedFold) (seen : FeedSeen) → IsOver t seen → seen.fold ≡ fold → seen_of t fold ≡ seen
 seen_is t fold seen is same = λ i. record {
-  fold = same (~ i);
+  fold = sym same i;
   overlay = (ap (λ (f : FeedFold). overlay_of t f.entities) (sym same) ∙ sym is.over) i;
 }
 
