@@ -6,7 +6,7 @@ use Rattle.board_defs.proofs.ViewLaws.{stands_more}
 use Rattle.hub_state.proofs.state.HubCore.prepare_full.Goals as goal
 
 pub returns-clause-stands : goal.returns-clause-stands
-returns-clause-stands c =
+returns-clause-stands g c =
     λ h stands.
     let is : arc_value c.in_ok-new.field-0 ≡ hub_after c.args.feed c.args.message c.args.self.now =
     c.in_ok-new.ensures.ok ∙ c.in_ok-next.ensures ∙ ap (hub_after c.args.feed c.args.message) (c.deref.ensures ∙ c.self.view_is) in
