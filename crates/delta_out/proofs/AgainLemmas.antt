@@ -72,14 +72,14 @@ pub reads_as : (kept : HubKept) (plan : ℕ) (old : List FeedFold) (feeds : List
     → (g h : List Entry) → WereRead g → WereRead h → old ≡ fold_of (length kept.plans.feeds) g → StandsFor h kept
     → read (changes_bytes kept.plans plan old (folds_of kept)) ≡ Ok (changes kept.plans plan old (folds_of kept))
 unfolding changes_bytes
-reads_as kept plan old feeds newest prefix small is text sound its_feeds stamp low g h were read_h then stands =
+reads_as kept plan old feeds newest prefix small is text sound its_feeds stamp low g h were read_h before stands =
     let count = length kept.plans.feeds in
     let ours = schedule_feeds plan kept.plans.feeds (folds_of kept) in
     let own = prefix_of kept.plans plan in
     message_again Differential (newest_of ours) (changes kept.plans plan old (folds_of kept)).entity (subst (λ n. n < 2 ^ 64) (stamp ∙ ap newest_of its_feeds) low)
     (feeds_again own (subst (λ p. is_utf8 p ≡ true) is text) old
-    (subst (AllByRecursion IsTable) (sym then) (folds_tables g count))
-    (subst (AllByRecursion IsSaid) (sym then) (folds_said g were count)) ours
+    (subst (AllByRecursion IsTable) (sym before) (folds_tables g count))
+    (subst (AllByRecursion IsSaid) (sym before) (folds_said g were count)) ours
     (each_feed plan IsNameText 0 kept.plans.feeds (folds_of kept) (names_text kept.plans.feeds sound.feed_named))
     (each_fold plan IsSaid 0 kept.plans.feeds (folds_of kept) (subst (AllByRecursion IsSaid) (sym stands.feeds) (folds_said h read_h count))))
     small
