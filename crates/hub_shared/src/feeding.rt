@@ -17,7 +17,6 @@ use hub_core::Refusal;
 use hub_outside::Buf;
 use std::alloc::Global;
 use std::sync::Wait;
-use std::thread::Threads;
 
 /// The most messages that one call asks a port for.
 const MOST_ANSWERS: u64 = 1_000_000_000_000;
@@ -27,7 +26,7 @@ const MOST_ANSWERS: u64 = 1_000_000_000_000;
 /// refused, or for which there is no memory, is counted and left, and the port hears why. Memory
 /// for the longest message is taken before the port is asked for the first, and none for those that
 /// follow. It may wait as [`ingest`](crate::ingest) does.
-pub fn ingest_port<R: Threads + Wait + Sync, P: FeedPort>(
+pub fn ingest_port<R: Wait, P: FeedPort>(
     rt: &R,
     alloc: Global,
     hub: &Hub,
@@ -51,7 +50,7 @@ pub fn ingest_port<R: Threads + Wait + Sync, P: FeedPort>(
 }
 
 /// The same with a seat that is given, and given back with the report.
-pub fn ingest_all<R: Threads + Wait + Sync, P: FeedPort>(
+pub fn ingest_all<R: Wait, P: FeedPort>(
     rt: &R,
     alloc: Global,
     hub: &Hub,
@@ -92,7 +91,7 @@ fn report(tally: Tally, end: PortEnd) -> PortReport
 }
 
 /// Asks the port for one message after another, and brings in what it hands in.
-fn ask_all<R: Threads + Wait + Sync, P: FeedPort>(
+fn ask_all<R: Wait, P: FeedPort>(
     rt: &R,
     alloc: Global,
     hub: &Hub,
@@ -118,7 +117,7 @@ fn ask_all<R: Threads + Wait + Sync, P: FeedPort>(
 }
 
 /// Asks the port once, and brings in what it hands in; or says why nothing more comes.
-fn ask<R: Threads + Wait + Sync, P: FeedPort>(
+fn ask<R: Wait, P: FeedPort>(
     rt: &R,
     alloc: Global,
     hub: &Hub,
@@ -151,7 +150,7 @@ fn ask<R: Threads + Wait + Sync, P: FeedPort>(
 
 /// Ingests a message that a port handed in, and counts what became of it. The port hears why it was
 /// refused.
-fn judge<R: Threads + Wait + Sync, P: FeedPort>(
+fn judge<R: Wait, P: FeedPort>(
     rt: &R,
     alloc: Global,
     hub: &Hub,
