@@ -28,8 +28,8 @@ abbrev pub goes_on : ℕ → Option ℕ → Bool
 goes_on at None = true
 goes_on at (Some end) = nat_lt at end
 
--- a period holds from its start on, up to but not at its end; an absent bound is open (GTFS Realtime,
--- TimeRange)
+-- a period holds from its start on, up to but not at its end; an absent bound is open (GTFS
+-- Realtime, TimeRange)
 abbrev pub holds_at : ℕ → Period → Bool
 holds_at at period = is_begun at period.start && goes_on at period.end
 
@@ -111,8 +111,8 @@ abbrev pub alerts_beside : Option Timetable → Schedules → List FeedFold → 
 alerts_beside None schedules folds query rows = None
 alerts_beside (Some t) schedules folds query rows = alerts_in t schedules folds query rows
 
--- The alerts that count and are active at the query's moment and touch its stop or one of the rows of its
--- board, by feed and id; None where no row of stops.txt has the asked id.
+-- The alerts that count and are active at the query's moment and touch its stop or one of the rows
+-- of its board, by feed and id; None where no row of stops.txt has the asked id.
 unfoldable pub alerts : Schedules → List FeedFold → BoardQuery → Option (List AlertRow)
 alerts schedules folds query =
     option_and_then (alerts_beside (timetable_in schedules query.plan) schedules folds query)

@@ -1,5 +1,5 @@
--- What a selector of an alert is about (GTFS Realtime, EntitySelector): all that it gives must hold.
--- A text that is given and empty is given.
+-- What a selector of an alert is about (GTFS Realtime, EntitySelector): all that it gives must
+-- hold. A text that is given and empty is given.
 use Rattle.std.specs.Prelude.{ℕ, Bool, true, false, not, ◌&&◌, ◌||◌, ◌==◌, List, slice_get, Option, Some, None, ℤ, pos}
 use Rattle.std.specs.Option.{option_and_then, option_map, is_some}
 use Rattle.std.specs.Ordering.{int_eq}

@@ -177,7 +177,8 @@ fn stop_holds(plan: &Plan, aim: &Aim<'_>, stop: u32) -> bool
 pub(crate) fn run_holds(plan: &Plan, aim: &Aim<'_>, run: Run) -> bool
     requires { IsAim plan.now aim.now }
     ensures { result
-        ≡ holds_if_given (λ trip. rule.is_trip (RunOf run) trip (match_of plan.now trip aim.now.stamp))
+        ≡ holds_if_given (λ trip. rule.is_trip (RunOf run) trip
+        (match_of plan.now trip aim.now.stamp))
         aim.now.selector.now.trip }
 {
     match aim.found {

@@ -1,7 +1,7 @@
 //! What alerts, overlays, departures and boards share.
 //!
-//! `window` says which stops and instants a board asks for and what counts at a moment, `wording` how routes and stops
-//! are named, and what the ids of messages name in a timetable.
+//! `window` says which stops and instants a board asks for and what counts at a moment, `wording`
+//! how routes and stops are named, and what the ids of messages name in a timetable.
 //!
 //! It stands on `rt_types`, `sched_types` and the definitions of `board_defs`.
 #![tactic(auto)]

@@ -14,7 +14,8 @@ use Rattle.alert_select.specs.Subjects.{touched_by, IsWithin}
 use Rattle.board_core.specs.declared.fault.RowsFault.{RowsFault}
 use Rattle.board_core.specs.declared.fault.RowsFault.TheVariants.{NoStop, NoMemory}
 
--- the rows that are defined, or that there is no such stop, just where none are defined, or want of memory
+-- the rows that are defined, or that there is no such stop, just where none are defined, or want of
+-- memory
 abbrev pub IsAnswer : Schedules → List FeedFold → BoardQuery → Result (Vec Row) RowsFault → Type 0
 IsAnswer schedules folds query (Ok answer) = rows schedules folds query ≡ Some answer.items
 IsAnswer schedules folds query (Err NoStop) = rows schedules folds query ≡ None

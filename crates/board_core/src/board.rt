@@ -67,7 +67,8 @@ fn lines_at<'a>(
     requires moment { query.now.at ≤ last_moment }
     ensures { IfOk result (λ first. Become (line_row plan.now) (IsInPlan plan.now) first.items
         (board_at plan.now stop
-        (updates_at query.now.plan query.now.at view.entry.now.plans.feeds (folds_of view.entry.now))
+        (updates_at query.now.plan query.now.at view.entry.now.plans.feeds
+        (folds_of view.entry.now))
         query.now)) }
 {
     let feeds = feeds_of(alloc, view, query.plan)?;
@@ -99,7 +100,8 @@ fn rows_at(
     ensures { IfOk result (λ rows. rows.items
         ≡ map (λ b. b.row)
         (board_at plan.now stop
-        (updates_at query.now.plan query.now.at view.now.plans.feeds (folds_of view.now)) query.now)) }
+        (updates_at query.now.plan query.now.at view.now.plans.feeds (folds_of view.now))
+        query.now)) }
 {
     let first = lines_at(alloc, view, plan, query, stop)?;
     rows_of(alloc, plan, first.as_slice())
@@ -119,7 +121,8 @@ fn subjects_at<'a>(
     requires moment { query.now.at ≤ last_moment }
     ensures { IfOk result (λ subjects. AreAbout plan.now
         (board_at plan.now stop
-        (updates_at query.now.plan query.now.at view.entry.now.plans.feeds (folds_of view.entry.now))
+        (updates_at query.now.plan query.now.at view.entry.now.plans.feeds
+        (folds_of view.entry.now))
         query.now) subjects.items) }
 {
     let first = lines_at(alloc, view, plan, query, stop)?;

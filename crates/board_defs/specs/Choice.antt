@@ -25,8 +25,8 @@ pub record Update : Type 0 where
   pub id : List ℕ
   pub update : TripUpdate
 
--- an update's stamp is its own, where it has one that is a moment, else its message's (GTFS Realtime,
--- TripUpdate, timestamp)
+-- an update's stamp is its own, where it has one that is a moment, else its message's (GTFS
+-- Realtime, TripUpdate, timestamp)
 abbrev pub stamp_or : ℕ → Option ℕ → ℕ
 stamp_or message None = message
 stamp_or message (Some own) = if is_stamp own then own else message
@@ -67,8 +67,8 @@ is_run_found run (found.NoMatch why) = false
 abbrev pub is_about : Timetable → Run → Update → Bool
 is_about t run update = is_run_found run (match_of t update.update.trip update.stamp)
 
--- the later update counts more, then that of the lower feed number, then that of the greater id; this order
--- is this project's
+-- the later update counts more, then that of the lower feed number, then that of the greater id;
+-- this order is this project's
 abbrev pub choice_cmp : Update → Update → Ordering
 choice_cmp a b =
     ordering_then (nat_cmp a.stamp b.stamp)

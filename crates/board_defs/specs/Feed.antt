@@ -16,8 +16,8 @@ use Rattle.board_defs.specs.Fold.{FeedFold}
 abbrev pub newest_of : List HubFeed → ℕ
 newest_of feeds = fold (λ newest one. max newest one.fold.stamp) 0 feeds
 
--- an entity of a feed as the combined feed has it: its ids of the timetable under the schedule's prefix, and
--- its own id under the feed's name, as `<feed>:<id>`
+-- an entity of a feed as the combined feed has it: its ids of the timetable under the schedule's
+-- prefix, and its own id under the feed's name, as `<feed>:<id>`
 abbrev pub combined_entity : List ℕ → HeldEntity → Entity
 combined_entity prefix held =
     entity_under_feed held.feed.name (renamed_entity prefix held.stored.entity)

@@ -12,15 +12,15 @@ pub record HubFeed : Type 0 where
   pub feed : NamedFeed
   pub fold : FeedFold
 
--- An entity that a feed holds: the number of the feed, what the configuration says of it, and the entity with
--- the stamp of its message. It is held under its own id.
+-- An entity that a feed holds: the number of the feed, what the configuration says of it, and the
+-- entity with the stamp of its message. It is held under its own id.
 pub record HeldEntity : Type 0 where
   pub number : ℕ
   pub feed : NamedFeed
   pub stored : Stored
 
--- What has that stamp counts at a moment, in a feed of that max_age, in seconds: as long as it is no older. 0 is no
--- end.
+-- What has that stamp counts at a moment, in a feed of that max_age, in seconds: as long as it is
+-- no older. 0 is no end.
 abbrev pub counts_at : ℕ → ℕ → ℕ → Bool
 counts_at max_age stamp at = (max_age == 0) || nat_le at (stamp + max_age)
 

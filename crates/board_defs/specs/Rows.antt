@@ -1,4 +1,5 @@
--- The rows of a board: of all runs of a timetable all places at which passengers may board at the asked stop.
+-- The rows of a board: of all runs of a timetable all places at which passengers may board at the
+-- asked stop.
 use Rattle.std.specs.Prelude.{ℕ, ◌+◌, ◌-◌, Bool, true, false, not, ◌&&◌, ◌||◌, ◌==◌, if◌then◌else◌, List, [], ◌++◌, length, map, take, filter, slice_get, Option, Some, None, unwrap_or, ℤ, pos, ◌+ℤ◌, int_le, int_lt}
 use Rattle.std.specs.Cmp.Lexicographic.{slice_cmp}
 use Rattle.std.specs.Fmt.{decimal}
@@ -36,7 +37,8 @@ use Rattle.board_defs.specs.declared.row.RowState.TheVariants as state
 use Rattle.board_defs.specs.Fold.{FeedFold}
 use Rattle.board_defs.specs.Choice.{Update, updates_at, chosen, text_or_none, added_updates}
 
--- what a row is about: a run of the timetable, or an added trip by its trip_id, its start_date and its route
+-- what a row is about: a run of the timetable, or an added trip by its trip_id, its start_date and
+-- its route
 pub data Subject : Type 0 where
   RunOf : Run → Subject
   AddedTrip : List ℕ → List ℕ → Option ℕ → Subject
@@ -81,8 +83,8 @@ by_state (Some s) =
     then record { state = state.Skipped; delay = None; stop = s.stop }
     else by_delay s.departure s.stop
 
--- By the relation of the run's update: a deleted run is not shown, and a canceled one keeps its times and its
--- stops.
+-- By the relation of the run's update: a deleted run is not shown, and a canceled one keeps its
+-- times and its stops.
 abbrev pub by_relation : TripRelation → Option StopState → Option Shown
 by_relation relation.Scheduled s = Some (by_state s)
 by_relation relation.Added s = Some (by_state s)
@@ -187,8 +189,9 @@ is_served served.Skipped = false
 is_served served.NoData = false
 is_served served.Unscheduled = false
 
--- A stop time update is a call where the stop is served, its stop_id is in stops.txt, and a time is told. An
--- added trip has no places in the timetable, so neither a stop_sequence nor a delay says anything.
+-- A stop time update is a call where the stop is served, its stop_id is in stops.txt, and a time is
+-- told. An added trip has no places in the timetable, so neither a stop_sequence nor a delay says
+-- anything.
 abbrev pub call_of : Timetable → StopUpdate → Option Call
 call_of t u =
     if is_served (served_as u)
@@ -252,7 +255,8 @@ abbrev pub is_added : Subject → Bool
 is_added (RunOf run) = false
 is_added (AddedTrip trip date route) = true
 
--- by the expected instant, the trip_id, the date, trips of the timetable before added ones, the place
+-- by the expected instant, the trip_id, the date, trips of the timetable before added ones, the
+-- place
 abbrev pub row_cmp : BoardRow → BoardRow → Ordering
 row_cmp a b =
     ordering_then (int_cmp a.row.expected b.row.expected)
@@ -279,8 +283,8 @@ board_in t updates query (Some asked) = Some (board_at t asked updates query)
 abbrev pub timetable_in : Schedules → ℕ → Option Timetable
 timetable_in schedules plan = option_map (λ named. named.plan) (slice_get schedules.plans plan)
 
--- The rows of a board with what they are about, of what all feeds say; None where no row of stops.txt has
--- the asked id.
+-- The rows of a board with what they are about, of what all feeds say; None where no row of
+-- stops.txt has the asked id.
 abbrev pub board_of : Schedules → List FeedFold → BoardQuery → Option Timetable
     → Option (List BoardRow)
 board_of schedules folds query None = None

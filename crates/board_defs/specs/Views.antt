@@ -12,7 +12,8 @@ use Rattle.board_defs.specs.Fold.{FeedFold, fold_of}
 pub record FeedKept : Type 0 where
   pub fold : FeedFold
 
--- what is kept of a hub: its timetables, what each of its feeds says, and how many messages were accepted
+-- what is kept of a hub: its timetables, what each of its feeds says, and how many messages were
+-- accepted
 pub record HubKept : Type 0 where
   pub plans : Schedules
   pub feeds : List FeedKept
@@ -69,8 +70,8 @@ hub_with feed view kept = record {
 abbrev pub hub_after : ℕ → FeedMessage → HubKept → HubKept
 hub_after feed m kept = hub_with feed (feed_after m (feed_at kept feed)) kept
 
--- What is true of all that is kept of a hub: each feed has its part, the messages are those of all feeds, and of
--- each feed there are no more than there are moments, since their stamps rise.
+-- What is true of all that is kept of a hub: each feed has its part, the messages are those of all
+-- feeds, and of each feed there are no more than there are moments, since their stamps rise.
 pub record IsHub (kept : HubKept) : Type 0 where
   pub all : length kept.feeds ≡ length kept.plans.feeds
   pub counted : sum_by (λ feed. feed.fold.count) kept.feeds ≡ kept.entries

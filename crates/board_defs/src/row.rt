@@ -34,7 +34,8 @@ pub struct Row {
     pub headsign: Text,
     /// Its trip_id.
     pub trip: Text,
-    /// The date of its service day, as eight digits YYYYMMDD; the start_date of an added trip, or empty.
+    /// The date of its service day, as eight digits YYYYMMDD; the start_date of an added trip, or
+    /// empty.
     pub date: Text,
     /// The stop_id of the stop at which it leaves.
     pub platform: Text,

@@ -9,8 +9,10 @@ use Rattle.alert_defs.specs.Alerts.{alerts}
 use Rattle.board_core.specs.declared.fault.RowsFault.{RowsFault}
 use Rattle.board_core.specs.declared.fault.RowsFault.TheVariants.{NoStop, NoMemory}
 
--- the alerts that are defined, or that there is no such stop, just where none are defined, or want of memory
-abbrev pub AreAlerts : Schedules → List FeedFold → BoardQuery → Result (Vec AlertRow) RowsFault → Type 0
+-- the alerts that are defined, or that there is no such stop, just where none are defined, or want
+-- of memory
+abbrev pub AreAlerts : Schedules → List FeedFold → BoardQuery → Result (Vec AlertRow) RowsFault
+    → Type 0
 AreAlerts schedules folds query (Ok answer) = alerts schedules folds query ≡ Some answer.items
 AreAlerts schedules folds query (Err NoStop) = alerts schedules folds query ≡ None
 AreAlerts schedules folds query (Err NoMemory) = ⊤

@@ -48,7 +48,8 @@ fn text_among(all: &[Translation]) -> &str
 
 /// The text of the first translation that tells no language, else of the given one.
 fn plain_or<'a>(first: &'a Translation, all: &'a [Translation]) -> &'a str
-    ensures { result.now ≡ (unwrap_or (first_that (λ one. is_none one.language) all.now) first.now).text }
+    ensures { result.now
+        ≡ (unwrap_or (first_that (λ one. is_none one.language) all.now) first.now).text }
 {
     match plain_among(all) {
         Some(plain) => plain.text.as_str(),

@@ -36,7 +36,8 @@ fn unmatched_in(
     plan: &Plan,
     entities: HeldEntities<'_>,
 ) -> Result<Vec<Unmatched>, NoMemory>
-    ensures { IfOk result (λ all. all.items ≡ flat_map (rule.unmatched_in plan.now) entities.entry) }
+    ensures { IfOk result
+        (λ all. all.items ≡ flat_map (rule.unmatched_in plan.now) entities.entry) }
 {
     let mut all = Vec::new(alloc);
     for held in entities {

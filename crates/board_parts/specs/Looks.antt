@@ -9,7 +9,8 @@ pub record GoesOn (old new : List Entry) : Type 0 where
   pub more : List Entry
   pub is : new ≡ old ++ more
 
--- It answers how many messages there are, and the view that is shown then stands for them; or it leaves that view.
+-- It answers how many messages there are, and the view that is shown then stands for them; or it
+-- leaves that view.
 abbrev pub Found : List Entry → HubKept → HubKept → ℕ → ℕ → Result ℕ AllocError → Type 0
 Found history old new before after (Ok count) =
     (count ≡ length history) × StandsFor history new × (after ≡ before + 1)

@@ -1,4 +1,5 @@
--- What is kept of a hub next to what it shows: the indexes of its timetables, and what its feeds' updates come to.
+-- What is kept of a hub next to what it shows: the indexes of its timetables, and what its feeds'
+-- updates come to.
 use Rattle.std.specs.Prelude.{◌≡◌, ℕ, Option, Some, List, map, slice_get, slice_index_or}
 use Rattle.std.specs.Option.{option_and_then}
 use Rattle.sched_types.specs.Schedules.{Schedules}

@@ -79,7 +79,8 @@ impl<'a> HubFeeds<'a> {
     pub(crate) fn over(feeds: &'a [NamedFeed], views: &'a [Arc<FeedView>]) -> HubFeeds<'a>
         requires { length feeds.now ≤ 64 }
         ensures { result
-            ≡ feeds_from 0 feeds.entry.now (map (λ kept. kept.fold) (map arc_value views.entry.now)) }
+            ≡ feeds_from 0 feeds.entry.now
+            (map (λ kept. kept.fold) (map arc_value views.entry.now)) }
     {
         HubFeeds {
             number: 0,

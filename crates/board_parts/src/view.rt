@@ -4,7 +4,7 @@ ghost use Rattle.std.specs.Prelude.{◌≡◌, ◌+◌, ◌<◌, Some, true, fal
 ghost use Rattle.std.specs.Arc.{arc_value};
 ghost use Rattle.std.specs.Option.{option_map};
 ghost use Rattle.text_defs.specs.Moments.{is_stamp};
-ghost use Rattle.feed_defs.specs.History.{stamp_of};
+ghost use Rattle.feed_defs.specs.History.{is_full, stamp_of};
 ghost use Rattle.sched_types.specs.Schedules.{AreSchedules};
 ghost use Rattle.sched_types.specs.Timetable.{Timetable};
 ghost use Rattle.stop_index.specs.Index.{index_of};
@@ -25,6 +25,7 @@ use sched_types::{Plan, Plans};
 use std::alloc::Global;
 use std::marker::Model;
 use std::sync::Arc;
+use std::thread::Threads;
 use stop_index::StopIndex;
 
 /// What is kept of a hub. A contract sees it as `HubKept`, and it never changes.
@@ -92,13 +93,35 @@ impl HubView {
         self.with_feed(alloc, feed, next)
     }
 
+    /// What [`HubView::after`] gives of a whole data set (`feed_view`'s `is_whole`), whose updates
+    /// are matched and whose runs are walked on as many threads as the machine has processors.
+    pub fn after_whole(
+        &self,
+        rt: &(impl Threads + Sync),
+        alloc: Global,
+        feed: u32,
+        message: FeedMessage,
+    ) -> Result<HubView, NoMemory>
+        requires whole { is_full message ≡ true }
+        requires feed { feed < length self.now.plans.feeds }
+        requires moment { IsTrue (is_stamp (stamp_of message)) }
+        requires newer { (feed_at self.now feed).fold.stamp < stamp_of message }
+        ensures { IfOk result (λ next. next ≡ hub_after feed message self.now) }
+    {
+        self.sound();
+        let plan = self.timetable(self.plans().feeds()[feed as usize].plan);
+        let next = FeedView::after_whole(rt, alloc, plan, self.feed(feed), message)?;
+        self.with_feed(alloc, feed, next)
+    }
+
     /// The view after one message more of the feed of that number, whose view with it is given; or
     /// out of memory. What the feed's updates come to must be kept for its timetable. All else is
     /// shared with this view.
     pub fn with_feed(&self, alloc: Global, feed: u32, view: FeedView) -> Result<HubView, NoMemory>
         requires feed { feed < length self.now.feeds }
         requires more { view.fold.count ≡ (feed_at self.now feed).fold.count + 1 }
-        requires over { (t : Timetable) → timetable_of self.now.plans feed ≡ Some t → IsOver t view }
+        requires over { (t : Timetable) → timetable_of self.now.plans feed ≡ Some t
+            → IsOver t view }
         ensures { IfOk result (λ next. next ≡ hub_with feed (kept_of view) self.now) }
     {
         self.plans.sound();

@@ -32,7 +32,8 @@ pub fn alerts_text(view: &HubView, rows: &[AlertRow], out: &mut Vec<u8>) -> Resu
 /// Appends the list, or as much of it as memory allows.
 #[tactic(auto, unfolding(board_text_defs::specs::Alerts::alerts_text))]
 fn push_alerts(feeds: &[NamedFeed], rows: &[AlertRow], out: &mut Vec<u8>) -> Result<(), NoMemory>
-    ensures written { OnOk result (out.new.items ≡ out.old.items ++ alerts_text feeds.now rows.now) }
+    ensures written { OnOk result
+        (out.new.items ≡ out.old.items ++ alerts_text feeds.now rows.now) }
     ensures begins { StartsWith out.new.items out.old.items }
 {
     push_columns(out)?;

@@ -120,7 +120,8 @@ fn push_cells<'a>(
 
 /// Appends the texts of a row, as a line.
 fn push_texts(row: &Row, out: &mut Vec<u8>) -> Result<(), NoMemory>
-    ensures written { OnOk result (out.new.items ≡ out.old.items ++ line_of_fields (texts_of row.now)) }
+    ensures written { OnOk result
+        (out.new.items ≡ out.old.items ++ line_of_fields (texts_of row.now)) }
     ensures begins { StartsWith out.new.items out.old.items }
 {
     push_line(

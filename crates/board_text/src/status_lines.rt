@@ -72,7 +72,8 @@ fn push_columns(out: &mut Vec<u8>) -> Result<(), NoMemory>
 
 /// Appends a line for each feed.
 fn push_feeds(feeds: HubFeeds<'_>, out: &mut Vec<u8>) -> Result<(), NoMemory>
-    ensures written { OnOk result (out.new.items ≡ out.old.items ++ flat_map status_line feeds.entry) }
+    ensures written { OnOk result
+        (out.new.items ≡ out.old.items ++ flat_map status_line feeds.entry) }
     ensures begins { StartsWith out.new.items out.old.items }
 {
     for feed in feeds {

@@ -36,7 +36,8 @@ fn push_unmatched(
     rows: &[Unmatched],
     out: &mut Vec<u8>,
 ) -> Result<(), NoMemory>
-    ensures written { OnOk result (out.new.items ≡ out.old.items ++ unmatched_text feeds.now rows.now) }
+    ensures written { OnOk result
+        (out.new.items ≡ out.old.items ++ unmatched_text feeds.now rows.now) }
     ensures begins { StartsWith out.new.items out.old.items }
 {
     push_columns(out)?;
@@ -45,7 +46,8 @@ fn push_unmatched(
 
 /// Appends the line with the names of the columns.
 fn push_columns(out: &mut Vec<u8>) -> Result<(), NoMemory>
-    ensures written { OnOk result (out.new.items ≡ out.old.items ++ line_of_fields unmatched_columns) }
+    ensures written { OnOk result
+        (out.new.items ≡ out.old.items ++ line_of_fields unmatched_columns) }
     ensures begins { StartsWith out.new.items out.old.items }
 {
     push_line(&["feed", "id", "kind", "reason"], out)

@@ -1,5 +1,5 @@
--- A list of alerts: as text, a line with the names of the columns and a line for each row; and as JSON
--- (RFC 8259), with no spaces, the keys of each object in the order of their bytes.
+-- A list of alerts: as text, a line with the names of the columns and a line for each row; and as
+-- JSON (RFC 8259), with no spaces, the keys of each object in the order of their bytes.
 use Rattle.std.specs.Prelude.{ℕ, List, [], ◌∷◌, ◌++◌, slice_get, Option, unwrap_or, ℤ, pos, codes}
 use Rattle.std.specs.List.{flat_map}
 use Rattle.std.specs.Option.{option_map}

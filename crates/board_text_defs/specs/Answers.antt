@@ -1,4 +1,5 @@
--- What is answered to somebody who asks by the name of a schedule: the bytes, or that it isn't there.
+-- What is answered to somebody who asks by the name of a schedule: the bytes, or that it isn't
+-- there.
 use Rattle.std.specs.Prelude.{ℕ, ◌≤◌, Bool, true, false, List, [], position, slice_get, Option, Some, None, unwrap_or, ⊤}
 use Rattle.std.specs.Option.{option_map, option_and_then}
 use Rattle.std.specs.Str.{bytes_eq}
@@ -112,8 +113,8 @@ unmatched_answer schedules folds name =
 
 -- ---- questions
 
--- what a hub can be asked: the combined feed of a schedule, a board, the alerts beside a board, what a
--- schedule has no run for, or its status
+-- what a hub can be asked: the combined feed of a schedule, a board, the alerts beside a board,
+-- what a schedule has no run for, or its status
 pub data Question : Type 0 where
   FeedOf : List ℕ → Question
   BoardOf : BoardAsked → Question

@@ -1,4 +1,5 @@
--- A board as text: a line with the stop, a line with the names of the columns, and a line for each row.
+-- A board as text: a line with the stop, a line with the names of the columns, and a line for each
+-- row.
 use Rattle.std.specs.Prelude.{ℕ, List, [], ◌∷◌, ◌++◌, Some, codes}
 use Rattle.std.specs.List.{flat_map}
 use Rattle.board_defs.specs.declared.row.Row.{Row}

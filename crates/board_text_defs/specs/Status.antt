@@ -1,5 +1,5 @@
--- The status of a hub as text: a line with the number of messages that it accepted, a line with the names of
--- the columns, and a line for each feed.
+-- The status of a hub as text: a line with the number of messages that it accepted, a line with the
+-- names of the columns, and a line for each feed.
 use Rattle.std.specs.Prelude.{ℕ, List, [], ◌∷◌, ◌++◌, length, codes}
 use Rattle.std.specs.Fmt.{decimal}
 use Rattle.std.specs.List.{flat_map, sum_by}
@@ -11,8 +11,8 @@ use Rattle.board_text_defs.specs.Lines.{line_of_fields}
 abbrev pub status_columns : List (List ℕ)
 status_columns = codes "feed" ∷ codes "accepted" ∷ codes "last" ∷ codes "entities" ∷ []
 
--- a feed: its name, how many of its messages were accepted, the stamp of the last of them, and how many
--- entities it holds
+-- a feed: its name, how many of its messages were accepted, the stamp of the last of them, and how
+-- many entities it holds
 abbrev pub status_line : HubFeed → List ℕ
 status_line one =
     line_of_fields (one.feed.name ∷ decimal one.fold.count ∷ decimal one.fold.stamp

@@ -1,5 +1,5 @@
--- A list of the trip updates and vehicles that are about no run, as text: a line with the names of the columns
--- and a line for each row.
+-- A list of the trip updates and vehicles that are about no run, as text: a line with the names of
+-- the columns and a line for each row.
 use Rattle.std.specs.Prelude.{ℕ, Bool, true, false, List, [], ◌∷◌, ◌++◌, codes}
 use Rattle.std.specs.List.{flat_map}
 use Rattle.sched_types.specs.declared.plans.NamedFeed.{NamedFeed}

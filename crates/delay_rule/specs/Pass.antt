@@ -1,4 +1,5 @@
--- The pass over the places and the updates, as a recursion over the updates: what it still has to tell.
+-- The pass over the places and the updates, as a recursion over the updates: what it still has to
+-- tell.
 use Rattle.std.specs.Prelude.{◌≡◌, ℕ, ◌+◌, ◌-◌, ◌<◌, Option, Some, None, List, [], ◌∷◌, ◌++◌, length, drop, replicate, slice_get, ℤ, pos, ◌+ℤ◌}
 use Rattle.std.specs.List.{position_from}
 use Rattle.rt_types.specs.declared.trip_update.StopUpdate.{StopUpdate}

@@ -34,7 +34,8 @@ pub(crate) fn widened(delay: Option<i32>) -> Option<i64>
     }
 }
 
-/// The delay that an event tells, if it tells one, of what is scheduled so many seconds after `base`.
+/// The delay that an event tells, if it tells one, of what is scheduled so many seconds after
+/// `base`.
 fn event_delay(event: &Option<Event>, base: i64, seconds: u32) -> Option<i64>
     requires { IsSmall base }
     ensures value { result ≡ rule.event_delay (base +ℤ pos seconds) event.now }
@@ -61,8 +62,8 @@ pub(crate) fn plain(carry: Option<i64>) -> StopState
     }
 }
 
-/// The state of a place that an update takes, with the delay that is carried to it. The departure's delay
-/// is what is carried on.
+/// The state of a place that an update takes, with the delay that is carried to it. The departure's
+/// delay is what is carried on.
 pub(crate) fn state_of(
     plan: &Plan,
     update: &StopUpdate,

@@ -17,7 +17,8 @@ use sched_types::{Place, Plan, Run};
 use std::alloc::AllocError;
 use std::sync::ledger::Ledger;
 
-/// Where the pass stands: the first place whose state is not told yet, and the delay that is carried to it.
+/// Where the pass stands: the first place whose state is not told yet, and the delay that is
+/// carried to it.
 #[derive(Clone, Copy)]
 struct Reached {
     place: usize,
@@ -36,8 +37,8 @@ fn add_plain(out: &mut Vec<StopState>, count: usize, carry: Option<i64>) -> Resu
     Ok(())
 }
 
-/// Appends the states up to the place that the update takes, if it takes one, and says where the pass
-/// stands then.
+/// Appends the states up to the place that the update takes, if it takes one, and says where the
+/// pass stands then.
 fn step(
     plan: &Plan,
     places: &[Place],
@@ -102,12 +103,12 @@ fn fill(
     Ok(())
 }
 
-/// Appends the state of each place of the run, in order, and adds one step. Where memory is wanting, the
-/// states are as they were before, and the step is added all the same.
+/// Appends the state of each place of the run, in order, and adds one step. Where memory is
+/// wanting, the states are as they were before, and the step is added all the same.
 ///
-/// The rules are those of GTFS Realtime (TripUpdate) as `delay_rule_defs` says them: updates take places in
-/// order, a delay holds up to the next place with one, and an assigned stop holds for its place alone. Each delay
-/// is within two trillion seconds, and each stop is one of the timetable.
+/// The rules are those of GTFS Realtime (TripUpdate) as `delay_rule_defs` says them: updates take
+/// places in order, a delay holds up to the next place with one, and an assigned stop holds for its
+/// place alone. Each delay is within two trillion seconds, and each stop is one of the timetable.
 pub fn walk<L: Ledger>(
     plan: &Plan,
     run: Run,

@@ -56,8 +56,8 @@ fn with_stop_id(plan: &Plan, places: &[Place], from: usize, id: &Option<Text>) -
     }
 }
 
-/// The number of the stop that an update names for its place, if it names one of the timetable (GTFS Realtime,
-/// StopTimeProperties, assigned_stop_id).
+/// The number of the stop that an update names for its place, if it names one of the timetable
+/// (GTFS Realtime, StopTimeProperties, assigned_stop_id).
 pub fn assigned_stop(plan: &Plan, update: &StopUpdate) -> Option<u32>
     ensures value { result ≡ rule.assigned_stop plan.now update.now }
     ensures within { IfSome result (λ stop. stop < length plan.now.stops) }

@@ -4,7 +4,8 @@ ghost use Rattle.std.specs.Prelude.{◌≡◌, ◌+◌, ◌<◌};
 use std::marker::Model;
 use std::sync::ledger::{Blank, Book, Ledger, Share};
 
-/// How many walks were made. It takes no bytes, and only `walk` adds to it. A contract sees the number.
+/// How many walks were made. It takes no bytes, and only `walk` adds to it. A contract sees the
+/// number.
 #[derive(Drop)]
 pub struct Steps<L: Ledger> {
     book: Book<L>,

@@ -1,5 +1,5 @@
--- A line of twenty places, as an example: one trip on 30 March 2025 that is left at 08:00:00, 08:01:00 and so
--- on, to 08:19:00, with the sequences 1 to 20.
+-- A line of twenty places, as an example: one trip on 30 March 2025 that is left at 08:00:00,
+-- 08:01:00 and so on, to 08:19:00, with the sequences 1 to 20.
 use Rattle.std.specs.Prelude.{ℕ, ◌+◌, ◌*◌, None, [], ◌∷◌, map, pos, codes}
 use Rattle.std.specs.List.{range_with_len}
 use Rattle.sched_types.specs.declared.rows.Place.{Place}

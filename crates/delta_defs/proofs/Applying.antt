@@ -126,7 +126,7 @@ some_id : (a b : Entity) → Some a ≡ Some b → b.id ≡ a.id
 some_id a b e = ap (λ (x : Entity). x.id) (sym (some_is a b e))
 
 -- what is found under an id has it
-found_keyed : (id : List ℕ) (s : Stored) (es : List Change) → AllByRecursion IsKeyed es → find id_cmp id es ≡ Some s → s.entity.id ≡ id
+pub found_keyed : (id : List ℕ) (s : Stored) (es : List Change) → AllByRecursion IsKeyed es → find id_cmp id es ≡ Some s → s.entity.id ≡ id
 found_keyed id s [] keyed found = absurd (none_some s found)
 found_keyed id s (c ∷ es) keyed found = by_tie (eq_by_cmp id_cmp id c.0) refl found (found_keyed id s es keyed.1)
   where

@@ -1,5 +1,5 @@
 -- Where the messages were read, the difference brings a reader from one combined feed to the other.
-use Rattle.std.proofs.Common.{◌≡◌, inl, inr, ℕ, ◌^◌, ◌<◌, List, [], ◌∷◌, ◌++◌, map, length, Bool, true, false, cond, Some, Ok, IsTrue, slice_get, sym, ap, ◌∙◌, subst, refl, codes}
+use Rattle.std.proofs.Common.{◌≡◌, inl, inr, ℕ, List, [], ◌∷◌, ◌++◌, map, length, Bool, true, false, cond, Some, Ok, sym, ap, ◌∙◌, subst, refl}
 use Rattle.std.specs.List.{AllByRecursion}
 use Rattle.std.specs.Str.{is_utf8}
 use Rattle.std.specs.Ordering.{eq_by_cmp}
@@ -15,7 +15,6 @@ use Rattle.feed_defs.specs.Table.{entity}
 use Rattle.feed_defs.proofs.DataSet.{WasSaid}
 use Rattle.feed_defs.proofs.Kept.{id_cmp}
 use Rattle.feed_defs.proofs.RenamedAgain.{entity_under}
-use Rattle.sched_types.specs.declared.plans.NamedFeed.{NamedFeed}
 use Rattle.sched_types.specs.Schedules.{AreSchedules}
 use Rattle.board_defs.specs.Feed.{prefix_of}
 use Rattle.board_defs.specs.Feeds.{HubFeed, schedule_feeds}
@@ -32,7 +31,7 @@ use Rattle.delta_feed.specs.Sent.{IsShort, AreShort, IsShortPair}
 use Rattle.delta_out.specs.Feeds.{IsShortFeed}
 
 -- what is found under an id has what each has
-found_has : (P : Stored → Type 0) (id : List ℕ) (s : Stored) (es : List Change) → AllByRecursion (λ c. P c.1) es → find id_cmp id es ≡ Some s → P s
+pub found_has : (P : Stored → Type 0) (id : List ℕ) (s : Stored) (es : List Change) → AllByRecursion (λ c. P c.1) es → find id_cmp id es ≡ Some s → P s
 found_has P id s [] each found = absurd (cc)
 found_has P id s (c ∷ es) each found = by_tie (eq_by_cmp id_cmp id c.0) found (found_has P id s es each.1)
   where

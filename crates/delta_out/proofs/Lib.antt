@@ -1,3 +1,4 @@
 pub mod MessageLemmas
 pub mod LawLemmas
+pub mod AgainLemmas
 pub mod KeptLemmas

@@ -1,6 +1,5 @@
 -- The difference is a header, and then what is sent of each feed.
-use Rattle.std.proofs.Common.{◌≡◌, ◌<◌, ℕ, List, [], ◌∷◌, ◌++◌, map, Bool, true, false, Option, Some, None, refl, sym, ap, ◌∙◌, append_assoc, length, get_or, codes}
-use Rattle.std.specs.Prelude.{if◌then◌else◌}
+use Rattle.std.proofs.Common.{◌≡◌, ◌<◌, ℕ, List, [], ◌∷◌, ◌++◌, Option, Some, None, refl, sym, ap, ◌∙◌, append_assoc, length, get_or, codes}
 use Rattle.std.specs.List.{flat_map, filter_map, cons_option}
 use Rattle.std.proofs.lemmas.List.Folds.{flat_map-map}
 use Rattle.std.proofs.lemmas.Grind.{flat_map-append}
@@ -8,7 +7,6 @@ use Rattle.rt_types.specs.declared.enums.Incrementality.TheVariants.{Differentia
 use Rattle.rt_types.specs.declared.message.Entity.{Entity}
 use Rattle.rt_types.specs.declared.message.Header.{Header}
 use Rattle.feed_defs.specs.declared.history.Stored.{Stored}
-use Rattle.feed_defs.specs.History.{Change}
 use Rattle.feed_defs.specs.Table.{write}
 use Rattle.feed_write.specs.Entities.{entity_field}
 use Rattle.feed_write.proofs.Entities.{message_grows}
@@ -20,8 +18,8 @@ use Rattle.board_defs.specs.Feed.{newest_of, prefix_of}
 use Rattle.board_defs.specs.Feeds.{HubFeed, schedule_feeds}
 use Rattle.board_defs.specs.Fold.{FeedFold}
 use Rattle.board_defs.specs.Views.{HubKept, folds_of}
-use Rattle.delta_defs.specs.Changes.{is_same, combined_of, change_sent, held_under, ids_of_both, feed_changes, held_before, changes, changes_bytes}
-use Rattle.delta_feed.specs.Pairs.{IdPair, pair_under, pairs_of}
+use Rattle.delta_defs.specs.Changes.{change_sent, held_under, ids_of_both, feed_changes, held_before, changes, changes_bytes}
+use Rattle.delta_feed.specs.Pairs.{pair_under}
 use Rattle.delta_feed.specs.Sent.{entity_sent, field_of, pair_field}
 use Rattle.delta_out.specs.Feeds.{feed_field}
 

@@ -1,10 +1,11 @@
 //! What changed in the combined feed of a schedule since an earlier view.
 
-ghost use Rattle.std.specs.Prelude.{◌≡◌, ◌<◌, ◌++◌, [], ◌∷◌, List, Some, length, true, slice_index_or, IfOk, OnOk, IsSome};
+ghost use Rattle.std.specs.Prelude.{◌≡◌, ◌<◌, ◌++◌, [], ◌∷◌, List, Some, Ok, length, true, slice_index_or, IfOk, OnOk, IsSome};
 ghost use Rattle.std.specs.List.{flat_map, AllByRecursion};
 ghost use Rattle.std.specs.Str.{is_utf8};
 ghost use Rattle.feed_defs.specs.declared.history.Entry.{Entry};
 ghost use Rattle.feed_defs.specs.History.{WereRead};
+ghost use Rattle.feed_defs.specs.Table.{read};
 ghost use Rattle.board_defs.specs.Fold.{FeedFold, fold_of};
 ghost use Rattle.board_defs.specs.Views.{StandsFor, folds_of, no_fold};
 ghost use Rattle.delta_defs.specs.Applied.{BringsTo};
@@ -26,8 +27,8 @@ use std::alloc::Global;
 /// view, by its number of messages, and the given one of the same history (GTFS Realtime 2.0,
 /// FeedHeader, DIFFERENTIAL); or out of memory. The stamps of a feed rise, so what has none above
 /// the one that its feed had is the same as it was and is passed over. Where the messages of both
-/// were read, who has the combined feed of the kept view and applies the message has that of the
-/// given one.
+/// were read, the bytes read as a message, and who has the combined feed of the kept view and
+/// applies it has that of the given one.
 pub fn since(
     alloc: Global,
     kept: &Kept,
@@ -46,6 +47,11 @@ pub fn since(
         → old ≡ fold_of (length view.now.plans.feeds) g → StandsFor h view.now
         → OnOk result (BringsTo view.now.plans plan old (folds_of view.now)
         (changes view.now.plans plan old (folds_of view.now))) }
+    ensures reads { (old : List FeedFold) → folds_at number kept.now ≡ Some old
+        → (g h : List Entry) → WereRead g → WereRead h
+        → old ≡ fold_of (length view.now.plans.feeds) g → StandsFor h view.now
+        → IfOk result (λ bytes. read bytes.items
+        ≡ Ok (changes view.now.plans plan old (folds_of view.now))) }
 {
     match kept.at(number) {
         Some(old) => changed_since(alloc, old, view, plan),
@@ -68,6 +74,10 @@ fn changed_since(
         → old.now.folds ≡ fold_of (length view.now.plans.feeds) g → StandsFor h view.now
         → OnOk result (BringsTo view.now.plans plan old.now.folds (folds_of view.now)
         (changes view.now.plans plan old.now.folds (folds_of view.now))) }
+    ensures reads { (g h : List Entry) → WereRead g → WereRead h
+        → old.now.folds ≡ fold_of (length view.now.plans.feeds) g → StandsFor h view.now
+        → IfOk result (λ bytes. read bytes.items
+        ≡ Ok (changes view.now.plans plan old.now.folds (folds_of view.now))) }
 {
     let mut bytes = Vec::new(alloc);
     push_changes(old, view, plan, &mut bytes)?;
@@ -89,6 +99,10 @@ fn push_changes(
         → old.now.folds ≡ fold_of (length view.now.plans.feeds) g → StandsFor h view.now
         → OnOk result (BringsTo view.now.plans plan old.now.folds (folds_of view.now)
         (changes view.now.plans plan old.now.folds (folds_of view.now))) }
+    ensures reads { (g h : List Entry) → WereRead g → WereRead h
+        → old.now.folds ≡ fold_of (length view.now.plans.feeds) g → StandsFor h view.now
+        → OnOk result (read (changes_bytes view.now.plans plan old.now.folds (folds_of view.now))
+        ≡ Ok (changes view.now.plans plan old.now.folds (folds_of view.now))) }
 {
     view.sound();
     let prefix = view.plans().plans()[plan as usize].prefix.as_str();

@@ -6,7 +6,8 @@ ghost use Rattle.exit_status.specs.Codes.{code_of};
 /// How a run of the program ended.
 #[derive(Clone, Copy, Debug, PartialEq, Eq)]
 pub enum ExitStatus {
-    /// 0: what was asked for is done; a script was read to its end; a server's ports and doors have ended.
+    /// 0: what was asked for is done; a script was read to its end; a server's ports and doors have
+    /// ended.
     Done,
     /// 1: of a server a port or a door failed, or a message was too long.
     Failed,

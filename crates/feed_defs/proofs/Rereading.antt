@@ -1,11 +1,14 @@
 -- A message that was read is read again from the bytes that are written of it.
 use Rattle.std.proofs.Common.{◌≡◌, ℕ, ◌^◌, ◌<◌, ◌≤◌, Bool, true, List, [], ◌∷◌, ◌++◌, length, refl, ◌∙◌, ap, subst, arith, append-nil, lit<, lit≤}
-use Rattle.std.specs.Prelude.{Ok, not, filter, map}
+use Rattle.std.specs.Prelude.{Option, Ok, not, filter, map}
 use Rattle.std.specs.List.{flat_map, AllByRecursion}
 use Rattle.std.proofs.lemmas.List.{length-append}
 use Rattle.std.proofs.lemmas.List.Elements.{filter-append}
 use Rattle.rt_types.specs.declared.fault.Kind.{Kind}
+use Rattle.rt_types.specs.declared.alert.Alert.{Alert}
 use Rattle.rt_types.specs.declared.message.FeedMessage.{FeedMessage}
+use Rattle.rt_types.specs.declared.trip_update.TripUpdate.{TripUpdate}
+use Rattle.rt_types.specs.declared.vehicle.Vehicle.{Vehicle}
 use Rattle.answer_defs.specs.Steps.{◌>>=◌}
 use Rattle.pb_wire_defs.specs.Field.{Field}
 use Rattle.pb_wire_defs.specs.Spelling.{IsField}
@@ -14,7 +17,7 @@ use Rattle.pb_wire_defs.specs.Writing.{Written, field_bytes}
 use Rattle.pb_wire_defs.proofs.Bytes.{AreBytes}
 use Rattle.answer_defs.proofs.Steps.{bind_ok, ok_is}
 use Rattle.pb_wire_defs.proofs.Again.{IsInRange, IsSpellable, WasRead, as_field, found_again, were_read, AllByRecursion-filter}
-use Rattle.feed_defs.specs.Rows.{Message, Shape, Rows, fields_in, unknown_bytes_of, fields_of_all, value, message_bytes, message}
+use Rattle.feed_defs.specs.Rows.{Message, Shape, Rows, bool, embedded, optional, fields_in, unknown_bytes_of, fields_of_all, value, message_bytes, message, ◌⊕◌}
 use Rattle.feed_defs.specs.Enums.{incrementality_named, incrementality_number, incrementality, stop_relation_named, stop_relation_number, stop_relation, trip_relation_named, trip_relation_number, trip_relation, stop_status_named, stop_status_number, stop_status, cause_named, cause_number, cause, effect_named, effect_number, effect}
 use Rattle.feed_defs.specs.Table.{trip_descriptor_shape, trip_descriptor, vehicle_descriptor_shape, vehicle_descriptor, stop_time_event_shape, stop_time_event, stop_time_properties_shape, stop_time_properties, stop_time_update_shape, stop_time_update, trip_update_shape, trip_update, position_shape, position, vehicle_position_shape, vehicle_position, time_range_shape, time_range, entity_selector_shape, entity_selector, translation_shape, translation, translated_string_shape, translated_string, alert_shape, alert, header_shape, header, entity_shape, entity, feed_shape, feed, read, write}
 use Rattle.feed_defs.proofs.Sifted.{each_then, each_append, filter_none, filter_failing, filter_passing}
@@ -234,14 +237,22 @@ header_law =
 pub header_rereads : Rereads header
 header_rereads = message_rereads header_shape 1 3 (lit≤ tt) (lit≤ tt) (λ v unknown. (refl, refl)) header_law
 
-pub entity_rereads : Rereads entity
-entity_rereads =
-    message_rereads entity_shape 1 5 (lit≤ tt) (lit≤ tt) (λ v unknown. (refl, refl))
-    (joined_lawful (required_lawful (text_lawful 1))
-    (joined_lawful (optional_lawful (bool_lawful 2))
+-- the fields of an entity behind its id
+abbrev pub told_rows : Rows (Option Bool × (Option TripUpdate × (Option Vehicle × Option Alert)))
+told_rows = optional 2 bool ⊕ optional 3 (embedded trip_update) ⊕ optional 4 (embedded vehicle_position) ⊕ optional 5 (embedded alert)
+
+pub told_law : IsLawful 2 5 told_rows
+told_law =
+    joined_lawful (optional_lawful (bool_lawful 2))
     (joined_lawful (optional_lawful (embedded_lawful 3 trip_update trip_update_rereads))
     (joined_lawful (optional_lawful (embedded_lawful 4 vehicle_position vehicle_position_rereads))
-    (optional_lawful (embedded_lawful 5 alert alert_rereads)) (lit< tt)) (lit< tt)) (lit< tt)) (lit< tt))
+    (optional_lawful (embedded_lawful 5 alert alert_rereads)) (lit< tt)) (lit< tt)) (lit< tt)
+
+pub entity_law : IsLawful 1 5 entity_shape.rows
+entity_law = joined_lawful (required_lawful (text_lawful 1)) told_law (lit< tt)
+
+pub entity_rereads : Rereads entity
+entity_rereads = message_rereads entity_shape 1 5 (lit≤ tt) (lit≤ tt) (λ v unknown. (refl, refl)) entity_law
 
 pub feed_rereads : Rereads feed
 feed_rereads =

@@ -28,7 +28,9 @@ pub ten_bytes :
       uncertainty = None;
       unknown = [];
     })
-unfolding is_utf8 chars encode groups_at varint_at span_at tag_at payload_at field_with behind_end group_at field_at fields_within fields_of occurrences_of last_of unknown_bytes_of fields_of_all value merged_message values numbered_values read
+unfolding is_utf8 chars encode groups_at varint_at span_at tag_at payload_at field_with behind_end
+    group_at field_at fields_within fields_of occurrences_of last_of unknown_bytes_of fields_of_all
+    value merged_message values numbered_values read
 ten_bytes = refl
 
 -- the same, by its low 32 bits alone
@@ -39,7 +41,9 @@ pub five_bytes :
       uncertainty = None;
       unknown = [];
     })
-unfolding is_utf8 chars encode groups_at varint_at span_at tag_at payload_at field_with behind_end group_at field_at fields_within fields_of occurrences_of last_of unknown_bytes_of fields_of_all value merged_message values numbered_values read
+unfolding is_utf8 chars encode groups_at varint_at span_at tag_at payload_at field_with behind_end
+    group_at field_at fields_within fields_of occurrences_of last_of unknown_bytes_of fields_of_all
+    value merged_message values numbered_values read
 five_bytes = refl
 
 -- it is written in ten bytes
@@ -76,7 +80,9 @@ pub merged_arrival :
           None;
       unknown = [];
     })
-unfolding is_utf8 chars encode groups_at varint_at span_at tag_at payload_at field_with behind_end group_at field_at fields_within fields_of occurrences_of last_of unknown_bytes_of fields_of_all value merged_message values numbered_values read
+unfolding is_utf8 chars encode groups_at varint_at span_at tag_at payload_at field_with behind_end
+    group_at field_at fields_within fields_of occurrences_of last_of unknown_bytes_of fields_of_all
+    value merged_message values numbered_values read
 merged_arrival = refl
 
 -- a number that names no relation is an unknown field, and the one before it counts
@@ -92,7 +98,9 @@ pub unknown_relation :
       properties = None;
       unknown = (0x28 ∷ 0x09 ∷ []);
     })
-unfolding is_utf8 chars encode groups_at varint_at span_at tag_at payload_at field_with behind_end group_at field_at fields_within fields_of occurrences_of last_of unknown_bytes_of fields_of_all value merged_message values numbered_values read
+unfolding is_utf8 chars encode groups_at varint_at span_at tag_at payload_at field_with behind_end
+    group_at field_at fields_within fields_of occurrences_of last_of unknown_bytes_of fields_of_all
+    value merged_message values numbered_values read
 unknown_relation = refl
 
 -- REPLACEMENT has the number 5
@@ -108,7 +116,9 @@ pub replacement :
           = None;
       unknown = [];
     })
-unfolding is_utf8 chars encode groups_at varint_at span_at tag_at payload_at field_with behind_end group_at field_at fields_within fields_of occurrences_of last_of unknown_bytes_of fields_of_all value merged_message values numbered_values read
+unfolding is_utf8 chars encode groups_at varint_at span_at tag_at payload_at field_with behind_end
+    group_at field_at fields_within fields_of occurrences_of last_of unknown_bytes_of fields_of_all
+    value merged_message values numbered_values read
 replacement = refl
 
 -- and the number 4 names nothing
@@ -124,7 +134,9 @@ pub no_fourth :
       unknown =
           (0x20 ∷ 0x04 ∷ []);
     })
-unfolding is_utf8 chars encode groups_at varint_at span_at tag_at payload_at field_with behind_end group_at field_at fields_within fields_of occurrences_of last_of unknown_bytes_of fields_of_all value merged_message values numbered_values read
+unfolding is_utf8 chars encode groups_at varint_at span_at tag_at payload_at field_with behind_end
+    group_at field_at fields_within fields_of occurrences_of last_of unknown_bytes_of fields_of_all
+    value merged_message values numbered_values read
 no_fourth = refl
 
 -- a vehicle with all that is known of it
@@ -169,7 +181,9 @@ pub bus_read :
     value vehicle_position ((0x0a ∷ 0x03 ∷ 0x0a ∷ 0x01 ∷ 0x54 ∷ 0x12 ∷ 0x0a ∷ 0x0d ∷ 0x00 ∷ 0x00
     ∷ 0x3e ∷ 0x42 ∷ 0x15 ∷ 0x00 ∷ 0x00 ∷ 0x04 ∷ 0xc1 ∷ 0x18 ∷ 0x03 ∷ 0x20 ∷ 0x02 ∷ 0x28 ∷ 0x05 ∷
     0x3a ∷ 0x01 ∷ 0x53 ∷ 0x42 ∷ 0x03 ∷ 0x0a ∷ 0x01 ∷ 0x42 ∷ []) ∷ []) ≡ Ok bus
-unfolding is_utf8 chars encode groups_at varint_at span_at tag_at payload_at field_with behind_end group_at field_at fields_within fields_of occurrences_of last_of unknown_bytes_of fields_of_all value merged_message values numbered_values read
+unfolding is_utf8 chars encode groups_at varint_at span_at tag_at payload_at field_with behind_end
+    group_at field_at fields_within fields_of occurrences_of last_of unknown_bytes_of fields_of_all
+    value merged_message values numbered_values read
 bus_read = refl
 
 -- and written
@@ -245,7 +259,9 @@ pub lift_read :
     value alert ((0x0a ∷ 0x04 ∷ 0x08 ∷ 0x01 ∷ 0x10 ∷ 0x02 ∷ 0x2a ∷ 0x0e ∷ 0x18 ∷ 0xfd ∷ 0xff ∷
     0xff ∷ 0xff ∷ 0xff ∷ 0xff ∷ 0xff ∷ 0xff ∷ 0xff ∷ 0x01 ∷ 0x2a ∷ 0x01 ∷ 0x53 ∷ 0x30 ∷ 0x08 ∷
     0x38 ∷ 0x0a ∷ 0x52 ∷ 0x05 ∷ 0x0a ∷ 0x03 ∷ 0x0a ∷ 0x01 ∷ 0x4c ∷ []) ∷ []) ≡ Ok lift
-unfolding is_utf8 chars encode groups_at varint_at span_at tag_at payload_at field_with behind_end group_at field_at fields_within fields_of occurrences_of last_of unknown_bytes_of fields_of_all value merged_message values numbered_values read
+unfolding is_utf8 chars encode groups_at varint_at span_at tag_at payload_at field_with behind_end
+    group_at field_at fields_within fields_of occurrences_of last_of unknown_bytes_of fields_of_all
+    value merged_message values numbered_values read
 lift_read = refl
 
 -- and written
@@ -260,7 +276,9 @@ lift_written = refl
 pub missing_below :
     value alert ((0x5a ∷ 0x04 ∷ 0x0a ∷ 0x02 ∷ 0x10 ∷ 0x01 ∷ []) ∷ []) ≡ Err (fault what.Missing
     kind.Translation 1)
-unfolding is_utf8 chars encode groups_at varint_at span_at tag_at payload_at field_with behind_end group_at field_at fields_within fields_of occurrences_of last_of unknown_bytes_of fields_of_all value merged_message values numbered_values read
+unfolding is_utf8 chars encode groups_at varint_at span_at tag_at payload_at field_with behind_end
+    group_at field_at fields_within fields_of occurrences_of last_of unknown_bytes_of fields_of_all
+    value merged_message values numbered_values read
 missing_below = refl
 
 -- without a header, an entity's fault comes first, with the entity's number
@@ -271,14 +289,18 @@ pub entity_first :
       kind = kind.FeedEntity;
       field = 1;
     })
-unfolding is_utf8 chars encode groups_at varint_at span_at tag_at payload_at field_with behind_end group_at field_at fields_within fields_of occurrences_of last_of unknown_bytes_of fields_of_all value merged_message values numbered_values read
+unfolding is_utf8 chars encode groups_at varint_at span_at tag_at payload_at field_with behind_end
+    group_at field_at fields_within fields_of occurrences_of last_of unknown_bytes_of fields_of_all
+    value merged_message values numbered_values read
 entity_first = refl
 
 -- a field that is cut off comes before any fault within an entity
 pub cut_first :
     read (0x12 ∷ 0x02 ∷ 0x22 ∷ 0x00 ∷ 0x12 ∷ 0x03 ∷ 0x0a ∷ []) ≡ Err (fault what.Cut
     kind.FeedMessage 0)
-unfolding is_utf8 chars encode groups_at varint_at span_at tag_at payload_at field_with behind_end group_at field_at fields_within fields_of occurrences_of last_of unknown_bytes_of fields_of_all value merged_message values numbered_values read
+unfolding is_utf8 chars encode groups_at varint_at span_at tag_at payload_at field_with behind_end
+    group_at field_at fields_within fields_of occurrences_of last_of unknown_bytes_of fields_of_all
+    value merged_message values numbered_values read
 cut_first = refl
 
 -- a message that says nothing but its version and when it was made
@@ -298,7 +320,9 @@ plain =
 -- its bytes are read
 pub plain_read :
     read (0x0a ∷ 0x07 ∷ 0x0a ∷ 0x03 ∷ 0x32 ∷ 0x2e ∷ 0x30 ∷ 0x18 ∷ 0x05 ∷ []) ≡ Ok plain
-unfolding is_utf8 chars encode groups_at varint_at span_at tag_at payload_at field_with behind_end group_at field_at fields_within fields_of occurrences_of last_of unknown_bytes_of fields_of_all value merged_message values numbered_values read
+unfolding is_utf8 chars encode groups_at varint_at span_at tag_at payload_at field_with behind_end
+    group_at field_at fields_within fields_of occurrences_of last_of unknown_bytes_of fields_of_all
+    value merged_message values numbered_values read
 plain_read = refl
 
 -- where it says nothing of its incrementality, it is a whole data set
@@ -322,7 +346,10 @@ bytes_under prefix (Err f) = []
 -- it comes out as it went in, under the empty prefix
 pub late_same :
     bytes_under [] (read late) ≡ late
-unfolding is_utf8 chars encode groups_at varint_at span_at tag_at payload_at field_with behind_end group_at field_at fields_within fields_of occurrences_of last_of unknown_bytes_of fields_of_all value merged_message values numbered_values read write message_bytes field_bytes payload_bytes varint groups
+unfolding is_utf8 chars encode groups_at varint_at span_at tag_at payload_at field_with behind_end
+    group_at field_at fields_within fields_of occurrences_of last_of unknown_bytes_of fields_of_all
+    value merged_message values numbered_values read write message_bytes field_bytes payload_bytes
+    varint groups
 late_same = refl
 
 -- and names the trip x-T1 under the prefix x-
@@ -332,5 +359,8 @@ pub late_renamed :
     0x1b ∷ 0x0a ∷ 0x10 ∷ 0x0a ∷ 0x04 ∷ 0x78 ∷ 0x2d ∷ 0x54 ∷ 0x31 ∷ 0x1a ∷ 0x08 ∷ 0x32 ∷ 0x30 ∷
     0x32 ∷ 0x35 ∷ 0x30 ∷ 0x33 ∷ 0x33 ∷ 0x30 ∷ 0x12 ∷ 0x07 ∷ 0x08 ∷ 0x01 ∷ 0x1a ∷ 0x03 ∷ 0x08 ∷
     0xac ∷ 0x02 ∷ []
-unfolding is_utf8 chars encode groups_at varint_at span_at tag_at payload_at field_with behind_end group_at field_at fields_within fields_of occurrences_of last_of unknown_bytes_of fields_of_all value merged_message values numbered_values read write message_bytes field_bytes payload_bytes varint groups
+unfolding is_utf8 chars encode groups_at varint_at span_at tag_at payload_at field_with behind_end
+    group_at field_at fields_within fields_of occurrences_of last_of unknown_bytes_of fields_of_all
+    value merged_message values numbered_values read write message_bytes field_bytes payload_bytes
+    varint groups
 late_renamed = refl

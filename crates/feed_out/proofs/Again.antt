@@ -9,11 +9,12 @@ use Rattle.std.proofs.lemmas.Bool.Decides.{nat_tests}
 use Rattle.std.proofs.lemmas.List.{map-append}
 use Rattle.std.proofs.lemmas.Str.{IsAscii-append, IsUtf8-from_ascii, is_utf8-from_IsUtf8}
 use Rattle.std.proofs.lemmas.Str.Ascii.{IsAscii-cons, IsAscii-nil}
+use Rattle.rt_types.specs.declared.enums.Incrementality.TheVariants.{FullDataset}
 use Rattle.text_defs.specs.Names.{is_name_byte, is_name}
 use Rattle.feed_defs.specs.declared.history.Entry.{Entry}
 use Rattle.feed_defs.specs.History.{Change, messages_of, WereRead}
 use Rattle.feed_defs.specs.Table.{read, write}
-use Rattle.feed_defs.proofs.DataSet.{ReadsAgain, WasSaid, data_set_again, entities_said}
+use Rattle.feed_defs.proofs.DataSet.{ReadsAgain, WasSaid, message_again, entities_said}
 use Rattle.feed_defs.proofs.RenamedAgain.{entity_under}
 use Rattle.feed_defs.proofs.Said.{held_each, each_of_feed}
 use Rattle.feed_defs.proofs.Sifted.{each_then, each_append}
@@ -68,12 +69,12 @@ module _ (prefix : List ℕ) (is_text : is_utf8 prefix ≡ true) where
           (each_append ReadsAgain (map (combined_entity prefix) (held_by one)) (map (combined_entity prefix) (held_in others)) (one_feed one named.0 fold.entities each.0) rest)
       chosen false rest = rest
 
-  pub message_again : (plan : ℕ) (feeds : List NamedFeed) (folds : List FeedFold) → AllByRecursion IsNameText feeds → AllByRecursion IsSaid folds
+  pub feed_again : (plan : ℕ) (feeds : List NamedFeed) (folds : List FeedFold) → AllByRecursion IsNameText feeds → AllByRecursion IsSaid folds
       → newest_of (schedule_feeds plan feeds folds) < 2 ^ 64 → length (write (feed_message prefix (schedule_feeds plan feeds folds))) < 2 ^ 64
       → read (write (feed_message prefix (schedule_feeds plan feeds folds))) ≡ Ok (feed_message prefix (schedule_feeds plan feeds folds))
-  message_again plan feeds folds named each low small =
+  feed_again plan feeds folds named each low small =
       let ours = schedule_feeds plan feeds folds in
-      data_set_again (newest_of ours) (map (combined_entity prefix) (held_in ours)) low (all_feeds plan 0 feeds folds named each) small
+      message_again FullDataset (newest_of ours) (map (combined_entity prefix) (held_in ours)) low (all_feeds plan 0 feeds folds named each) small
 
 -- ---- names are texts
 
@@ -104,6 +105,6 @@ pub bytes_again : (kept : HubKept) (plan : ℕ) (feeds : List HubFeed) (newest :
 unfolding feed_bytes
 bytes_again kept plan feeds newest bytes prefix is small its_prefix is_text sound its_feeds stamp low h were stands =
     ap read is
-    ∙ message_again (prefix_of kept.plans plan) (subst (λ p. is_utf8 p ≡ true) its_prefix is_text) plan kept.plans.feeds (folds_of kept) (names_text kept.plans.feeds sound.feed_named)
+    ∙ feed_again (prefix_of kept.plans plan) (subst (λ p. is_utf8 p ≡ true) its_prefix is_text) plan kept.plans.feeds (folds_of kept) (names_text kept.plans.feeds sound.feed_named)
     (subst (AllByRecursion IsSaid) (sym stands.feeds) (folds_said h were (length kept.plans.feeds)))
     (subst (λ n. n < 2 ^ 64) (stamp ∙ ap newest_of its_feeds) low) (subst (λ xs. length xs < 2 ^ 64) is small)

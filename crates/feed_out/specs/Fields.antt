@@ -1,4 +1,5 @@
--- The combined feed as it is written: a message of no entities, and the entities behind it as further fields.
+-- The combined feed as it is written: a message of no entities, and the entities behind it as
+-- further fields.
 use Rattle.std.specs.Prelude.{ℕ, List, [], Some, codes}
 use Rattle.rt_types.specs.declared.enums.Incrementality.{Incrementality}
 use Rattle.rt_types.specs.declared.message.FeedMessage.{FeedMessage}

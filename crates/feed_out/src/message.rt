@@ -42,7 +42,8 @@ pub fn push_combined(view: &HubView, plan: u32, out: &mut Vec<u8>) -> Result<(),
     ensures feed { OnOk result (out.new.items
         ≡ out.old.items ++ combined_feed view.now.plans plan (folds_of view.now)) }
     ensures stands { (h : List Entry) → StandsFor h view.now → OnOk result (out.new.items
-        ≡ out.old.items ++ combined_feed view.now.plans plan (fold_of (length view.now.plans.feeds) h)) }
+        ≡ out.old.items ++ combined_feed view.now.plans plan
+        (fold_of (length view.now.plans.feeds) h)) }
     ensures again { (h : List Entry) → WereRead h → StandsFor h view.now → OnOk result
         (read (combined_feed view.now.plans plan (folds_of view.now))
         ≡ Ok (schedule_message view.now.plans plan (folds_of view.now))) }

@@ -9,7 +9,8 @@ use Rattle.feed_permits.specs.declared.view.View.{View}
 -- What is true of what the holder of one seat knows. There is one desk, which knows how many keys
 -- were made. A key has a number below that many, which no other key has, and the word of its number
 -- is how often it was granted. No count and no lower bound is above the word of its number.
-pub record Fits (words : List ℕ) (desk made : ℕ) (owner : ℕ → ℕ) (seat : ℕ) (v : View) : Type 0 where
+pub record Fits (words : List ℕ) (desk made : ℕ) (owner : ℕ → ℕ) (seat : ℕ)
+    (v : View) : Type 0 where
   pub desk_is : v.deals ≡ true → (seat ≡ desk) × (v.made ≡ made)
   pub key_is : v.grants ≡ true → (v.number < made) × (owner v.number ≡ seat)
       × (slice_index words v.number ≡ v.granted)

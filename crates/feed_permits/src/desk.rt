@@ -56,8 +56,8 @@ impl Desk {
         Key { number, seat }
     }
 
-    /// The desk's count at the key's number is now at most what the key was granted. Nothing changes.
-    /// It takes no memory and waits for nobody.
+    /// The desk's count at the key's number is now at most what the key was granted. Nothing
+    /// changes. It takes no memory and waits for nobody.
     pub fn agree(&mut self, key: &mut Key)
         requires { key.old.table ≡ self.old.table }
         ensures desk { self.new ≡ self.old }
@@ -71,8 +71,8 @@ impl Desk {
         shared.load::<Tests>(&mut key.seat, 0);
     }
 
-    /// Adds one to the count at the key's number, and to what the key was granted. It takes no memory
-    /// and waits for nobody.
+    /// Adds one to the count at the key's number, and to what the key was granted. It takes no
+    /// memory and waits for nobody.
     pub fn raise(&mut self, key: &mut Key)
         requires table { key.old.table ≡ self.old.table }
         requires level { slice_index self.old.counts key.old.number ≡ key.old.granted }

@@ -1,7 +1,7 @@
 //! What the desk, a key, or a note from one to the other knows.
 
-/// What the holder of a seat at the table knows. No value of it is made: contracts alone see it, and
-/// an array stands there for a list of any length.
+/// What the holder of a seat at the table knows. No value of it is made: contracts alone see it,
+/// and an array stands there for a list of any length.
 pub struct View {
     /// It is the desk's, which hands out keys.
     pub deals: bool,

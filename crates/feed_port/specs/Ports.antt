@@ -21,8 +21,8 @@ IsDone None = Unit {0}
 IsDone (Some xs) = xs ≡ []
 
 -- What an ask did to the messages ahead, and what the buffer holds. A message is the first of them,
--- within the limit; one above it is too long, and a number above the limit is told of it; at the end
--- none is ahead.
+-- within the limit; one above it is too long, and a number above the limit is told of it; at the
+-- end none is ahead.
 abbrev pub Answers : PortAnswer → Ahead → Ahead → List ℕ → Type 0
 Answers Message before after held =
     (length held ≤ longest_message) × Gives before after (held ∷ [])

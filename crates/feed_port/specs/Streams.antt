@@ -59,8 +59,8 @@ IsExact Cut left faults faults' given = given ≡ answer.End
 abbrev pub EndsWithin : Option (List ℕ) → Type 0
 EndsWithin left = IfSome left (λ bytes. frame_at bytes ≡ CutFrame)
 
--- What becomes of the port: it is over behind a length above the limit and behind a failure. That is
--- its own where the source ended within a message, and else the source's, whose count rose.
+-- What becomes of the port: it is over behind a length above the limit and behind a failure. That
+-- is its own where the source ended within a message, and else the source's, whose count rose.
 abbrev pub NextStage : Stage → Option (List ℕ) → ℕ → ℕ → PortAnswer → Stage → Type 0
 NextStage Open left faults faults' answer.Message after = after ≡ Open
 NextStage Open left faults faults' (answer.TooLong n) after = after ≡ Over

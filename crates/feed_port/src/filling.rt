@@ -20,7 +20,8 @@ pub(crate) enum Filled {
     Failed,
 }
 
-/// Fills the empty buffer with so many bytes, for which it has room. They are read to where they stay.
+/// Fills the empty buffer with so many bytes, for which it has room. They are read to where they
+/// stay.
 pub(crate) fn fill<S: Source>(source: &mut S, into: &mut Buf, size: usize) -> Filled
     requires empty { into.old.bytes ≡ [] }
     requires room { size ≤ room_of into.old }

@@ -36,8 +36,8 @@ impl Model for MemoryPort {
 }
 
 impl MemoryPort {
-    /// A port of these messages. The asks whose numbers, from 1 on, are in `failing` fail, and leave
-    /// the messages. It takes no memory.
+    /// A port of these messages. The asks whose numbers, from 1 on, are in `failing` fail, and
+    /// leave the messages. It takes no memory.
     pub fn new(messages: Vec<Vec<u8>>, failing: Vec<u64>) -> MemoryPort
         ensures { result ≡ record {
           ahead = map (λ message. message.items) messages.items;

@@ -13,8 +13,8 @@ use hub_outside::Buf;
 pub enum PortAnswer {
     /// The buffer holds the next message.
     Message,
-    /// The next message has more than [`feed_defs::LONGEST_MESSAGE`] bytes, so many as far as they were seen. It
-    /// is gone.
+    /// The next message has more than [`feed_defs::LONGEST_MESSAGE`] bytes, so many as far as they
+    /// were seen. It is gone.
     TooLong(u64),
     /// No message is left.
     End,
@@ -24,15 +24,15 @@ pub enum PortAnswer {
 
 /// The messages of a feed, in their order.
 pub trait FeedPort: Drop {
-    // The messages that asks will hand in from here on, where the port tells them. One that is above
-    // the limit is answered as too long.
+    // The messages that asks will hand in from here on, where the port tells them. One that is
+    // above the limit is answered as too long.
     ghost ahead: { Self → Option (List (List ℕ)) };
 
     // How many asks failed so far.
     ghost faults: { Self → ℕ };
 
-    /// Takes the next message into the buffer, which is cleared first. It takes no memory, and leaves
-    /// the buffer with room for the longest message.
+    /// Takes the next message into the buffer, which is cleared first. It takes no memory, and
+    /// leaves the buffer with room for the longest message.
     fn next(&mut self, into: &mut Buf) -> PortAnswer
         requires room { longest_message ≤ room_of into.old }
         ensures room { longest_message ≤ room_of into.new }
@@ -41,8 +41,8 @@ pub trait FeedPort: Drop {
             (faults self.new) }
         ensures cause { HasPortCause result (faults self.old) (faults self.new) };
 
-    /// Hears why the message that was handed in last is refused. What is ahead stays, and so does the
-    /// count of faults. A port with no use for it does nothing.
+    /// Hears why the message that was handed in last is refused. What is ahead stays, and so does
+    /// the count of faults. A port with no use for it does nothing.
     fn hear(&mut self, _refusal: &Refusal)
         ensures ahead { ahead self.new ≡ ahead self.old }
         ensures faults { faults self.new ≡ faults self.old }

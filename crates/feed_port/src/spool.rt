@@ -17,8 +17,8 @@ use std::alloc::Global;
 /// The number behind that of the last file that may be there.
 const PAST_LAST: u32 = 1_000_000;
 
-/// A port over the files `000001.pb`, `000002.pb` and so on of a folder, up to the first that is absent.
-/// A file that could not be read is read again by the next ask.
+/// A port over the files `000001.pb`, `000002.pb` and so on of a folder, up to the first that is
+/// absent. A file that could not be read is read again by the next ask.
 #[derive(Drop)]
 pub struct SpoolPort<F> {
     files: F,

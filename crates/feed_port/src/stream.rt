@@ -23,9 +23,9 @@ pub(crate) enum Stage {
     Cut,
 }
 
-/// A port over a source of bytes: four bytes with the length of a message, the most significant first,
-/// then the message, and so on. Behind a length above the limit and behind a failure nothing more is
-/// read.
+/// A port over a source of bytes: four bytes with the length of a message, the most significant
+/// first, then the message, and so on. Behind a length above the limit and behind a failure nothing
+/// more is read.
 #[derive(Drop)]
 pub struct StreamPort<S> {
     source: S,
@@ -83,7 +83,8 @@ impl<S: Source + Send + Drop> FeedPort for StreamPort<S> {
     }
 }
 
-/// Reads the message in front of a source into the empty buffer, and tells where the stream stands then.
+/// Reads the message in front of a source into the empty buffer, and tells where the stream stands
+/// then.
 fn read_message<S: Source>(source: &mut S, into: &mut Buf) -> (PortAnswer, Stage)
     requires empty { into.old.bytes ≡ [] }
     requires room { longest_message ≤ room_of into.old }

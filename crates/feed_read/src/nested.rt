@@ -57,8 +57,8 @@ fn merged<M: Message>(alloc: Global, payloads: Spans<'_>) -> Result<Option<M>, R
     }
 }
 
-/// The payloads one after another, if there is one, or the first fault in them: each must be fields by
-/// itself.
+/// The payloads one after another, if there is one, or the first fault in them: each must be fields
+/// by itself.
 fn joined<M: Message>(alloc: Global, payloads: Spans<'_>) -> Result<Option<Vec<u8>>, ReadFault>
     ensures { MatchResult result (Joins M.table.kind payloads.entry)
         (λ e. IsCause (fields_of_all M.table.kind payloads.entry) (cause_of e)) }
@@ -90,8 +90,8 @@ pub(crate) fn shared<M: Message>(
     }
 }
 
-/// The messages with that of these bytes after them, which is filled where it stays; or the first fault in
-/// it.
+/// The messages with that of these bytes after them, which is filled where it stays; or the first
+/// fault in it.
 fn with_read<M: Message>(alloc: Global, bytes: &[u8], messages: Vec<M>) -> Result<Vec<M>, ReadFault>
     ensures { MatchResult result
         (λ all. Appends (value M.table (bytes.now ∷ [])) messages.items all.items)

@@ -9,7 +9,8 @@ use field_read::ReadFault;
 use rt_types::FeedMessage;
 use std::alloc::Global;
 
-/// The message of the bytes, or their first fault (GTFS Realtime 2.0; Protocol Buffers, "Encoding").
+/// The message of the bytes, or their first fault (GTFS Realtime 2.0; Protocol Buffers,
+/// "Encoding").
 #[tactic(auto, unfolding(feed_defs::specs::Table::read))]
 pub fn read_message(alloc: Global, bytes: &[u8]) -> Result<FeedMessage, ReadFault>
     ensures { AsDefined (λ x. x) cause_of (read bytes.now) result }

@@ -25,6 +25,10 @@ nothing_seen = record { fold = no_fold; overlay = no_overlay }
 pub record IsOver (t : Timetable) (seen : FeedSeen) : Type 0 where
   pub over : seen.overlay ≡ overlay_of t seen.fold.entities
 
+-- what is kept of a feed that says that, on a timetable
+abbrev pub seen_of : Timetable → FeedFold → FeedSeen
+seen_of t fold = record { fold = fold; overlay = overlay_of t fold.entities }
+
 -- The alerts are those of what it holds, and it sent no more messages than its last stamp is, which
 -- is no later than the last moment.
 abbrev pub AreKept : List Change → List Change → ℕ → ℕ → Type 0

@@ -5,7 +5,8 @@
 //! makes the view after one message more, and leaves the old one as it was, so that readers may go
 //! on with it; the two share what the message doesn't touch. Its clauses have a count of the walks
 //! over runs: at most two for each entity of the message. `FeedView::after` is the same for who
-//! doesn't count them.
+//! doesn't count them. `FeedView::build` makes the view of a table at once, on several threads, and
+//! `FeedView::after_whole` that after a whole data set.
 //!
 //! Next to the table of all that the feed holds it keeps the feed's alerts, so that a reader of
 //! alerts need not go over the whole table, and the overlay of its updates, so that a board need
@@ -19,4 +20,4 @@
 mod view;
 
 pub use std::alloc::AllocError as NoMemory;
-pub use view::FeedView;
+pub use view::{FeedView, is_whole};

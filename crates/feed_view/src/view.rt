@@ -1,12 +1,12 @@
 //! The view of a feed.
 
-ghost use Rattle.std.specs.Prelude.{◌≡◌, ◌+◌, ◌*◌, ◌<◌, ◌≤◌, [], length, IfOk, IsTrue};
+ghost use Rattle.std.specs.Prelude.{◌≡◌, ◌+◌, ◌*◌, ◌<◌, ◌≤◌, [], length, true, IfOk, IsTrue};
 ghost use Rattle.alert_select.specs.FeedAlerts.{alerts_of};
 ghost use Rattle.feed_defs.specs.History.{entities_after, is_full, stamp_of};
 ghost use Rattle.sched_types.specs.Timetable.{Timetable};
 ghost use Rattle.text_defs.specs.Moments.{last_moment, is_stamp};
 ghost use Rattle.board_defs.specs.Views.{fold_after};
-ghost use Rattle.feed_view.specs.Kept.{nothing_seen, IsOver};
+ghost use Rattle.feed_view.specs.Kept.{nothing_seen, seen_of, FeedSeen, IsOver};
 
 use crate::NoMemory;
 use alert_select::AlertIndex;
@@ -18,6 +18,7 @@ use sched_types::Plan;
 use std::alloc::Global;
 use std::marker::{Brand, Model};
 use std::sync::ledger::{Blank, Ledger};
+use std::thread::Threads;
 
 /// What is kept of a feed. A contract sees it as `FeedSeen`, and it never changes.
 #[derive(Drop)]
@@ -115,6 +116,58 @@ impl FeedView {
         uncounted::<Brand>(alloc, plan, old, message, Blank::new(1))
     }
 
+    /// The view of a feed of that timetable that holds what the table says, after so many messages,
+    /// of which the last had that stamp, in seconds since 1970; or out of memory. Whatever messages
+    /// left that table, stamp and count, their view is equal to this. Updates are matched and runs
+    /// are walked on as many threads as the machine has processors.
+    pub fn build(
+        rt: &(impl Threads + Sync),
+        alloc: Global,
+        plan: &Plan,
+        table: Table,
+        stamp: u64,
+        count: u64,
+    ) -> Result<FeedView, NoMemory>
+        requires few { count ≤ stamp }
+        requires moment { stamp ≤ last_moment }
+        ensures built { IfOk result (λ view. view ≡ seen_of plan.now
+            (record { count = count; stamp = stamp; entities = table })) }
+        ensures same { (seen : FeedSeen) → IsOver plan.now seen
+            → seen.fold ≡ record { count = count; stamp = stamp; entities = table }
+            → IfOk result (λ view. view ≡ seen) }
+    {
+        let alerts = AlertIndex::build(alloc, &table)?;
+        let overlay = Overlay::build_on(rt, alloc, plan, &table)?;
+        Ok(FeedView {
+            table,
+            alerts,
+            overlay,
+            stamp,
+            count,
+        })
+    }
+
+    /// What [`FeedView::after`] gives of a whole data set ([`is_whole`]), as [`FeedView::build`]
+    /// makes it.
+    pub fn after_whole(
+        rt: &(impl Threads + Sync),
+        alloc: Global,
+        plan: &Plan,
+        old: &FeedView,
+        message: FeedMessage,
+    ) -> Result<FeedView, NoMemory>
+        requires whole { is_full message ≡ true }
+        requires moment { IsTrue (is_stamp (stamp_of message)) }
+        requires newer { old.now.fold.stamp < stamp_of message }
+        ensures after { IfOk result (λ next. next.fold ≡ fold_after message old.now.fold) }
+        ensures over { IfOk result (λ next. IsOver plan.now next) }
+    {
+        let stamp = message.header.timestamp.unwrap_or(0);
+        let count = old.count() + 1;
+        let table = first_table(alloc, message)?;
+        FeedView::build(rt, alloc, plan, table, stamp, count)
+    }
+
     /// What the feed holds.
     pub fn table(&self) -> &Table
         ensures { result.now ≡ self.now.fold.entities }
@@ -163,7 +216,7 @@ struct Held {
 
 /// Whether a message is the whole data set of its feed (GTFS Realtime 2.0, FeedHeader,
 /// `incrementality`).
-fn is_whole(message: &FeedMessage) -> bool
+pub fn is_whole(message: &FeedMessage) -> bool
     ensures { result ≡ is_full message.now }
 {
     match message.header.incrementality {

@@ -1,4 +1,5 @@
-//! Which trip a message speaks of (GTFS Realtime 2.0, TripDescriptor), by rising number of its fields.
+//! Which trip a message speaks of (GTFS Realtime 2.0, TripDescriptor), by rising number of its
+//! fields.
 
 ghost use Rattle.feed_defs.specs.Table.{trip_descriptor};
 ghost use Rattle.feed_defs.specs.Renamed.{renamed_trip};

@@ -96,8 +96,8 @@ pub(crate) fn put_message<M: Message>(
     write_length(place, out)
 }
 
-/// Appends the tag of a message, and a byte that is kept for its length, which is known only behind its content:
-/// it is enough for most. Gives the place of that byte.
+/// Appends the tag of a message, and a byte that is kept for its length, which is known only behind
+/// its content: it is enough for most. Gives the place of that byte.
 pub(crate) fn open_message(number: u32, out: &mut Vec<u8>) -> Result<usize, NoMemory>
     requires { number ≤ 536870911 }
     ensures opened { IfOk result (λ place. IsOpened number place out.old.items out.new.items) }
@@ -151,7 +151,8 @@ pub(crate) fn put_shared<M: Message>(
     }
 }
 
-/// Appends the messages with the prefix before their ids of the timetable, each as a field of that number.
+/// Appends the messages with the prefix before their ids of the timetable, each as a field of that
+/// number.
 fn put_all<M: Message>(
     number: u32,
     messages: &[M],
@@ -162,7 +163,8 @@ fn put_all<M: Message>(
     requires last { number ≤ 536870911 }
     ensures written { OnOk result (out.new.items
         ≡ out.old.items
-        ++ flat_map field_bytes (write_all number M.table (map (M.renamed prefix.now) messages.now))) }
+        ++ flat_map field_bytes (write_all number M.table
+        (map (M.renamed prefix.now) messages.now))) }
     ensures begins { StartsWith out.old.items out.new.items }
 {
     for message in messages {
@@ -182,7 +184,8 @@ pub(crate) fn put_items<M: Message>(
     requires last { number ≤ 536870911 }
     ensures written { OnOk result (out.new.items
         ≡ out.old.items
-        ++ flat_map field_bytes (write_all number M.table (map (M.renamed prefix.now) messages.now))) }
+        ++ flat_map field_bytes (write_all number M.table
+        (map (M.renamed prefix.now) messages.now))) }
     ensures begins { StartsWith out.old.items out.new.items }
 {
     put_all(number, messages.as_slice(), prefix, out)

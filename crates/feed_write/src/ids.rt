@@ -75,7 +75,8 @@ pub(crate) fn put_joined(
     out.extend_from_slice(back.as_bytes())
 }
 
-/// The length of the three pieces together; none where it doesn't fit, as no memory could hold them.
+/// The length of the three pieces together; none where it doesn't fit, as no memory could hold
+/// them.
 fn joined_length(front: &str, middle: &str, back: &str) -> Option<usize>
     ensures { IfSome result (λ total. total ≡ length (front.now ++ (middle.now ++ back.now))) }
 {

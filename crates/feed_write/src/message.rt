@@ -12,8 +12,8 @@ pub(crate) trait Message {
     // The message with a prefix before its ids of the timetable.
     ghost renamed: { List ℕ → Self → Self };
 
-    /// Appends the bytes of the message with the prefix before each id of the timetable in it that is there and
-    /// isn't empty: its fields by rising number, and then those that it doesn't know.
+    /// Appends the bytes of the message with the prefix before each id of the timetable in it that
+    /// is there and isn't empty: its fields by rising number, and then those that it doesn't know.
     fn put(&self, prefix: &str, out: &mut Vec<u8>) -> Result<(), NoMemory>
         ensures written { OnOk result (out.new.items
             ≡ out.old.items ++ message_bytes table (renamed prefix.now self.now)) }

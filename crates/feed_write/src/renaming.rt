@@ -11,8 +11,8 @@ use rt_types::{
 };
 use std::alloc::Global;
 
-/// The entity with the prefix before each trip_id, route_id, stop_id, assigned_stop_id and agency_id in it that
-/// is there and isn't empty. Its own id, those of vehicles and all else stay.
+/// The entity with the prefix before each trip_id, route_id, stop_id, assigned_stop_id and
+/// agency_id in it that is there and isn't empty. Its own id, those of vehicles and all else stay.
 pub fn rename(alloc: Global, prefix: &str, entity: Entity) -> Result<Entity, NoMemory>
     ensures { IfOk result (λ same. same ≡ renamed_entity prefix.now entity) }
 {

@@ -1,4 +1,5 @@
-//! Positions of vehicles (GTFS Realtime 2.0, VehiclePosition), each a listing of its fields by rising number.
+//! Positions of vehicles (GTFS Realtime 2.0, VehiclePosition), each a listing of its fields by
+//! rising number.
 
 ghost use Rattle.feed_defs.specs.Table.{vehicle_descriptor, position, vehicle_position};
 ghost use Rattle.feed_defs.specs.Renamed.{renamed_vehicle};

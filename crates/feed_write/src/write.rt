@@ -16,8 +16,8 @@ use crate::message::Message;
 use pb_wire::write_length;
 use rt_types::{Entity, FeedMessage};
 
-/// Appends the bytes of the message. Want of memory leaves `out` as it was. A message that reading gives is
-/// read again from what is appended.
+/// Appends the bytes of the message. Want of memory leaves `out` as it was. A message that reading
+/// gives is read again from what is appended.
 pub fn write_message(message: &FeedMessage, out: &mut Vec<u8>) -> Result<(), NoMemory>
     ensures written { OnOk result (out.new.items ≡ out.old.items ++ write message.now) }
     ensures again { OnOk result ((bytes : List ℕ) → AreBytes bytes
@@ -32,9 +32,10 @@ pub fn write_message(message: &FeedMessage, out: &mut Vec<u8>) -> Result<(), NoM
     answer
 }
 
-/// Appends the entity as a field of its message (GTFS Realtime 2.0, FeedMessage), its own id under the name of its
-/// feed as `<feed>:<id>`, and the ids of the timetable in it behind the prefix. So a message grows entity by entity,
-/// and no entity is copied. Want of memory leaves `out` as it was.
+/// Appends the entity as a field of its message (GTFS Realtime 2.0, FeedMessage), its own id under
+/// the name of its feed as `<feed>:<id>`, and the ids of the timetable in it behind the prefix. So
+/// a message grows entity by entity, and no entity is copied. Want of memory leaves `out` as it
+/// was.
 pub fn write_under_feed(
     feed: &str,
     prefix: &str,

@@ -17,9 +17,9 @@ use thiserror::Error;
 /// Why bytes give no message.
 #[derive(Debug, Drop, Error)]
 pub enum ReadFault {
-    /// The first fault of the bytes. Entities are numbered from 1 in the order of the message, up to
-    /// 4294967295, at which the count stays; 0 stands for all that is in no entity. Field 0 stands for the
-    /// whole message.
+    /// The first fault of the bytes. Entities are numbered from 1 in the order of the message, up
+    /// to 4294967295, at which the count stays; 0 stands for all that is in no entity. Field 0
+    /// stands for the whole message.
     #[error("entity {entity}: {what:?} in {kind:?}, field {field}")]
     Malformed {
         /// The number of the entity that it is in, or 0.

@@ -58,8 +58,8 @@ impl<'a> Iterator for Parts<'a> {
     }
 }
 
-/// The runs of bytes under one number, one after another. A contract sees the list of those that are
-/// left.
+/// The runs of bytes under one number, one after another. A contract sees the list of those that
+/// are left.
 #[derive(Drop)]
 pub struct Spans<'a> {
     number: u32,

@@ -3,9 +3,9 @@
 //!
 //! `Slots` notes what occurs under each number while the fields of a message are read, each of them
 //! once. `Fields` are those fields with their slots: what occurs once under its number is found in
-//! its slot, and only what occurs there several times is gone over again. The numbers on the wire are
-//! `impl`s of `Scalar`, the enums among them; `last` gives the value that counts of a number, `text`
-//! of a text, or that it isn't UTF-8. `ReadFault` is why a message can't be read.
+//! its slot, and only what occurs there several times is gone over again. The numbers on the wire
+//! are `impl`s of `Scalar`, the enums among them; `last` gives the value that counts of a number,
+//! `text` of a text, or that it isn't UTF-8. `ReadFault` is why a message can't be read.
 //!
 //! It stands on `pb_wire` for the fields and on `feed_defs` for what they say.
 #![tactic(auto)]

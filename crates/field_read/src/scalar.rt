@@ -1,4 +1,5 @@
-//! The kinds of fields that are numbers on the wire (Protocol Buffers, "Encoding", "More Integer Types").
+//! The kinds of fields that are numbers on the wire (Protocol Buffers, "Encoding", "More Integer
+//! Types").
 
 ghost use Rattle.std.specs.Prelude.{◌≡◌, ℕ, ◌%◌, ◌^◌, Option, is_some};
 ghost use Rattle.std.specs.Option.{option_and_then};

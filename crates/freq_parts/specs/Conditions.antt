@@ -7,8 +7,8 @@ use Rattle.sched_types.specs.Timetable.{Timetable, IsTimetable, places_of}
 use Rattle.sched_load_defs.specs.Files.{most_rows}
 use Rattle.sched_load_defs.specs.References.{has_id}
 
--- The trips are those of trips.txt, each once, with as many places as stop_times.txt has rows at most, at times
--- that a file may have.
+-- The trips are those of trips.txt, each once, with as many places as stop_times.txt has rows at
+-- most, at times that a file may have.
 pub record IsPlain (t : Timetable) : Type 0 where
   pub timetable : IsTimetable t
   pub no_patterns : t.patterns ≡ []

@@ -18,8 +18,8 @@ all_of patterns others derived = by_id id_of (joined patterns others derived)
 abbrev pub key_of : Derived → ℕ × ℕ
 key_of derived = (derived.pattern, derived.start)
 
--- No two of all trips have one id, and no two derived ones have one pattern and one start; there are
--- few of all, and few places of each pattern.
+-- No two of all trips have one id, and no two derived ones have one pattern and one start; there
+-- are few of all, and few places of each pattern.
 pub record CanJoin (patterns others : List TimedTrip) (derived : List Derived) : Type 0 where
   pub ids : Differ text_cmp id_of (joined patterns others derived)
   pub starts : Differ start_cmp key_of derived

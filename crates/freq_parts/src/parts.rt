@@ -21,8 +21,8 @@ use rt_types::Text;
 use sched_types::PlanParts;
 use std::alloc::Global;
 
-/// The trips that the rows derive of the patterns, where `taken` are the ids that are there already; or their first
-/// fault.
+/// The trips that the rows derive of the patterns, where `taken` are the ids that are there
+/// already; or their first fault.
 fn derived_of(
     alloc: Global,
     patterns: &[TimedTrip],
@@ -72,8 +72,9 @@ fn with_rows(
     })
 }
 
-/// The lists of a timetable with the trips that the rows derive in place of those that they name; or the first fault of
-/// the rows: more places of derived trips than a timetable may have, or an id that is there already.
+/// The lists of a timetable with the trips that the rows derive in place of those that they name;
+/// or the first fault of the rows: more places of derived trips than a timetable may have, or an id
+/// that is there already.
 pub fn with_frequencies(
     alloc: Global,
     parts: PlanParts,

@@ -1,6 +1,7 @@
--- The trips that frequencies.txt derives (GTFS Schedule, frequencies.txt). A trip that the file names is a
--- pattern: its stop times say how long it takes from stop to stop, and not when it runs. A row with
--- exact_times 1 has it begin at start_time, and then every headway_secs as long as this is before end_time.
+-- The trips that frequencies.txt derives (GTFS Schedule, frequencies.txt). A trip that the file
+-- names is a pattern: its stop times say how long it takes from stop to stop, and not when it runs.
+-- A row with exact_times 1 has it begin at start_time, and then every headway_secs as long as this
+-- is before end_time.
 use Rattle.std.specs.Prelude.{ℕ, ◌+◌, ◌-◌, ◌*◌, ◌/◌, ◌%◌, ◌<◌, ◌≤◌, ◌&&◌, nat_le, nat_lt, List, [], ◌∷◌, ◌++◌, length, map, filter, codes, Option, Some, None, slice_get, if◌then◌else◌, ⊤}
 use Rattle.std.specs.Fmt.{decimal}
 use Rattle.std.specs.List.{range_with_len}
@@ -13,8 +14,9 @@ use Rattle.freq_runs.specs.declared.rows.Derived.{Derived}
 abbrev pub time_end : ℕ
 time_end = 3_600_000
 
--- The starts of a row, in seconds of the service day: start_time and x headways, as long as this is below
--- end_time. A headway is a second at least, so there is none for an x of end_time - start_time or more.
+-- The starts of a row, in seconds of the service day: start_time and x headways, as long as this is
+-- below end_time. A headway is a second at least, so there is none for an x of end_time -
+-- start_time or more.
 abbrev pub starts_of : Frequency → List ℕ
 starts_of row = filter
     (λ start. nat_lt start row.end)
@@ -31,7 +33,8 @@ clock_text seconds =
     two_digits (seconds / 3600)
     ++ (codes ":" ++ (two_digits (seconds / 60 % 60) ++ (codes ":" ++ two_digits (seconds % 60))))
 
--- the id of the trip that a pattern gives at a start: <trip_id>@HH:MM:SS. Its form is this project's
+-- the id of the trip that a pattern gives at a start: <trip_id>@HH:MM:SS. Its form is this
+-- project's
 abbrev pub derived_id : List ℕ → ℕ → List ℕ
 derived_id id start = id ++ (codes "@" ++ clock_text start)
 
@@ -42,8 +45,8 @@ moved departure start place = record {
   departure = place.departure - departure + start;
 }
 
--- the times of a trip that begins at the start: it is at its first place then, and takes from there on as
--- long as the pattern does from its first departure on
+-- the times of a trip that begins at the start: it is at its first place then, and takes from there
+-- on as long as the pattern does from its first departure on
 abbrev pub times_from : List PlaceTime → ℕ → List PlaceTime
 times_from [] start = []
 times_from (first ∷ rest) start =
@@ -58,7 +61,8 @@ trip_at number pattern start = record {
   times = times_from pattern.times start;
 }
 
--- the trips of a row: none where its times aren't exact, or where the pattern has fewer than two places
+-- the trips of a row: none where its times aren't exact, or where the pattern has fewer than two
+-- places
 abbrev pub trips_of_pattern : Pattern → Frequency → List Derived
 trips_of_pattern pattern row =
     if row.exact && nat_le 2 (length pattern.times)
@@ -84,7 +88,8 @@ pub record CanMove (departure : ℕ) (place : PlaceTime) : Type 0 where
   pub arrives_early : place.arrival < time_end
   pub departs_early : place.departure < time_end
 
--- these places come after a time, each is reached before it is left, and left before the next is reached
+-- these places come after a time, each is reached before it is left, and left before the next is
+-- reached
 abbrev pub ComeAfter : ℕ → List PlaceTime → Type 0
 ComeAfter time [] = ⊤
 ComeAfter time (place ∷ places) =

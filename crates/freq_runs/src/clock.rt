@@ -16,7 +16,8 @@ fn clock_text(alloc: Global, seconds: u32) -> Result<String, NoMemory>
     format!(in alloc; "{hours:02}:{minutes:02}:{seconds:02}")
 }
 
-/// The id of the trip that the pattern with that id gives at a start, in seconds of the service day.
+/// The id of the trip that the pattern with that id gives at a start, in seconds of the service
+/// day.
 pub(crate) fn derived_id(alloc: Global, id: &str, start: u32) -> Result<String, NoMemory>
     ensures { IfOk result (λ text. string_bytes text ≡ derived_id id.now start) }
 {

@@ -15,8 +15,8 @@ use rt_types::Text;
 use std::alloc::Global;
 use std::collections::BTreeSet;
 
-/// The trips that the rows derive of their patterns, in order, where `taken` are the ids of other trips; or
-/// the first fault.
+/// The trips that the rows derive of their patterns, in order, where `taken` are the ids of other
+/// trips; or the first fault.
 pub fn derive(
     alloc: Global,
     patterns: &[Pattern],

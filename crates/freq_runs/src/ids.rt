@@ -25,7 +25,8 @@ pub(crate) fn taken_ids<'a>(
     Ok(ids)
 }
 
-/// Adds an id to those of derived trips, and tells whether it is a new one. One that is taken isn't added.
+/// Adds an id to those of derived trips, and tells whether it is a new one. One that is taken isn't
+/// added.
 fn adds_id(
     alloc: Global,
     taken: &BTreeMap<&str, ()>,
@@ -43,8 +44,8 @@ fn adds_id(
     Ok(ids.insert(key)?)
 }
 
-/// Adds the ids of trips to those of the trips that were derived before, and tells whether each is a new
-/// one.
+/// Adds the ids of trips to those of the trips that were derived before, and tells whether each is
+/// a new one.
 pub(crate) fn adds_ids(
     alloc: Global,
     taken: &BTreeMap<&str, ()>,
@@ -52,7 +53,8 @@ pub(crate) fn adds_ids(
     trips: &[Derived],
 ) -> Result<bool, NoMemory>
     ensures { (others before : List (List ℕ)) → AreKeys taken.now others → AreIn ids.old before
-        → IfOk result (λ are_new. (are_new ≡ not (comes_again (others ++ before) (ids_of trips.now)))
+        → IfOk result (λ are_new.
+        (are_new ≡ not (comes_again (others ++ before) (ids_of trips.now)))
         × OnTrue are_new (AreIn ids.new (before ++ ids_of trips.now))) }
 {
     for trip in trips {

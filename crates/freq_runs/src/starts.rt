@@ -10,8 +10,8 @@ use crate::rows::{Frequency, Pattern};
 /// The most places that derived trips may have in all.
 pub const MOST_PLACES: u64 = 4_000_000;
 
-/// How often the row would start, were it exact: at `start`, and after each headway, as long as this is
-/// below `end`.
+/// How often the row would start, were it exact: at `start`, and after each headway, as long as
+/// this is below `end`.
 fn starts(row: &Frequency) -> u32
     requires { 1 ≤ row.now.headway }
     ensures starts { starts_of row.now ≡ map

@@ -4,8 +4,8 @@ ghost use Rattle.std.specs.Prelude.{◌≡◌};
 
 use std::marker::Model;
 
-/// When a trip is at a place, in seconds since noon less twelve hours of the service day, which may pass
-/// 24 hours (GTFS Schedule, "Field Types", Time).
+/// When a trip is at a place, in seconds since noon less twelve hours of the service day, which may
+/// pass 24 hours (GTFS Schedule, "Field Types", Time).
 #[derive(Clone, Copy, Debug, PartialEq, Eq)]
 pub struct PlaceTime {
     /// When the place is reached, in seconds.

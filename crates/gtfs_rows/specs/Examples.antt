@@ -97,14 +97,16 @@ extra : rows_of trips (0xEF ∷ 0xBB ∷ 0xBF
     }
     ∷ []
     )
-unfolding rows_of records_from next_record strip_bom rows_from trimmed_text cell_value number digits_number is_utf8 chars encode
+unfolding rows_of records_from next_record strip_bom rows_from trimmed_text cell_value number
+    digits_number is_utf8 chars encode
 extra = refl
 
 -- of equal names the first counts
 equal_names : rows_of exceptions
     (codes "date,service_id,date,exception_type\n20250330,WK,never,2\n")
     ≡ Ok (record { service_id = codes "WK"; date = 20250330; exception_type = 2 } ∷ [])
-unfolding rows_of records_from next_record strip_bom rows_from trimmed_text cell_value date date_in is_day number digits_number is_utf8 chars encode
+unfolding rows_of records_from next_record strip_bom rows_from trimmed_text cell_value date date_in
+    is_day number digits_number is_utf8 chars encode
 equal_names = refl
 
 -- a file of no bytes has no columns, which agency.txt may do without
@@ -115,19 +117,22 @@ no_bytes = refl
 -- the first missing column in the order of the table
 two_missing : rows_of exceptions (codes "exception_type\nx\n")
     ≡ Err (fault.MissingColumn column.ServiceId)
-unfolding rows_of records_from next_record strip_bom rows_from trimmed_text cell_value date date_in is_day number digits_number is_utf8 chars encode
+unfolding rows_of records_from next_record strip_bom rows_from trimmed_text cell_value date date_in
+    is_day number digits_number is_utf8 chars encode
 two_missing = refl
 
 -- an id that is empty, before a date that is bad
 empty_id : rows_of exceptions (codes "service_id,date,exception_type\nWK,20250330,1\n ,x,2\n")
     ≡ Err (fault.BadValue 3 column.ServiceId)
-unfolding rows_of records_from next_record strip_bom rows_from trimmed_text cell_value date date_in is_day number digits_number is_utf8 chars encode
+unfolding rows_of records_from next_record strip_bom rows_from trimmed_text cell_value date date_in
+    is_day number digits_number is_utf8 chars encode
 empty_id = refl
 
 -- bytes that are no text, in a column of numbers too
 no_text : rows_of exceptions (codes "service_id,date,exception_type\nWK,20250330," ++ 0xFF ∷ [])
     ≡ Err (fault.NotText 2 column.ExceptionType)
-unfolding rows_of records_from next_record strip_bom rows_from trimmed_text cell_value date date_in is_day number digits_number is_utf8 chars encode
+unfolding rows_of records_from next_record strip_bom rows_from trimmed_text cell_value date date_in
+    is_day number digits_number is_utf8 chars encode
 no_text = refl
 
 -- the last row of data that a file may have, and one more
@@ -148,12 +153,14 @@ headway : rows_of frequencies
     }
     ∷ []
     )
-unfolding rows_of records_from next_record strip_bom rows_from trimmed_text cell_value time_in number digits_number is_utf8 chars encode
+unfolding rows_of records_from next_record strip_bom rows_from trimmed_text cell_value time_in
+    number digits_number is_utf8 chars encode
 headway = refl
 
 -- an end that is empty, before a headway of 0
 no_end : rows_of frequencies
     (codes "trip_id,start_time,end_time,headway_secs,exact_times\nT2,9:00:00,,0,1\n")
     ≡ Err (fault.BadValue 2 column.EndTime)
-unfolding rows_of records_from next_record strip_bom rows_from trimmed_text cell_value time_in number digits_number is_utf8 chars encode
+unfolding rows_of records_from next_record strip_bom rows_from trimmed_text cell_value time_in
+    number digits_number is_utf8 chars encode
 no_end = refl

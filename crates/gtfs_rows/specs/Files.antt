@@ -1,4 +1,5 @@
--- What the rows of a file are, or its first fault, from the records into which `csv` cuts its bytes.
+-- What the rows of a file are, or its first fault, from the records into which `csv` cuts its
+-- bytes.
 use Rattle.std.specs.Prelude.{ℕ, Bool, ◌||◌, ◌==◌, nat_le, if◌then◌else◌, bytes_eq, is_none, List, [], ◌∷◌, map, slice_index_or, Option, Some, None, Result, Err, Vec}
 use Rattle.std.specs.List.{position_from, enumerate_from}
 use Rattle.answer_defs.specs.Choices.{or_else}

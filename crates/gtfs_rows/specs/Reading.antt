@@ -20,7 +20,8 @@ records_of s (Some bytes) = records_from default_config (length bytes + 1) s byt
 abbrev pub records_left : Reader (Bor (List ℕ)) → List (List (List ℕ))
 records_left reader = records_of (reader_state reader) (bytes_left reader)
 
--- a reader with `csv`'s defaults, but for the header row, that stands between two records of known bytes
+-- a reader with `csv`'s defaults, but for the header row, that stands between two records of known
+-- bytes
 pub record IsReading (reader : Reader (Bor (List ℕ))) : Type 0 where
   pub trim : reader_trim reader ≡ trim.None
   pub ready : Ready reader

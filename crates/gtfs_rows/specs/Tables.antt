@@ -20,7 +20,8 @@ use Rattle.gtfs_rows.specs.declared.rows.ExceptionRow.{ExceptionRow}
 use Rattle.gtfs_rows.specs.declared.rows.FrequencyRow.{FrequencyRow}
 
 infixr 30 ◌⊕◌
--- columns side by side: their headings, and what they say in a row, of which the cell of each column is given
+-- columns side by side: their headings, and what they say in a row, of which the cell of each
+-- column is given
 pub record Columns (V : Type 0) : Type 0 where
   pub headings : List Heading
   pub read : ℕ → (Column → List ℕ) → Result V RowFault

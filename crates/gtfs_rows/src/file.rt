@@ -64,7 +64,8 @@ fn read_data<R: Row>(
     Ok(rows)
 }
 
-/// Reads the header of a file and says whether there is one: a file without records has an empty one.
+/// Reads the header of a file and says whether there is one: a file without records has an empty
+/// one.
 pub(crate) fn read_header(
     reader: &mut Reader<&[u8]>,
     header: &mut ByteRecord,

@@ -1,11 +1,11 @@
 //! The rows of the eight files of a GTFS timetable.
 //!
-//! There is one reader per file. It takes the bytes of the file and gives its rows, or the first fault:
-//! a column that is missing, a field that isn't UTF-8 or isn't of its column's form, more than 4,000,000
-//! rows. The definitions are in `specs/`: `Tables` has the columns of each file, `Values` the forms of
-//! their fields, `Files` what the rows of a file are. Each reader answers by them exactly, and only want
-//! of memory may come in place of an answer. What a reference from one file to another means, and which
-//! rows are duplicates, is for the layer above.
+//! There is one reader per file. It takes the bytes of the file and gives its rows, or the first
+//! fault: a column that is missing, a field that isn't UTF-8 or isn't of its column's form, more
+//! than 4,000,000 rows. The definitions are in `specs/`: `Tables` has the columns of each file,
+//! `Values` the forms of their fields, `Files` what the rows of a file are. Each reader answers by
+//! them exactly, and only want of memory may come in place of an answer. What a reference from one
+//! file to another means, and which rows are duplicates, is for the layer above.
 //!
 //! The crate stands on `csv`, which cuts the bytes into records, and on nothing of this repository.
 #![tactic(auto)]
@@ -55,8 +55,8 @@ pub fn read_stops(alloc: Global, bytes: &[u8]) -> Result<Vec<StopRow>, RowFault>
 
 /// The rows of routes.txt in their order, or the first fault of the file.
 ///
-/// `route_id` and `route_type` must be there; `agency_id`, `route_short_name` and `route_long_name` may be
-/// absent.
+/// `route_id` and `route_type` must be there; `agency_id`, `route_short_name` and `route_long_name`
+/// may be absent.
 pub fn read_routes(alloc: Global, bytes: &[u8]) -> Result<Vec<RouteRow>, RowFault>
     ensures { AsDefined items_of cause_of (rows_of routes bytes.now) result }
 {
@@ -65,7 +65,8 @@ pub fn read_routes(alloc: Global, bytes: &[u8]) -> Result<Vec<RouteRow>, RowFaul
 
 /// The rows of trips.txt in their order, or the first fault of the file.
 ///
-/// `trip_id`, `route_id` and `service_id` must be there; `trip_headsign` and `direction_id` may be absent.
+/// `trip_id`, `route_id` and `service_id` must be there; `trip_headsign` and `direction_id` may be
+/// absent.
 pub fn read_trips(alloc: Global, bytes: &[u8]) -> Result<Vec<TripRow>, RowFault>
     ensures { AsDefined items_of cause_of (rows_of trips bytes.now) result }
 {

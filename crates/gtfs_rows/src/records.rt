@@ -9,7 +9,8 @@ use crate::fault::RowFault;
 use csv::{ByteRecord, Reader, ReaderBuilder};
 use std::alloc::Global;
 
-/// A reader of all records of a file, the header being an ordinary one. Records may have any length.
+/// A reader of all records of a file, the header being an ordinary one. Records may have any
+/// length.
 pub(crate) fn open(alloc: Global, bytes: &[u8]) -> Reader<&[u8]>
     ensures reading { IsReading result }
     ensures left { records_left result ≡ records default_config (strip_bom bytes.entry.now) }

@@ -1,8 +1,9 @@
 //! The rows of the eight files, one struct a file, whose fields are named as their columns.
 //!
-//! The fields stand in the order in which the columns are judged. A text is without spaces and tabs at
-//! both ends, and empty where its column is absent or its field empty; an id other than `agency_id` of
-//! agency.txt and routes.txt is never empty. A number is 1 to 10 decimal digits in the file.
+//! The fields stand in the order in which the columns are judged. A text is without spaces and tabs
+//! at both ends, and empty where its column is absent or its field empty; an id other than
+//! `agency_id` of agency.txt and routes.txt is never empty. A number is 1 to 10 decimal digits in
+//! the file.
 
 use texts::ShortText as CellText;
 
@@ -47,9 +48,9 @@ pub struct TripRow {
 
 /// A row of stop_times.txt.
 ///
-/// The two times are as they stand in the file, in seconds after noon minus twelve hours, and may pass
-/// a day: an empty one is `None`. That an empty time of a row takes the other time of that row is for
-/// the reader of the whole timetable to do.
+/// The two times are as they stand in the file, in seconds after noon minus twelve hours, and may
+/// pass a day: an empty one is `None`. That an empty time of a row takes the other time of that row
+/// is for the reader of the whole timetable to do.
 #[derive(Debug, Drop)]
 pub struct StopTimeRow {
     pub trip_id: CellText,
@@ -61,8 +62,8 @@ pub struct StopTimeRow {
     pub pickup_type: Option<u32>,
 }
 
-/// A row of calendar.txt. A weekday is 1 where the service runs on it and 0 where it doesn't; a date is
-/// the number of its eight digits, as 20250330.
+/// A row of calendar.txt. A weekday is 1 where the service runs on it and 0 where it doesn't; a
+/// date is the number of its eight digits, as 20250330.
 #[derive(Debug, Drop)]
 pub struct CalendarRow {
     pub service_id: CellText,
@@ -86,7 +87,8 @@ pub struct ExceptionRow {
     pub exception_type: u32,
 }
 
-/// A row of frequencies.txt, whose times are in seconds after noon minus twelve hours, and may pass a day.
+/// A row of frequencies.txt, whose times are in seconds after noon minus twelve hours, and may pass
+/// a day.
 #[derive(Debug, Drop)]
 pub struct FrequencyRow {
     pub trip_id: CellText,

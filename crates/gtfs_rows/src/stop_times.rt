@@ -50,8 +50,8 @@ impl<'a> StopTimes<'a> {
         })
     }
 
-    /// The next row, or the first fault of the rows to come. Where there is no row, or a fault, the reader
-    /// may not be asked again.
+    /// The next row, or the first fault of the rows to come. Where there is no row, or a fault, the
+    /// reader may not be asked again.
     pub fn next(&mut self, alloc: Global) -> Result<Option<StopTimeRow>, RowFault>
         requires { IsOpen self.old }
         ensures gives { GivesRow (rows_to_come self.old) result (rows_to_come self.new) }

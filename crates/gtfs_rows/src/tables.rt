@@ -1,4 +1,5 @@
-//! The columns of each file, in the order in which they are judged, and how a row is made of its cells.
+//! The columns of each file, in the order in which they are judged, and how a row is made of its
+//! cells.
 
 ghost use Rattle.std.specs.Prelude.{◌≡◌};
 ghost use Rattle.answer_defs.specs.Defined.{AsDefined};

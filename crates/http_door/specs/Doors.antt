@@ -19,7 +19,8 @@ returned visits = map (λ v. (v.input_left, v.output_left)) visits
 
 -- the links that were served were the first ahead, in order, and stand behind those that were given
 -- back before; as many are out as before
-pub record LinksMoved {I O : Type 0} (old new : Links I O) (visits : List (Visit I O)) : Type 0 where
+pub record LinksMoved {I O : Type 0} (old new : Links I O)
+    (visits : List (Visit I O)) : Type 0 where
   pub ahead : old.ahead ≡ taken visits ++ new.ahead
   pub done : new.done ≡ old.done ++ returned visits
   pub out : new.out ≡ old.out

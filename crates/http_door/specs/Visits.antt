@@ -7,8 +7,8 @@ use Rattle.http_serve.specs.declared.session.End.{End}
 use Rattle.http_serve.specs.Setting.{Setting, setting}
 use Rattle.http_serve.specs.Serves.{Serves}
 
--- what contracts see of the two ends of a link: the bytes that a source has left and its faults, the
--- bytes that a sink took and its faults
+-- what contracts see of the two ends of a link: the bytes that a source has left and its faults,
+-- the bytes that a sink took and its faults
 pub record Ends (I O : Type 0) : Type 0 where
   pub left : I → Option (List ℕ)
   pub faults : I → ℕ
@@ -24,9 +24,9 @@ ends left faults written write_faults = record {
   write_faults = write_faults;
 }
 
--- what goes on from link to link: the readings ahead of the clock, of the oracle its timetables, its
--- history, how often it was looked at, and whether its history stands still; and the views that are
--- kept of the last looks
+-- what goes on from link to link: the readings ahead of the clock, of the oracle its timetables,
+-- its history, how often it was looked at, and whether its history stands still; and the views that
+-- are kept of the last looks
 pub record Hub : Type 0 where
   pub ahead : Option (List ℕ)
   pub plans : Schedules

@@ -34,8 +34,8 @@ pub enum Taken {
 #[derive(Drop)]
 pub struct RequestReader {
     buffer: Vec<u8>,
-    // The bytes held are those between these places of the buffer. Taking a request doesn't move what
-    // came after it: that is done once, before more is read.
+    // The bytes held are those between these places of the buffer. Taking a request doesn't move
+    // what came after it: that is done once, before more is read.
     start: usize,
     filled: usize,
     headers: Vec<HeaderSpan>,

@@ -21,7 +21,8 @@ struct Given {
     since: Option<Text>,
 }
 
-/// Sets the place to the value of a pair, if the pair has the name and nothing set the place before.
+/// Sets the place to the value of a pair, if the pair has the name and nothing set the place
+/// before.
 fn note(
     alloc: Global,
     name: &str,
@@ -95,7 +96,8 @@ fn is_json(format: &Option<Text>) -> Option<bool>
     }
 }
 
-/// What the values ask of a board or of alerts, or none where one of them has another form or is out of range.
+/// What the values ask of a board or of alerts, or none where one of them has another form or is
+/// out of range.
 #[tactic(auto, unfolding(http_defs::specs::Targets::choices_in))]
 fn choices_of(given: &Given) -> Option<Choices>
     ensures { (form : List ℕ) → IsGiven form given.now → result ≡ rule.choices_in form }
@@ -116,8 +118,8 @@ pub(crate) fn choices_in(alloc: Global, form: &[u8]) -> Result<Option<Choices>, 
     Ok(choices_of(&given))
 }
 
-/// The number of 1 to 20 digits that a value is, `Some(None)` where there is no value, and `None` where it has another
-/// form or more than 64 bits.
+/// The number of 1 to 20 digits that a value is, `Some(None)` where there is no value, and `None`
+/// where it has another form or more than 64 bits.
 fn look_or_none(since: &Option<Text>) -> Option<Option<u64>>
     ensures { result ≡ rule.look_or_none since.now }
 {
@@ -130,8 +132,8 @@ fn look_or_none(since: &Option<Text>) -> Option<Option<u64>>
     }
 }
 
-/// The look since which a form asks for changes, `Some(None)` where it asks for none, and `None` where its value has
-/// another form or is out of range.
+/// The look since which a form asks for changes, `Some(None)` where it asks for none, and `None`
+/// where its value has another form or is out of range.
 #[tactic(auto, unfolding(http_defs::specs::Targets::since_in))]
 pub(crate) fn since_in(alloc: Global, form: &[u8]) -> Result<Option<Option<u64>>, NoMemory>
     ensures { IfOk result (λ since. since ≡ rule.since_in form.now) }

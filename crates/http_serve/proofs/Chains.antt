@@ -26,24 +26,10 @@ pub goes_on_longer : (old new : List Entry) → GoesOn old new → length old �
 goes_on_longer old new g = omega (arith, length-append old g.more, ap length g.is)
 
 pub hub_stays : (a : Setting) → HubGoesOn a a
-hub_stays a = record {
-  history_goes_on = record { more = []; is = sym (append-nil a.history) };
-  steady_history_stays = λ _. refl;
-  steadiness_stays = refl;
-  plans_stay = refl;
-}
+hub_stays a = grind (arith, append-nil)
 
 pub hub_on : (a b c : Setting) → HubGoesOn a b → HubGoesOn b c → HubGoesOn a c
-hub_on a b c x y = record {
-  history_goes_on = record {
-    more = x.history_goes_on.more ++ y.history_goes_on.more;
-    is = y.history_goes_on.is ∙ ap (λ h. h ++ y.history_goes_on.more) x.history_goes_on.is
-        ∙ append_assoc a.history x.history_goes_on.more y.history_goes_on.more;
-  };
-  steady_history_stays = λ s. y.steady_history_stays (x.steadiness_stays ∙ s) ∙ x.steady_history_stays s;
-  steadiness_stays = y.steadiness_stays ∙ x.steadiness_stays;
-  plans_stay = y.plans_stay ∙ x.plans_stay;
-}
+hub_on a b c x y = grind (arith, append_assoc)
 
 -- ---- readings and numbers
 
@@ -97,8 +83,7 @@ kept_behind-append plans h kept (n ∷ ns) ms = kept_behind-append plans h (kept
 -- a look at a history that goes on sees the same
 look_kept : (plans : Schedules) (h later : List Entry) (n : ℕ) (kept : List KeptView) → GoesOn h later → n ≤ length h
     → kept_at plans later n kept ≡ kept_at plans h n kept
-look_kept plans h later n kept g within =
-    ap (λ (xs : List Entry). kept_with n (fold_of (length plans.feeds) xs) kept) (same_front h later n g within)
+look_kept plans h later n kept g within = grind (arith, same_front)
 
 looks_kept : (plans : Schedules) (h later : List Entry) (low : ℕ) (kept : List KeptView) (ns : List ℕ) → GoesOn h later
     → NeverFall low ns (length h) → kept_behind plans later kept ns ≡ kept_behind plans h kept ns
@@ -125,9 +110,7 @@ replies_append plans h kept place (r ∷ rs) qs =
 reply_kept : (plans : Schedules) (h later : List Entry) (kept : List KeptView) (place : ℕ) (r : Reply) → GoesOn h later → r.number ≤ length h
     → reply_bytes plans later kept place r ≡ reply_bytes plans h kept place r
 unfolding reply_bytes
-reply_kept plans h later kept place r g within =
-    ap (λ (xs : List Entry). answer plans r.item (place == last_place) r.moment r.number (fold_of (length plans.feeds) xs)
-    (kept_with r.number (fold_of (length plans.feeds) xs) kept)) (same_front h later r.number g within)
+reply_kept plans h later kept place r g within = grind (arith, same_front)
 
 replies_kept : (plans : Schedules) (h later : List Entry) (low : ℕ) (kept : List KeptView) (place : ℕ) (rs : List Reply) → GoesOn h later
     → NeverFall low (numbers_of rs) (length h) → replies_bytes plans later kept place rs ≡ replies_bytes plans h kept place rs
@@ -144,35 +127,21 @@ pub reply_of_all : (plans : Schedules) (h : List Entry) (kept : List KeptView) (
     (kept_with r.number (fold_of (length plans.feeds) h) kept)
     ≡ reply_bytes plans h kept place r
 unfolding reply_bytes
-reply_of_all plans h kept place r whole =
-    ap (λ (xs : List Entry). answer plans r.item (place == last_place) r.moment r.number (fold_of (length plans.feeds) xs)
-    (kept_with r.number (fold_of (length plans.feeds) xs) kept))
-    (sym (ap (λ n. take n h) whole ∙ take-length h))
+reply_of_all plans h kept place r whole = grind (arith, take-length)
 
 -- ---- responses, and then others
 
 -- none
 pub answers_none : (place : ℕ) (a : Setting) → Answers place a a [] none_begun
-answers_none place a = record {
-  hub = hub_stays a;
-  numbers = omega arith;
-  readings = refl;
-  output = Appends-nil a.written;
-  looks = sym (add-zero a.reads);
-  kept = refl;
-  faults_later = omega arith;
-}
+answers_none place a = grind (arith, hub_stays, Appends-nil, add-zero)
 
 -- what is kept behind responses, where the history goes on
 pub kept_then : (place : ℕ) (a b : Setting) (later : List Entry) (rs : List Reply) → Answers place a b rs none_begun → GoesOn b.history later
     → b.kept ≡ kept_behind a.plans later a.kept (numbers_of rs)
-kept_then place a b later rs x g =
-    x.kept ∙ ap (λ (ns : List ℕ). kept_behind a.plans b.history a.kept ns) (append-nil (numbers_of rs))
-    ∙ sym (looks_kept a.plans b.history later (length a.history) a.kept (numbers_of rs) g x.numbers)
+kept_then place a b later rs x g = grind (arith, append-nil, looks_kept)
 
 moved : (xs ys zs all : List ℕ) → all ≡ xs ++ ys → (xs ++ []) ++ (ys ++ zs) ≡ all ++ zs
-moved xs ys zs all e =
-    ap (λ l. l ++ (ys ++ zs)) (append-nil xs) ∙ sym (append_assoc xs ys zs) ∙ ap (λ l. l ++ zs) (sym e)
+moved xs ys zs all e = grind (arith, append-nil, append_assoc)
 
 pub answers_on : (place : ℕ) (a b c : Setting) (rs qs : List Reply) (begun : Begun) → Answers place a b rs none_begun
     → Answers (place + length rs) b c qs begun → Answers place a c (rs ++ qs) begun

@@ -1,5 +1,5 @@
 -- How a connection ends.
-use Rattle.std.proofs.Common.{◌≡◌, ℕ, ◌+◌, ◌≤◌, ◌<◌, Bool, true, false, List, [], ◌∷◌, ◌++◌, length, take, Option, None, Some, Err, refl, sym, ap, ap₂, ◌∙◌, subst, arith, append-nil}
+use Rattle.std.proofs.Common.{◌≡◌, ℕ, ◌+◌, ◌≤◌, ◌<◌, Bool, true, List, [], ◌∷◌, ◌++◌, length, take, Option, Err, refl, sym, ap, ap₂, ◌∙◌, subst, arith, append-nil}
 use Rattle.std.specs.Bool.{MatchBool}
 use Rattle.std.specs.Io.KnownBytes.{Consumes, IsAtEnd}
 use Rattle.std.proofs.KnownBytes.{Consumes-nil, Consumes-trans}
@@ -41,37 +41,17 @@ record Came (left later : Option (List ℕ)) (a c : Setting) (end : End) (after 
 serves : (left later : Option (List ℕ)) (faults faults' : ℕ) (a c : Setting) (end : End) (after : Noted)
     → Came left later a c end after → HasEndCause end faults faults' a.write_faults c.write_faults
     → Serves left later faults faults' a c end after.numbers after.moments
-serves left later faults faults' a c end after w cause = record {
-  input = w.taken ++ known later;
-  told = input_told left later w.taken w.consumed;
-  taken = w.taken;
-  consumed = w.consumed;
-  replies = w.replies;
-  numbers_are = ap (λ (n : Noted). n.numbers) w.notes_are;
-  moments_are = ap (λ (n : Noted). n.moments) w.notes_are;
-  begun = w.begun;
-  is_begun = w.is_begun;
-  hub_goes_on = w.answers.hub;
-  numbers_never_fall = rw (ap (λ (n : Noted). n.numbers) w.notes_are) w.answers.numbers;
-  moments_are_readings = rw (ap (λ (n : Noted). n.moments) w.notes_are) w.answers.readings;
-  output = w.answers.output;
-  items_are_answered = w.answered;
-  faults_have_causes = cause;
-  looks = w.answers.looks;
-  views_are_kept = w.answers.kept;
-}
+serves left later faults faults' a c end after w cause = grind (arith, input_told)
 
 -- ---- the items
 
 -- what was taken before, and in the last turn, and is left: the items so far lead to the bytes held
 leads_to : (taken bytes more held : List ℕ) (items : List Item) → Leads 1 taken items held
     → Leads 1 ((taken ++ bytes) ++ more) items ((held ++ bytes) ++ more)
-leads_to taken bytes more held items l =
-    leads_more 1 (taken ++ bytes) more items (held ++ bytes) (leads_more 1 taken bytes items held l)
+leads_to taken bytes more held items l = grind (arith, leads_more)
 
 at_true : (test : Bool) (P Q : Type 0) → test ≡ true → P → MatchBool test P Q
-at_true true P Q e p = p
-at_true false P Q e p = absurd cc
+at_true test P Q e p = grind arith
 
 -- the last request
 last_request : (place : ℕ) (bytes held more : List ℕ) (r : Request) → Begins bytes r held → is_last place r ≡ true
@@ -136,8 +116,7 @@ came_short place bytes held left now later a b c before after begun end w read a
 }
 
 none_left : (left : Option (List ℕ)) → IsAtEnd left → known left ≡ []
-none_left None e = refl
-none_left (Some xs) e = e
+none_left left e = grind arith
 
 -- nothing is left at the end of the input
 nothing_more : (place : ℕ) (held taken : List ℕ) (left : Option (List ℕ)) (items : List Item) → held ≡ [] → IsAtEnd left
@@ -217,12 +196,7 @@ came NoMemory place held held' left now later a b c before after w t =
 -- ---- causes
 
 pub cause_later : (end : End) (f0 f1 f2 w0 w1 w2 : ℕ) → f0 ≤ f1 → w0 ≤ w1 → HasEndCause end f1 f2 w1 w2 → HasEndCause end f0 f2 w0 w2
-cause_later Ended f0 f1 f2 w0 w1 w2 f w c = let x = c.0 in let y = c.1 in (omega arith, omega arith)
-cause_later Closed f0 f1 f2 w0 w1 w2 f w c = let x = c.0 in let y = c.1 in (omega arith, omega arith)
-cause_later Bad f0 f1 f2 w0 w1 w2 f w c = let x = c.0 in let y = c.1 in (omega arith, omega arith)
-cause_later ReadFault f0 f1 f2 w0 w1 w2 f w c = let y = c.1 in (rose_later f0 f1 f2 f c.0, omega arith)
-cause_later WriteFault f0 f1 f2 w0 w1 w2 f w c = let x = c.0 in (omega arith, rose_later w0 w1 w2 w c.1)
-cause_later NoMemory f0 f1 f2 w0 w1 w2 f w c = let x = c.0 in let y = c.1 in (omega arith, omega arith)
+cause_later end f0 f1 f2 w0 w1 w2 f w c = grind (arith, rose_later)
 
 -- a connection that ended by a turn
 pub ended_by : (end : End) (place : ℕ) (held held' : List ℕ) (left now later : Option (List ℕ)) (f0 f1 f2 : ℕ) (a b c : Setting)
@@ -235,13 +209,7 @@ ended_by end place held held' left now later f0 f1 f2 a b c before after w t f w
 
 -- no response was begun
 pub starved_at_rest : (history : List Entry) → WasStarved history none_begun
-starved_at_rest history = record {
-  one_look = omega arith;
-  reading_behind_look = omega arith;
-  seen_at_look = omega arith;
-  seen_whole = tt;
-  unwritten = refl;
-}
+starved_at_rest history = grind arith
 
 -- a connection for which there was no memory at all
 pub unserved : (left : Option (List ℕ)) (faults : ℕ) (a : Setting) → Serves left left faults faults a a NoMemory [] []
@@ -265,7 +233,4 @@ untaken WriteFault place held held' left later a before t = absurd t
 -- the same session under other names
 pub serves_as : (left later : Option (List ℕ)) (f f' : ℕ) (a c : Setting) (end end' : End) (ns ns' ms ms' : List ℕ)
     → Serves left later f f' a c end ns ms → end' ≡ end → ns' ≡ ns → ms' ≡ ms → Serves left later f f' a c end' ns' ms'
-serves_as left later f f' a c end end' ns ns' ms ms' s is_end is_ns is_ms =
-    subst (λ (e : End). Serves left later f f' a c e ns' ms') (sym is_end)
-    (subst (λ (xs : List ℕ). Serves left later f f' a c end xs ms') (sym is_ns)
-    (subst (λ (xs : List ℕ). Serves left later f f' a c end ns xs) (sym is_ms) s))
+serves_as left later f f' a c end end' ns ns' ms ms' s is_end is_ns is_ms = grind arith

@@ -1,5 +1,5 @@
 -- Where a connection stands between two requests.
-use Rattle.std.proofs.Common.{◌≡◌, ◌≢◌, ℕ, ◌+◌, ◌≤◌, false, List, [], ◌∷◌, ◌++◌, length, Option, None, Some, IfSome, refl, sym, ap, ap₂, ◌∙◌, subst, arith, length-append}
+use Rattle.std.proofs.Common.{◌≡◌, ◌≢◌, ℕ, ◌+◌, ◌≤◌, false, List, [], ◌∷◌, ◌++◌, length, Option, IfSome, refl, sym, ap, ◌∙◌, subst, arith, length-append}
 use Rattle.std.specs.Io.KnownBytes.{Consumes}
 use Rattle.std.proofs.KnownBytes.{Consumes-nil, Consumes-trans}
 use Rattle.http_defs.specs.declared.request.Item.{Item}
@@ -48,14 +48,11 @@ on_way_first held left a notes none empty = record {
 -- what is noted of some responses and then of others
 pub noted_on : (rs qs : List Reply) (before after : Noted) → before ≡ noted nothing_noted rs → after ≡ noted before qs
     → after ≡ noted nothing_noted (rs ++ qs)
-noted_on rs qs before after first then =
-    then ∙ ap (λ (n : Noted). noted n qs) first
-    ∙ ap₂ (λ (ns ms : List ℕ). record { numbers = ns; moments = ms }) (sym (numbers_of-append rs qs)) (sym (moments_of-append rs qs))
+noted_on rs qs before after first then = grind (arith, numbers_of-append, moments_of-append)
 
 -- the items with one more
 pub items_push : (rs : List Reply) (r : Reply) (item : Item) → r.item ≡ item → items_of rs ++ item ∷ [] ≡ items_of (rs ++ r ∷ [])
-items_push rs r item is =
-    ap (λ (i : Item). items_of rs ++ i ∷ []) (sym is) ∙ sym (items_of-append rs (r ∷ []))
+items_push rs r item is = grind (arith, items_of-append)
 
 -- the place behind some items
 pub place_behind : (place : ℕ) (rs : List Reply) → place ≡ 1 + length rs → place ≡ 1 + length (items_of rs)
@@ -96,19 +93,14 @@ on_way_next place held held' left now later a b c before after w t =
 -- there is no place behind the last one
 pub past_last : (place : ℕ) (held : List ℕ) (left now : Option (List ℕ)) (a b : Setting) (notes : Noted)
     → OnWay place held left now a b notes → place ≤ last_place
-past_last place held left now a b notes w =
-    let at : place ≡ 1 + length (items_of w.replies) = place_behind place w.replies w.place_is in
-    let short = leads_short 1 w.taken (items_of w.replies) held (omega arith) w.leads in
-    omega arith
+past_last place held left now a b notes w = grind (arith, place_behind, leads_short)
 
 -- ---- the input
 
 -- what was taken, and what is left, is what there was
 pub input_told : (left now : Option (List ℕ)) (taken : List ℕ) → Consumes left now taken
     → IfSome left (λ bytes. taken ++ known now ≡ bytes)
-input_told None now taken c = tt
-input_told (Some xs) None taken c = absurd c
-input_told (Some xs) (Some ys) taken c = sym c
+input_told left now taken c = grind arith
 
 -- an item that was taken stands first, whatever follows
 pub stands_first : (bytes held : List ℕ) (left : Option (List ℕ)) (item : Item) → TakesItem bytes held left item

@@ -1,5 +1,5 @@
 -- The response to one item, from the look to the last byte.
-use Rattle.std.proofs.Common.{◌≡◌, ◌==◌, ◌⊎◌, inl, inr, ℕ, ◌+◌, ◌-◌, ◌≤◌, ◌<◌, Bool, List, [], ◌∷◌, ◌++◌, length, take, Option, Result, Ok, Err, refl, sym, ap, ap₂, ◌∙◌, subst, arith, append-nil}
+use Rattle.std.proofs.Common.{◌≡◌, ◌==◌, ◌⊎◌, inl, inr, ℕ, ◌+◌, ◌-◌, ◌≤◌, ◌<◌, Bool, List, [], ◌∷◌, ◌++◌, length, take, Option, Result, Ok, Err, refl, sym, ap, ◌∙◌, subst, arith, append-nil}
 use Rattle.std.specs.List.{AllByRecursion}
 use Rattle.std.proofs.Math.Seq.{take-length}
 use Rattle.std.specs.Option.{option_map}
@@ -42,53 +42,36 @@ pub looks_and_reads : (w w' : Option (List ℕ)) (f f' : ℕ) (a a' : Option (Li
     (v v' : HubKept) (r r' : ℕ) (s s' : Bool) (k k' : List KeptView) (number moment : ℕ) → Looked h h' v v' r r' s (Ok number)
     → plans' ≡ plans → s' ≡ s → ShowsFirst a moment → a' ≡ option_map after_reading a
     → LooksAndReads (setting w f a plans h r s k) (setting w' f' a' plans' h' r' s' k') number moment
-looks_and_reads w w' f f' a a' plans plans' h h' v v' r r' s s' k k' number moment l kept steady shows ahead = record {
-  hub = record {
-    history_goes_on = l.goes_on;
-    steady_history_stays = l.stays;
-    steadiness_stays = steady;
-    plans_stay = kept;
-  };
-  whole = l.found.0;
-  looked = l.found.2;
-  shown = shows;
-  ahead = ahead;
-}
+looks_and_reads w w' f f' a a' plans plans' h h' v v' r r' s s' k k' number moment l kept steady shows ahead =
+    grind arith
 
 -- ---- the view that it found
 
 -- the view was kept, whatever came of the response
 pub keeps_look : {A E : Type 0} (result : Result A E) (view : KeptView) (old new : List KeptView) → new ≡ views_with view old
     → KeepsLook result view old new
-keeps_look (Ok x) view old new put = put
-keeps_look (Err e) view old new put = inr put
+keeps_look result view old new put = grind arith
 
 -- what all feeds say
 folds_found : (plans : Schedules) (h : List Entry) (v seen : HubKept) → StandsFor h v → seen ≡ v
     → folds_of seen ≡ fold_of (length seen.plans.feeds) h
-folds_found plans h v seen stood same =
-    subst (λ (k : HubKept). folds_of k ≡ fold_of (length k.plans.feeds) h) (sym same) stood.feeds
+folds_found plans h v seen stood same = grind arith
 
 -- what is kept of it
 kept_found : (plans : Schedules) (h : List Entry) (v seen : HubKept) (number : ℕ) → StandsFor h v → seen ≡ v → seen.plans ≡ plans
     → number ≡ length h → view_of seen ≡ view_seen number (fold_of (length plans.feeds) h)
-kept_found plans h v seen number stood same kept whole =
-    ap₂ (λ (n : ℕ) (folds : List FeedFold). view_seen n folds)
-    (ap (λ (k : HubKept). k.entries) same ∙ stood.entries ∙ sym whole)
-    (folds_found plans h v seen stood same ∙ ap (λ (p : Schedules). fold_of (length p.feeds) h) kept)
+kept_found plans h v seen number stood same kept whole = grind (arith, folds_found)
 
 -- a look at the whole history
 at_whole : (plans : Schedules) (h : List Entry) (number : ℕ) (old : List KeptView) → number ≡ length h
     → kept_with number (fold_of (length plans.feeds) h) old ≡ kept_at plans h number old
-at_whole plans h number old whole =
-    ap (λ (xs : List Entry). kept_with number (fold_of (length plans.feeds) xs) old) (sym (ap (λ n. take n h) whole ∙ take-length h))
+at_whole plans h number old whole = grind (arith, take-length)
 
 -- it is kept as one of the history
 pub kept_is : (plans : Schedules) (h : List Entry) (v seen : HubKept) (number : ℕ) (old new : List KeptView) → StandsFor h v → seen ≡ v
     → seen.plans ≡ plans → number ≡ length h → new ≡ views_with (view_of seen) old → new ≡ kept_at plans h number old
 kept_is plans h v seen number old new stood same kept whole put =
-    put ∙ ap (λ (view : KeptView). views_with view old) (kept_found plans h v seen number stood same kept whole)
-    ∙ at_whole plans h number old whole
+    grind (arith, kept_found, at_whole)
 
 -- or it isn't
 pub kept_or_not : (plans : Schedules) (h : List Entry) (v seen : HubKept) (number : ℕ) (old new : List KeptView) → StandsFor h v → seen ≡ v
@@ -120,10 +103,7 @@ pub released : (place : ℕ) (old : Setting) (w : Option (List ℕ)) (f : ℕ) (
     → p' ≡ p → h' ≡ h → r' ≡ r → s' ≡ s → Replies place old (setting w f a p h r s k) item before after result
     → Replies place old (setting w f a p' h' r' s' k) item before after result
 released place old w f a p p' h h' r r' s s' k item before after result plans history reads steady told =
-    subst (λ (x : Schedules). Replies place old (setting w f a x h' r' s' k) item before after result) (sym plans)
-    (subst (λ (x : List Entry). Replies place old (setting w f a p x r' s' k) item before after result) (sym history)
-    (subst (λ (x : ℕ). Replies place old (setting w f a p h x s' k) item before after result) (sym reads)
-    (subst (λ (x : Bool). Replies place old (setting w f a p h r x k) item before after result) (sym steady) told)))
+    grind arith
 
 -- ---- what it came to
 
@@ -168,17 +148,7 @@ begun_answers : (place : ℕ) (old new : Setting) (number moment : ℕ) (seen cu
     → new.kept ≡ kept_behind old.plans new.history old.kept seen
     → Answers place old new [] (begun_with moment seen cut)
 begun_answers place old new number moment seen cut l output later kept =
-    let longer = goes_on_longer old.history new.history l.hub.history_goes_on in
-    let looked = l.looked in
-    record {
-      hub = l.hub;
-      numbers = longer;
-      readings = (l.shown, l.ahead);
-      output = output;
-      looks = omega arith;
-      kept = kept;
-      faults_later = later;
-    }
+    grind (arith, goes_on_longer)
 
 -- memory was wanting for the response
 starved_with : (place : ℕ) (old new : Setting) (number moment : ℕ) (seen : List ℕ) → LooksAndReads old new number moment

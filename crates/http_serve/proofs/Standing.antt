@@ -1,5 +1,5 @@
 -- A connection in memory at one moment, while the history stands still.
-use Rattle.std.proofs.Common.{◌≡◌, ◌==◌, ℕ, ◌+◌, true, List, [], ◌∷◌, ◌++◌, length, take, Option, Some, refl, sym, ap, ap₂, ◌∙◌, subst, arith, append-nil}
+use Rattle.std.proofs.Common.{◌≡◌, ◌==◌, ℕ, ◌+◌, true, List, [], ◌∷◌, ◌++◌, length, Option, Some, refl, ap, ap₂, ◌∙◌, subst, arith, append-nil}
 use Rattle.std.specs.Prelude.{slice_get}
 use Rattle.std.specs.Io.KnownBytes.{Appends}
 use Rattle.std.proofs.Math.Seq.{take-length}
@@ -13,7 +13,6 @@ use Rattle.http_defs.specs.Requests.{AreRequests, last_place}
 use Rattle.http_serve_defs.specs.Answers.{answer}
 use Rattle.http_serve_defs.specs.Connections.{kept_with, responses}
 use Rattle.http_serve.specs.declared.session.End.{End}
-use Rattle.http_serve.specs.declared.session.End.TheVariants as ends
 use Rattle.http_serve.specs.declared.transcript.Finish.{Finish}
 use Rattle.http_serve.specs.declared.transcript.Transcript.{Transcript}
 use Rattle.http_serve.specs.Setting.{Setting, Readings, NeverFall}
@@ -33,17 +32,12 @@ reply_at plans history kept moment place item =
 
 look_standing : (plans : Schedules) (h : List Entry) (kept : List KeptView) (number : ℕ) → number ≡ length h
     → kept_at plans h number kept ≡ kept_whole plans h kept
-look_standing plans h kept number whole =
-    ap (λ (n : ℕ). kept_at plans h n kept) whole
-    ∙ ap (λ (xs : List Entry). kept_with (length h) (fold_of (length plans.feeds) xs) kept) (take-length h)
+look_standing plans h kept number whole = grind (arith, take-length)
 
 reply_standing : (plans : Schedules) (h : List Entry) (kept : List KeptView) (moment place : ℕ) (r : Reply) → r.number ≡ length h
     → r.moment ≡ moment → reply_bytes plans h kept place r ≡ reply_at plans h kept moment place r.item
 unfolding reply_bytes
-reply_standing plans h kept moment place r whole at =
-    ap₂ (λ (m n : ℕ). answer plans r.item (place == last_place) m n (fold_of (length plans.feeds) (take n h)) (kept_at plans h n kept)) at whole
-    ∙ ap (λ (xs : List Entry). answer plans r.item (place == last_place) moment (length h) (fold_of (length plans.feeds) xs)
-    (kept_with (length h) (fold_of (length plans.feeds) xs) kept)) (take-length h)
+reply_standing plans h kept moment place r whole at = grind (arith, take-length)
 
 -- what a clock that stands shows
 shows : (moment m : ℕ) → slice_get (moment ∷ []) 0 ≡ Some m → m ≡ moment
@@ -79,24 +73,7 @@ Answered input items finish = AreRequests 1 input items (finish_seen finish)
 ends_whole : (end : End) (finish : Finish) (left : Option (List ℕ)) (faults faults' : ℕ) (a c : Setting) (input numbers moments : List ℕ)
     → Finishes end finish → (s : Serves (Some input) left faults faults' a c end numbers moments)
     → (s.begun.cut ≡ []) × Answered input (items_of s.replies) finish
-ends_whole ends.Ended finish left faults faults' a c input numbers moments f s = (
-  ap (λ b. b.cut) s.is_begun,
-  subst (λ g. Answered input (items_of s.replies) g) (sym f)
-      (subst (λ (xs : List ℕ). AreRequests 1 xs (items_of s.replies) _) s.told s.items_are_answered),
-)
-ends_whole ends.Closed finish left faults faults' a c input numbers moments f s = (
-  ap (λ b. b.cut) s.is_begun,
-  subst (λ g. Answered input (items_of s.replies) g) (sym f)
-      (subst (λ (xs : List ℕ). AreRequests 1 xs (items_of s.replies) _) s.told s.items_are_answered),
-)
-ends_whole ends.Bad finish left faults faults' a c input numbers moments f s = (
-  ap (λ b. b.cut) s.is_begun,
-  subst (λ g. Answered input (items_of s.replies) g) (sym f)
-      (subst (λ (xs : List ℕ). AreRequests 1 xs (items_of s.replies) _) s.told s.items_are_answered),
-)
-ends_whole ends.ReadFault finish left faults faults' a c input numbers moments f s = absurd f
-ends_whole ends.WriteFault finish left faults faults' a c input numbers moments f s = absurd f
-ends_whole ends.NoMemory finish left faults faults' a c input numbers moments f s = absurd f
+ends_whole end finish left faults faults' a c input numbers moments f s = grind arith
 
 -- a connection that was served in memory
 pub is_transcript : (end : End) (transcript : Transcript) (left later : Option (List ℕ)) (faults faults' : ℕ) (a c : Setting)

@@ -87,8 +87,8 @@ changes_answer schedules folds since =
     option_map (λ plan. changes_bytes schedules plan since.old folds)
     (schedule_number schedules since.schedule)
 
--- What answers a query at a moment, of what all feeds say and of the views that are kept: for a feed
--- since one of these what changed, and for all else the whole answer.
+-- What answers a query at a moment, of what all feeds say and of the views that are kept: for a
+-- feed since one of these what changed, and for all else the whole answer.
 abbrev pub query_answered : Schedules → List FeedFold → List KeptView → Query → ℕ → Answered
 query_answered schedules folds kept query moment =
     option_map_or (λ since. found Message (changes_answer schedules folds since))

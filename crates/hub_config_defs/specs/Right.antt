@@ -15,8 +15,8 @@ has_window s = is_window_date s.first && (nat_le 1 s.days && nat_le s.days 400)
 abbrev pub has_short_prefix : ScheduleConf → Bool
 has_short_prefix s = nat_le (length s.prefix) 32
 
--- its messages count for up to 366 days; it is polled every second to every day, for up to 1000000000 polls, and
--- fails after 1 to 1000 polls that did
+-- its messages count for up to 366 days; it is polled every second to every day, for up to
+-- 1000000000 polls, and fails after 1 to 1000 polls that did
 abbrev pub has_numbers : FeedConf → Bool
 has_numbers f = nat_le f.max_age 31622400 && (nat_le 1 f.every && nat_le f.every 86400)
     && nat_le f.polls 1000000000 && (nat_le 1 f.tries && nat_le f.tries 1000)
@@ -31,8 +31,9 @@ pub record AreNames (names : List (List ℕ)) : Type 0 where
   pub apart : (i j : ℕ) (name : List ℕ) → slice_get names i ≡ Some name → slice_get names j
       ≡ Some name → i ≡ j
 
--- 1 to 64 readers, each of which may end after up to 1000000000 connections; 1 to 8 schedules and up to 64 feeds,
--- with distinct names and with numbers in their ranges, of which each feed belongs to a schedule
+-- 1 to 64 readers, each of which may end after up to 1000000000 connections; 1 to 8 schedules and
+-- up to 64 feeds, with distinct names and with numbers in their ranges, of which each feed belongs
+-- to a schedule
 pub record IsLegal (conf : HubConf) : Type 0 where
   pub some_readers : 1 ≤ conf.readers
   pub few_readers : conf.readers ≤ 64

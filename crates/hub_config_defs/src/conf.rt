@@ -42,11 +42,11 @@ pub struct FeedConf {
     pub schedule: u32,
     /// How its messages come.
     pub kind: PortKind,
-    /// The folder that they come in, or the TCP address that they come from; of a feed that is polled
-    /// the host, perhaps with a port, and the path behind it from its `/` on.
+    /// The folder that they come in, or the TCP address that they come from; of a feed that is
+    /// polled the host, perhaps with a port, and the path behind it from its `/` on.
     pub place: Text,
-    /// For how many seconds from its stamp on an update or an alert counts, up to 31622400; 0 for no
-    /// end.
+    /// For how many seconds from its stamp on an update or an alert counts, up to 31622400; 0 for
+    /// no end.
     pub max_age: u64,
     /// How many seconds pass before each poll but the first, 1 to 86400.
     pub every: u64,

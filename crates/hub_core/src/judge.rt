@@ -12,8 +12,8 @@ use rt_types::{FeedMessage, Header};
 use std::alloc::Global;
 use texts::is_stamp;
 
-/// The message of the bytes, where it is well-formed and its stamp is above `last`, which is in seconds
-/// since 1970; else why it is refused.
+/// The message of the bytes, where it is well-formed and its stamp is above `last`, which is in
+/// seconds since 1970; else why it is refused.
 pub fn check(alloc: Global, last: u64, bytes: &[u8]) -> Result<FeedMessage, Refusal>
     ensures { AsDefined (λ m. m) cause_of (judgement_of last bytes.now) result }
 {
@@ -25,8 +25,8 @@ pub fn check(alloc: Global, last: u64, bytes: &[u8]) -> Result<FeedMessage, Refu
     Ok(message)
 }
 
-/// The message of well-formed bytes: at most 16,777,216 of them, that read as a message of the versions
-/// 1.0 or 2.0 with a stamp up to the end of the year 9999.
+/// The message of well-formed bytes: at most 16,777,216 of them, that read as a message of the
+/// versions 1.0 or 2.0 with a stamp up to the end of the year 9999.
 fn formed(alloc: Global, bytes: &[u8]) -> Result<FeedMessage, Refusal>
     ensures { AsDefined (λ m. m) cause_of (well_formed bytes.now) result }
 {

@@ -1,7 +1,8 @@
 //! Which messages a hub accepts.
 //!
-//! `check` judges an offered message exactly as `feed_defs` does, given the stamp of the last one of its feed; a
-//! refusal has the values that tell why. It needs no hub: whoever judges before a lock is taken calls it too.
+//! `check` judges an offered message exactly as `feed_defs` does, given the stamp of the last one
+//! of its feed; a refusal has the values that tell why. It needs no hub: whoever judges before a
+//! lock is taken calls it too.
 //!
 //! It stands on `feed_read` for what the bytes are.
 #![tactic(auto)]

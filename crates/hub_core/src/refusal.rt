@@ -7,8 +7,8 @@ use rt_types::{Kind, Text, What};
 use std::alloc::{AllocError, AllocFailed};
 use thiserror::Error;
 
-/// Why an offered message is refused. The first that applies is told, in this order, and want of memory may come
-/// at any point.
+/// Why an offered message is refused. The first that applies is told, in this order, and want of
+/// memory may come at any point.
 #[derive(Debug, Drop, Error)]
 pub enum Refusal {
     /// It has more than 16,777,216 bytes, and so many.
@@ -17,8 +17,9 @@ pub enum Refusal {
         /// How many bytes it has.
         len: u64,
     },
-    /// The bytes are no message of GTFS Realtime: their first fault. Entities are numbered from 1 in the order of
-    /// the message, up to 4294967295; 0 stands for all that is in no entity. Field 0 stands for the whole message.
+    /// The bytes are no message of GTFS Realtime: their first fault. Entities are numbered from 1
+    /// in the order of the message, up to 4294967295; 0 stands for all that is in no entity. Field
+    /// 0 stands for the whole message.
     #[error("a malformed message: entity {entity}, {what:?} in {kind:?}, field {field}")]
     Malformed {
         /// The number of the entity that it is in, or 0.
@@ -33,8 +34,8 @@ pub enum Refusal {
     /// Its header's version is neither `1.0` nor `2.0`, but this one.
     #[error("the version {0:?} isn't known")]
     Version(Text),
-    /// Its header's stamp is not from 1 to 253402300799, which is the end of the year 9999: in seconds since 1970,
-    /// 0 where it has none.
+    /// Its header's stamp is not from 1 to 253402300799, which is the end of the year 9999: in
+    /// seconds since 1970, 0 where it has none.
     #[error("the stamp {got} is no time")]
     BadStamp {
         /// Its stamp, in seconds since 1970.

@@ -77,11 +77,13 @@ unfoldable pub trips_txt : ℕ → List ℕ
 trips_txt trips = csv_file (codes "trip_id,route_id,service_id,trip_headsign,direction_id")
     (flat_map trip_line (range_with_len 0 trips))
 
--- the stop of a place of a trip, by their numbers from 0: trips go round all stops, by one, two or three
+-- the stop of a place of a trip, by their numbers from 0: trips go round all stops, by one, two or
+-- three
 abbrev pub stop_at : ℕ → ℕ → ℕ
 stop_at trip place = (7 * trip + place * (1 + trip % 3)) % stops
 
--- when a trip is there, in seconds: a trip begins each minute of a day, and places are two minutes apart
+-- when a trip is there, in seconds: a trip begins each minute of a day, and places are two minutes
+-- apart
 abbrev pub time_at : ℕ → ℕ → ℕ
 time_at trip place = 60 * trip % 86400 + 120 * place
 

@@ -29,7 +29,8 @@ sample_timetable trips = timetable (sample_files trips) sample_name sample_conf
 abbrev pub sample_schedules : Timetable → Schedules
 sample_schedules t = record {
   plans = record { name = sample_name; prefix = []; plan = t } ∷ [];
-  feeds = record { name = codes "a"; plan = 0; max_age = 0 } ∷ record { name = codes "b"; plan = 0; max_age = 0 } ∷ [];
+  feeds = record { name = codes "a"; plan = 0; max_age = 0 }
+      ∷ record { name = codes "b"; plan = 0; max_age = 0 } ∷ [];
 }
 
 -- the history behind one offer more

@@ -1,7 +1,7 @@
 -- The rule of the book in which a log is kept, and what its steps tell. Word 0 is the length of the
--- log and word 1 the number of cells that were made behind these two. The cell of an item comes home
--- in the step that adds it, so that whoever has the pen of the first cell that is away has seen the
--- whole log.
+-- log and word 1 the number of cells that were made behind these two. The cell of an item comes
+-- home in the step that adds it, so that whoever has the pen of the first cell that is away has
+-- seen the whole log.
 use Rattle.std.specs.Prelude.{◌≡◌, ℕ, ◌+◌, ◌<◌, ◌≤◌, ◌==◌, true, false, List, [], ◌∷◌, ◌++◌, length, MatchBool}
 use Rattle.logbook.specs.Pages.{Cell, cell, Step, View, Book, Named, nib, no_nib, may_make}
 use Rattle.hub_history.specs.declared.item.LogItem.{LogItem}

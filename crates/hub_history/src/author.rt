@@ -47,8 +47,8 @@ impl Model for Author {
 }
 
 impl Author {
-    /// The author of a history of so many feeds in which nothing stands; or none, where the book could
-    /// not be opened, which does not happen.
+    /// The author of a history of so many feeds in which nothing stands; or none, where the book
+    /// could not be opened, which does not happen.
     pub fn open(feeds: u32) -> Option<Author>
         ensures log { IfSome result (λ author. author.log ≡ []) }
         ensures feeds { IfSome result (λ author. author.feeds ≡ feeds) }
@@ -80,8 +80,8 @@ impl Author {
         }
     }
 
-    /// Adds the message that the contract names, and answers whether it did. That it did not does not
-    /// happen; then nothing was added.
+    /// Adds the message that the contract names, and answers whether it did. That it did not does
+    /// not happen; then nothing was added.
     pub fn extend<E: Naming>(&mut self) -> bool
         requires legal { IsLegal self.old.feeds (history_of self.old ++ E.entry ∷ []) }
         requires goes_on { is_ended self.old.log ≡ false }
@@ -121,7 +121,8 @@ impl Author {
         true
     }
 
-    /// What another line knows begins what the author knows. It takes no memory and waits for nobody.
+    /// What another line knows begins what the author knows. It takes no memory and waits for
+    /// nobody.
     pub fn shows(&mut self, line: &Line)
         requires { AreOne line.now self.old }
         ensures same { self.new ≡ self.old }

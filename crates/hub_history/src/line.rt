@@ -11,8 +11,8 @@ use crate::law::Law;
 use logbook::Seen;
 use std::marker::Model;
 
-/// A beginning of a hub's history that was seen. A contract sees which history it is of, for how many
-/// feeds, and the log so far.
+/// A beginning of a hub's history that was seen. A contract sees which history it is of, for how
+/// many feeds, and the log so far.
 #[derive(Drop)]
 pub struct Line {
     // How many items of the log were seen, and how many of these are accepted messages.

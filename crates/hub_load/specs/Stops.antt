@@ -27,22 +27,23 @@ abbrev pub IsThere : Stored → ScheduleConf → Type 0
 IsThere files schedule = (t : Timetable)
     × (timetable files schedule.folder (plan_conf schedule) ≡ Ok t)
 
--- Loading the schedules in their order stops at the file of that path: it is a file of one of them with
--- none at fault before it, and the timetables of those in front are there.
+-- Loading the schedules in their order stops at the file of that path: it is a file of one of them
+-- with none at fault before it, and the timetables of those in front are there.
 unfoldable pub SchedulesStop : Stored → List ScheduleConf → List ℕ → Type 0
 SchedulesStop files [] path = ⊥
 SchedulesStop files (schedule ∷ more) path =
     StopsAt files schedule.folder (plan_conf schedule) path
     ⊎ (IsThere files schedule × SchedulesStop files more path)
 
--- Loading the configuration at a path and all its timetables stops at the file of that path: it is the
--- configuration itself, or a file of one of its timetables.
+-- Loading the configuration at a path and all its timetables stops at the file of that path: it is
+-- the configuration itself, or a file of one of its timetables.
 abbrev pub LoadingStops : Stored → List ℕ → List ℕ → Type 0
 LoadingStops files conf_path path = (path ≡ conf_path)
     ⊎ ((conf : HubConf) × (conf_in (file_at files conf_path) ≡ Ok conf)
     × SchedulesStop files conf.schedules path)
 
--- the call that failed last, where the files and its path are told, is that at which so and so stops
+-- the call that failed last, where the files and its path are told, is that at which so and so
+-- stops
 abbrev pub Stopped : Option Stored → Option (List ℕ) → (Stored → List ℕ → Type 0) → Type 0
 Stopped contents place stops = IfSome contents (λ files. IfSome place (λ path. stops files path))
 

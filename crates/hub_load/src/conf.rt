@@ -18,9 +18,9 @@ use std::alloc::{AllocError, Global};
 /// The most bytes of a configuration.
 const LONGEST_CONF: u64 = 1_048_576;
 
-/// The configuration in the file at the path, or the line that tells why there is none. It has 1 to 8
-/// schedules and up to 64 feeds, with distinct names and with all numbers in their ranges, and each schedule
-/// has a window of days for which a timetable can be loaded.
+/// The configuration in the file at the path, or the line that tells why there is none. It has 1 to
+/// 8 schedules and up to 64 feeds, with distinct names and with all numbers in their ranges, and
+/// each schedule has a window of days for which a timetable can be loaded.
 pub fn conf_at<F: Files>(alloc: Global, files: &mut F, path: &str) -> Result<HubConf, HubFault>
     ensures told { IfSome (F.contents files.old)
         (λ fs. IsAsTold (λ conf. conf) (conf_in (file_at fs path.now)) result) }

@@ -28,7 +28,8 @@ pub struct Configured {
 
 /// Loads the configuration at the path and all its timetables: these in the order of its schedules,
 /// each under its schedule's name and prefix, and its feeds, each with the number of its schedule;
-/// or the line of the first fault. The configuration counts first, and then its timetables in order.
+/// or the line of the first fault. The configuration counts first, and then its timetables in
+/// order.
 pub fn load_plans<F: Files>(alloc: Global, files: &mut F, path: &str) -> Result<Plans, HubFault>
     ensures told { IfSome (F.contents files.old)
         (λ fs. IsAsTold (λ plans. plans) (schedules_at fs path.now) result) }

@@ -8,7 +8,6 @@ use Rattle.std.proofs.KnownBytes.{Appends-nil, Consumes-nil}
 use Rattle.std.proofs.lemmas.List.Elements.{All-nil}
 use Rattle.hub_outside.specs.Outside.{FileStore, Outside, Stream}
 use Rattle.sched_types.specs.Schedules.{Schedules}
-use Rattle.text_defs.specs.Cleaned.{line_feed}
 use Rattle.hub_load.specs.Stops.{LoadingStopped, StopsWith}
 use Rattle.hub_load.specs.Told.{HasCause, IsAsTold, NeedsNoFile, TellsFault, refusal_line}
 use Rattle.hub_load.specs.declared.fault.HubFault.{HubFault}
@@ -20,7 +19,7 @@ use Rattle.hub_replay_defs.specs.Record.{Hub, configured, serving, start}
 use Rattle.hub_main_defs.specs.Words.{Command}
 use Rattle.hub_main_defs.specs.Words.Command.{Replay, ReplayWith, Check, Board, Gen}
 use Rattle.hub_main_defs.specs.Checks.{check_output, output_of_check}
-use Rattle.hub_main_defs.specs.Commands.{board_output, file_fault_line, found_or_not, output_where_told, replay_output, usage, usage_line, with_schedules}
+use Rattle.hub_main_defs.specs.Commands.{file_fault_line, found_or_not, output_where_told, replay_output, usage, usage_line, with_schedules}
 use Rattle.hub_main_defs.specs.Hubs.{schedules_at}
 use Rattle.hub_main_defs.specs.Samples.{gen_output, sample_lines}
 use Rattle.hub_main.specs.Offline.{WritesLine, FileFailed, IsDone, IsRefusedWith, LoadFailed, OutcomeOf, PrintsFault, PrintsOutput, UsageOutcome, WritesTold, WritesWhole}
@@ -28,33 +27,12 @@ use Rattle.hub_main.specs.Offline.{WritesLine, FileFailed, IsDone, IsRefusedWith
 -- the line for words that are no command
 pub usage_outcome : (status : ℕ) (output output' : Stream) → WritesLine usage_line 2 output output' status
     → UsageOutcome output output' status
-usage_outcome status output output' (count, inl (e, wrote)) = record {
-  is_status = inl e;
-  whole = λ _. wrote;
-  output_fault = λ f. absurd (omega arith);
-  no_memory = λ f. absurd (omega arith);
-  output_count = count;
-}
-usage_outcome status output output' (count, inr (e, rose, cut)) = record {
-  is_status = inr (inl e);
-  whole = λ f. absurd (omega arith);
-  output_fault = λ _. (rose, cut);
-  no_memory = λ f. absurd (omega arith);
-  output_count = count;
-}
+usage_outcome status output output' wrote = grind arith
 
 -- memory ran out before the configuration and its timetables were there
 pub load_short : (path : List ℕ) (files files' : FileStore) (output output' : Stream) → files.faults ≤ files'.faults → output' ≡ output
     → LoadFailed path files files' output output' 6
-load_short path files files' output output' files_count same = record {
-  is_status = inr (inr (inr refl));
-  refused = λ f. absurd (omega arith);
-  file_fault = λ f. absurd (omega arith);
-  output_fault = λ f. absurd (omega arith);
-  no_memory = λ _. subst (λ o. Appends output.told o.told []) (sym same) (Appends-nil output.told);
-  files_count = files_count;
-  output_count = subst (λ o. output.faults ≤ o.faults) (sym same) (omega arith);
-}
+load_short path files files' output output' files_count same = grind (arith, Appends-nil)
 
 -- ---- one output, which is made whole before it is printed
 
@@ -63,49 +41,23 @@ abbrev pub IsAnswer : Output → Type 0
 IsAnswer output = (output.status ≡ 0) ⊎ (output.status ≡ 3) ⊎ (output.status ≡ 8)
 
 no_fault : {A : Type 0} (status defined : ℕ) → (defined ≡ 0) ⊎ (defined ≡ 3) ⊎ (defined ≡ 8) → status ≡ defined → (status ≡ 5) ⊎ (status ≡ 6) → A
-no_fault status defined (inl d) e (inl f) = absurd (omega arith)
-no_fault status defined (inl d) e (inr f) = absurd (omega arith)
-no_fault status defined (inr (inl d)) e (inl f) = absurd (omega arith)
-no_fault status defined (inr (inl d)) e (inr f) = absurd (omega arith)
-no_fault status defined (inr (inr d)) e (inl f) = absurd (omega arith)
-no_fault status defined (inr (inr d)) e (inr f) = absurd (omega arith)
+no_fault status defined answer e fault = grind arith
 
 -- its bytes were written, or a front of them
 pub printed : (defined : Output) (status : ℕ) (output output' : Stream) → IsAnswer defined
     → WritesLine defined.written defined.status output output' status
     → PrintsOutput defined output output' status
-printed defined status output output' answer (count, inl (e, wrote)) = record {
-  is_status = inl e;
-  whole = λ _. wrote;
-  output_fault = λ f. no_fault status defined.status answer e (inl f);
-  no_memory = λ f. no_fault status defined.status answer e (inr f);
-  output_count = count;
-}
-printed defined status output output' answer (count, inr (e, rose, cut)) = record {
-  is_status = inr (inl e);
-  whole = λ f. no_fault status defined.status answer f (inl e);
-  output_fault = λ _. (rose, cut);
-  no_memory = λ f. absurd (omega arith);
-  output_count = count;
-}
+printed defined status output output' answer wrote = grind (arith, no_fault)
 
 -- memory ran out before anything was printed
 pub print_short : (defined : Output) (output : Stream) → IsAnswer defined → PrintsOutput defined output output 6
-print_short defined output answer = record {
-  is_status = inr (inr refl);
-  whole = λ f. no_fault 6 defined.status answer f (inr refl);
-  output_fault = λ f. absurd (omega arith);
-  no_memory = λ _. Appends-nil output.told;
-  output_count = omega arith;
-}
+print_short defined output answer = grind (arith, no_fault, Appends-nil)
 
 pub found_answers : (o : Option (List ℕ)) → IsAnswer (found_or_not o)
-found_answers None = inr (inr refl)
-found_answers (Some bytes) = inl refl
+found_answers o = grind arith
 
 pub check_answers : (lines : Result (List ℕ) (List ℕ)) → IsAnswer (output_of_check lines)
-check_answers (Ok lines) = inl refl
-check_answers (Err line) = inr (inl refl)
+check_answers lines = grind arith
 
 -- lines that are told were written, or the line of a refusal
 pub lines_printed : (told : Result (List ℕ) (List ℕ)) (lines : List ℕ) (status : ℕ) (output output' : Stream) → told ≡ Ok lines
@@ -114,11 +66,7 @@ lines_printed told lines status output output' is last = rw is (printed (output_
 
 pub refusal_printed : (told : Result (List ℕ) (List ℕ)) (line : List ℕ) (status : ℕ) (output output' : Stream) → refusal_line told ≡ Some line
     → WritesLine line 3 output output' status → PrintsOutput (output_of_check told) output output' status
-refusal_printed (Ok lines) line status output output' is last = cc
-refusal_printed (Err words) line status output output' is last =
-    let same : line ≡ words ++ line_feed = cc in
-    let here = subst (λ bytes. WritesLine bytes 3 output output' status) same last in
-    printed (output_of_check (Err words)) status output output' (inr (inl refl)) here
+refusal_printed told line status output output' is last = grind (arith, printed)
 
 -- a fault that no file has, once it is printed
 pub sample_fault : (told : Result (List ℕ) (List ℕ)) (fault : HubFault) (status : ℕ) (output output' : Stream) → TellsFault told fault
@@ -133,13 +81,7 @@ sample_fault told NoMemory status output output' is no_file (short, same) =
 
 -- memory ran out before the words were read, whatever they are
 pub short_outcome : (command : Option Command) (before : Outside) → OutcomeOf command before before 6
-short_outcome None before = record {
-  is_status = inr (inr refl);
-  whole = λ f. absurd (omega arith);
-  output_fault = λ f. absurd (omega arith);
-  no_memory = λ _. Appends-nil before.output.told;
-  output_count = omega arith;
-}
+short_outcome None before = grind (arith, Appends-nil)
 short_outcome (Some Replay) before = (
   [],
   All-nil IsServed,
@@ -157,108 +99,34 @@ short_outcome (Some Replay) before = (
     output_count = omega arith;
   },
 )
-short_outcome (Some (ReplayWith path)) before =
-    inl (load_short path before.files before.files before.output before.output (omega arith) refl, refl)
-short_outcome (Some (Board path asked)) before =
-    inl (load_short path before.files before.files before.output before.output (omega arith) refl)
+short_outcome (Some (ReplayWith path)) before = grind (arith, load_short)
+short_outcome (Some (Board path asked)) before = grind (arith, load_short)
 short_outcome (Some (Gen seed trips messages)) before = print_short (gen_output seed trips messages) before.output (check_answers (sample_lines seed trips messages))
-short_outcome (Some (Check path)) before = record {
-  is_status = inr (inr (inr (inr refl)));
-  whole = elim [ inl f ↦ absurd (omega arith) | inr f ↦ absurd (omega arith) ];
-  file_fault = λ f. absurd (omega arith);
-  output_fault = λ f. absurd (omega arith);
-  no_memory = λ _. Appends-nil before.output.told;
-  files_count = omega arith;
-  output_count = omega arith;
-}
+short_outcome (Some (Check path)) before = grind (arith, Appends-nil)
 
 -- ---- which statuses a command has once all is written
 
 -- no replay has the status 2, 3 or 8
 pub replay_status : {A : Type 0} (status : ℕ) → IsReplayStatus status → (status ≡ 2) ⊎ (status ≡ 3) ⊎ (status ≡ 8) → A
-replay_status status (inl e) (inl f) = absurd (omega arith)
-replay_status status (inl e) (inr (inl f)) = absurd (omega arith)
-replay_status status (inl e) (inr (inr f)) = absurd (omega arith)
-replay_status status (inr (inl e)) (inl f) = absurd (omega arith)
-replay_status status (inr (inl e)) (inr (inl f)) = absurd (omega arith)
-replay_status status (inr (inl e)) (inr (inr f)) = absurd (omega arith)
-replay_status status (inr (inr (inl e))) (inl f) = absurd (omega arith)
-replay_status status (inr (inr (inl e))) (inr (inl f)) = absurd (omega arith)
-replay_status status (inr (inr (inl e))) (inr (inr f)) = absurd (omega arith)
-replay_status status (inr (inr (inr (inl e)))) (inl f) = absurd (omega arith)
-replay_status status (inr (inr (inr (inl e)))) (inr (inl f)) = absurd (omega arith)
-replay_status status (inr (inr (inr (inl e)))) (inr (inr f)) = absurd (omega arith)
-replay_status status (inr (inr (inr (inr e)))) (inl f) = absurd (omega arith)
-replay_status status (inr (inr (inr (inr e)))) (inr (inl f)) = absurd (omega arith)
-replay_status status (inr (inr (inr (inr e)))) (inr (inr f)) = absurd (omega arith)
+replay_status status is other = grind arith
 
 -- words that are no command have no other status than 2
 pub usage_status : {A : Type 0} (status other : ℕ) → (status ≡ 2) ⊎ (status ≡ 5) ⊎ (status ≡ 6) → status ≡ other
     → (other ≡ 0) ⊎ (other ≡ 3) ⊎ (other ≡ 7) ⊎ (other ≡ 8) → A
-usage_status status other (inl e) h (inl f) = absurd (omega arith)
-usage_status status other (inl e) h (inr (inl f)) = absurd (omega arith)
-usage_status status other (inl e) h (inr (inr (inl f))) = absurd (omega arith)
-usage_status status other (inl e) h (inr (inr (inr f))) = absurd (omega arith)
-usage_status status other (inr (inl e)) h (inl f) = absurd (omega arith)
-usage_status status other (inr (inl e)) h (inr (inl f)) = absurd (omega arith)
-usage_status status other (inr (inl e)) h (inr (inr (inl f))) = absurd (omega arith)
-usage_status status other (inr (inl e)) h (inr (inr (inr f))) = absurd (omega arith)
-usage_status status other (inr (inr e)) h (inl f) = absurd (omega arith)
-usage_status status other (inr (inr e)) h (inr (inl f)) = absurd (omega arith)
-usage_status status other (inr (inr e)) h (inr (inr (inl f))) = absurd (omega arith)
-usage_status status other (inr (inr e)) h (inr (inr (inr f))) = absurd (omega arith)
+usage_status status other is same told = grind arith
 
 -- no check has the status 2, 7 or 8
 pub check_status : {A : Type 0} (status : ℕ) → (status ≡ 0) ⊎ (status ≡ 3) ⊎ (status ≡ 4) ⊎ (status ≡ 5) ⊎ (status ≡ 6)
     → (status ≡ 2) ⊎ (status ≡ 7) ⊎ (status ≡ 8) → A
-check_status status (inl e) (inl f) = absurd (omega arith)
-check_status status (inl e) (inr (inl f)) = absurd (omega arith)
-check_status status (inl e) (inr (inr f)) = absurd (omega arith)
-check_status status (inr (inl e)) (inl f) = absurd (omega arith)
-check_status status (inr (inl e)) (inr (inl f)) = absurd (omega arith)
-check_status status (inr (inl e)) (inr (inr f)) = absurd (omega arith)
-check_status status (inr (inr (inl e))) (inl f) = absurd (omega arith)
-check_status status (inr (inr (inl e))) (inr (inl f)) = absurd (omega arith)
-check_status status (inr (inr (inl e))) (inr (inr f)) = absurd (omega arith)
-check_status status (inr (inr (inr (inl e)))) (inl f) = absurd (omega arith)
-check_status status (inr (inr (inr (inl e)))) (inr (inl f)) = absurd (omega arith)
-check_status status (inr (inr (inr (inl e)))) (inr (inr f)) = absurd (omega arith)
-check_status status (inr (inr (inr (inr e)))) (inl f) = absurd (omega arith)
-check_status status (inr (inr (inr (inr e)))) (inr (inl f)) = absurd (omega arith)
-check_status status (inr (inr (inr (inr e)))) (inr (inr f)) = absurd (omega arith)
+check_status status is other = grind arith
 
 -- where there is no hub all is written at 3 alone
 load_status : (status : ℕ) → (status ≡ 3) ⊎ (status ≡ 4) ⊎ (status ≡ 5) ⊎ (status ≡ 6) → IsDone status → status ≡ 3
-load_status status (inl e) done = e
-load_status status (inr (inl e)) (inl f) = absurd (omega arith)
-load_status status (inr (inl e)) (inr (inl f)) = absurd (omega arith)
-load_status status (inr (inl e)) (inr (inr (inl f))) = f
-load_status status (inr (inl e)) (inr (inr (inr (inl f)))) = absurd (omega arith)
-load_status status (inr (inl e)) (inr (inr (inr (inr f)))) = absurd (omega arith)
-load_status status (inr (inr (inl e))) (inl f) = absurd (omega arith)
-load_status status (inr (inr (inl e))) (inr (inl f)) = absurd (omega arith)
-load_status status (inr (inr (inl e))) (inr (inr (inl f))) = f
-load_status status (inr (inr (inl e))) (inr (inr (inr (inl f)))) = absurd (omega arith)
-load_status status (inr (inr (inl e))) (inr (inr (inr (inr f)))) = absurd (omega arith)
-load_status status (inr (inr (inr e))) (inl f) = absurd (omega arith)
-load_status status (inr (inr (inr e))) (inr (inl f)) = absurd (omega arith)
-load_status status (inr (inr (inr e))) (inr (inr (inl f))) = f
-load_status status (inr (inr (inr e))) (inr (inr (inr (inl f)))) = absurd (omega arith)
-load_status status (inr (inr (inr e))) (inr (inr (inr (inr f)))) = absurd (omega arith)
+load_status status is done = grind arith
 
 -- an output that is written whole has its own status
 print_status : (status defined : ℕ) → (status ≡ defined) ⊎ (status ≡ 5) ⊎ (status ≡ 6) → IsDone status → status ≡ defined
-print_status status defined (inl e) done = e
-print_status status defined (inr (inl e)) (inl f) = absurd (omega arith)
-print_status status defined (inr (inl e)) (inr (inl f)) = absurd (omega arith)
-print_status status defined (inr (inl e)) (inr (inr (inl f))) = absurd (omega arith)
-print_status status defined (inr (inl e)) (inr (inr (inr (inl f)))) = absurd (omega arith)
-print_status status defined (inr (inl e)) (inr (inr (inr (inr f)))) = absurd (omega arith)
-print_status status defined (inr (inr e)) (inl f) = absurd (omega arith)
-print_status status defined (inr (inr e)) (inr (inl f)) = absurd (omega arith)
-print_status status defined (inr (inr e)) (inr (inr (inl f))) = absurd (omega arith)
-print_status status defined (inr (inr e)) (inr (inr (inr (inl f)))) = absurd (omega arith)
-print_status status defined (inr (inr e)) (inr (inr (inr (inr f)))) = absurd (omega arith)
+print_status status defined is done = grind arith
 
 -- ---- what is told of the whole output
 
@@ -269,8 +137,7 @@ WroteAll before after status output = Appends before.told after.told output.writ
 -- what is told of one part of the outside
 of_part : {A : Type 0} (f : A → Output) (part : Option A) (before after : Option (List ℕ)) (status : ℕ) → IfSome part (λ x. Appends before after (f x).written × (status ≡ (f x).status))
     → IfSome (option_map f part) (λ output. Appends before after output.written × (status ≡ output.status))
-of_part f None before after status h = tt
-of_part f (Some x) before after status h = h
+of_part f part before after status h = grind arith
 
 -- the output that the schedules of a configuration have, and that of its refusal
 of_loaded : (f : Schedules → Output) (r : Result Schedules (List ℕ)) (plans : Schedules) (before after : Stream) (status : ℕ) → r ≡ Ok plans
@@ -279,60 +146,36 @@ of_loaded f r plans before after status e h = rw e h
 
 of_refused : (f : Schedules → Output) (r : Result Schedules (List ℕ)) (line : List ℕ) (before after : Stream) (status : ℕ) → refusal_line r ≡ Some line
     → Appends before.told after.told line → status ≡ 3 → WroteAll before after status (with_schedules f r)
-of_refused f (Ok plans) line before after status e wrote is = cc
-of_refused f (Err words) line before after status e wrote is =
-    let same : line ≡ words ++ line_feed = cc in (subst (λ bytes. Appends before.told after.told bytes) same wrote, is)
+of_refused f r line before after status e wrote is = grind arith
 
 -- of the files' part: the schedules of a configuration and its refusal
 told_refused : (f : Schedules → Output) (path : List ℕ) (files files' : FileStore) (before after : Stream) (status : ℕ) → LoadFailed path files files' before after status → IsDone status
     → IfSome files.told (λ fs. WroteAll before after status (with_schedules f (schedules_at fs path)))
-told_refused f path files files' before after status o done =
-    let is = load_status status o.is_status done in
-    let (line, refused, wrote) = o.refused is in
-    told_at files.told line refused wrote is
-  where
-    told_at : (told : Option (List (List ℕ × List ℕ))) (line : List ℕ) → IfSome told (λ fs. refusal_line (schedules_at fs path) ≡ Some line)
-        → Appends before.told after.told line → status ≡ 3
-        → IfSome told (λ fs. WroteAll before after status (with_schedules f (schedules_at fs path)))
-    told_at None line e wrote is = tt
-    told_at (Some fs) line e wrote is = of_refused f (schedules_at fs path) line before after status e wrote is
+told_refused f path files files' before after status o done = grind (arith, load_status, of_refused)
 
 told_loaded : (f : Schedules → Output) (path : List ℕ) (told : Option (List (List ℕ × List ℕ))) (plans : Schedules) (before after : Stream) (status : ℕ)
     → IfSome told (λ fs. schedules_at fs path ≡ Ok plans) → WroteAll before after status (f plans)
     → IfSome told (λ fs. WroteAll before after status (with_schedules f (schedules_at fs path)))
-told_loaded f path None plans before after status e h = tt
-told_loaded f path (Some fs) plans before after status e h = of_loaded f (schedules_at fs path) plans before after status e h
+told_loaded f path told plans before after status e h = grind (arith, of_loaded)
 
 -- the same with an input, which may not be told
 with_input : (f : List ℕ → Schedules → Output) (path : List ℕ) (files : Option (List (List ℕ × List ℕ))) (input : Option (List ℕ)) (P : Output → Type 0)
     → IfSome input (λ bytes. IfSome files (λ fs. P (with_schedules (f bytes) (schedules_at fs path))))
     → IfSome (option_and_then (λ fs. option_map (λ bytes. with_schedules (f bytes) (schedules_at fs path)) input) files) P
-with_input f path None input P h = tt
-with_input f path (Some fs) None P h = tt
-with_input f path (Some fs) (Some bytes) P h = h
+with_input f path files input P h = grind arith
 
 each_input : (input : Option (List ℕ)) (P : List ℕ → Type 0) → ((bytes : List ℕ) → P bytes) → IfSome input P
-each_input None P h = tt
-each_input (Some bytes) P h = h bytes
+each_input input P h = grind arith
 
 each_told : (input : Option (List ℕ)) (P Q : List ℕ → Type 0) → ((bytes : List ℕ) → P bytes → Q bytes) → IfSome input P → IfSome input Q
-each_told None P Q h p = tt
-each_told (Some bytes) P Q h p = h bytes p
+each_told input P Q h p = grind arith
 
 -- a replay that wrote all ended at 0 or at 7
 replay_done : (status : ℕ) → IsReplayStatus status → IsDone status → (status ≡ 0) ⊎ (status ≡ 7)
-replay_done status is (inl e) = inl e
-replay_done status is (inr (inl e)) = replay_status status is (inl e)
-replay_done status is (inr (inr (inl e))) = replay_status status is (inr (inl e))
-replay_done status is (inr (inr (inr (inl e)))) = inr e
-replay_done status is (inr (inr (inr (inr e)))) = replay_status status is (inr (inr e))
+replay_done status is done = grind (arith, replay_status)
 
 check_done : (status : ℕ) → (status ≡ 0) ⊎ (status ≡ 3) ⊎ (status ≡ 4) ⊎ (status ≡ 5) ⊎ (status ≡ 6) → IsDone status → (status ≡ 0) ⊎ (status ≡ 3)
-check_done status is (inl e) = inl e
-check_done status is (inr (inl e)) = check_status status is (inl e)
-check_done status is (inr (inr (inl e))) = inr e
-check_done status is (inr (inr (inr (inl e)))) = check_status status is (inr (inl e))
-check_done status is (inr (inr (inr (inr e)))) = check_status status is (inr (inr e))
+check_done status is done = grind (arith, check_status)
 
 -- a replay on a hub to which connections are given, where all was written
 given_whole : (hub : Hub) (before after : Outside) (status : ℕ) → OutcomeOn hub before.input after.input before.output after.output status → IsDone status
@@ -346,11 +189,7 @@ none_served : (command : Option Command) (before after : Outside) (status : ℕ)
 none_served command before after status h = ([], All-nil IsServed, h)
 
 usage_whole : (before after : Outside) (status : ℕ) → UsageOutcome before.output after.output status → WritesTold (Some usage) status before.output.told after.output.told
-usage_whole before after status o (inl e) = usage_status status 0 o.is_status e (inl refl)
-usage_whole before after status o (inr (inl e)) = (o.whole e, e)
-usage_whole before after status o (inr (inr (inl e))) = usage_status status 3 o.is_status e (inr (inl refl))
-usage_whole before after status o (inr (inr (inr (inl e)))) = usage_status status 7 o.is_status e (inr (inr (inl refl)))
-usage_whole before after status o (inr (inr (inr (inr e)))) = usage_status status 8 o.is_status e (inr (inr (inr refl)))
+usage_whole before after status o done = grind (arith, usage_status)
 
 -- where all was written, it is what the definition of the command's output tells, with its status
 pub told_whole : (command : Option Command) (before after : Outside) (status : ℕ) → OutcomeOf command before after status
@@ -362,9 +201,8 @@ told_whole (Some Replay) before after status (served, are_served, o) = (
   λ later done. of_part (replayed (serving (served ++ later) start)) before.input.told before.output.told after.output.told status
       (given_whole (serving (served ++ later) start) before after status (o later) done),
 )
-told_whole (Some (ReplayWith path)) before after status (inl (o, same)) = none_served (Some (ReplayWith path)) before after status
-    (λ later done. with_input (replay_output later) path before.files.told before.input.told (WroteAll before.output after.output status)
-    (each_input before.input.told _ (λ bytes. told_refused (replay_output later bytes) path before.files after.files before.output after.output status o done)))
+told_whole (Some (ReplayWith path)) before after status (inl (o, same)) =
+    grind (arith, none_served, with_input, each_input, told_refused)
 told_whole (Some (ReplayWith path)) before after status (inr (plans, loaded, count, (served, are_served, o))) = (
   served,
   are_served,
@@ -374,13 +212,10 @@ told_whole (Some (ReplayWith path)) before after status (inr (plans, loaded, cou
 )
 told_whole (Some (Check path)) before after status o = none_served (Some (Check path)) before after status
     (λ later done. of_part (λ fs. check_output fs path) before.files.told before.output.told after.output.told status (o.whole (check_done status o.is_status done)))
-told_whole (Some (Board path asked)) before after status (inl o) = none_served (Some (Board path asked)) before after status
-    (λ later done. of_part (λ fs. with_schedules (board_output asked) (schedules_at fs path)) before.files.told before.output.told after.output.told status
-    (told_refused (board_output asked) path before.files after.files before.output after.output status o done))
-told_whole (Some (Board path asked)) before after status (inr (plans, loaded, count, o)) = none_served (Some (Board path asked)) before after status
-    (λ later done. let is = print_status status (board_output asked plans).status o.is_status done in
-    of_part (λ fs. with_schedules (board_output asked) (schedules_at fs path)) before.files.told before.output.told after.output.told status
-    (told_loaded (board_output asked) path before.files.told plans before.output after.output status loaded (o.whole is, is)))
+told_whole (Some (Board path asked)) before after status (inl o) =
+    grind (arith, none_served, of_part, told_refused)
+told_whole (Some (Board path asked)) before after status (inr (plans, loaded, count, o)) =
+    grind (arith, none_served, print_status, of_part, told_loaded)
 told_whole (Some (Gen seed trips messages)) before after status o = none_served (Some (Gen seed trips messages)) before after status
     (λ later done. let is = print_status status (gen_output seed trips messages).status o.is_status done in (o.whole is, is))
 
@@ -390,61 +225,22 @@ told_whole (Some (Gen seed trips messages)) before after status o = none_served 
 refused_printed : (path line : List ℕ) (files files' : FileStore) (status : ℕ) (output output' : Stream) → IsRefusedWith path files line → files.faults ≤ files'.faults
     → WritesLine line 3 output output' status
     → LoadFailed path files files' output output' status
-refused_printed path line files files' status output output' is files_count (count, inl (e, wrote)) = record {
-  is_status = inl e;
-  refused = λ _. (line, is, wrote);
-  file_fault = λ f. absurd (omega arith);
-  output_fault = λ f. absurd (omega arith);
-  no_memory = λ f. absurd (omega arith);
-  files_count = files_count;
-  output_count = count;
-}
-refused_printed path line files files' status output output' is files_count (count, inr (e, rose, cut)) = record {
-  is_status = inr (inr (inl e));
-  refused = λ f. absurd (omega arith);
-  file_fault = λ f. absurd (omega arith);
-  output_fault = λ _. (rose, inr (line, is, cut));
-  no_memory = λ f. absurd (omega arith);
-  files_count = files_count;
-  output_count = count;
-}
+refused_printed path line files files' status output output' is files_count wrote = grind arith
 
 -- the line of a file that can't be read
 file_fault_printed : (path : List ℕ) (files files' : FileStore) (status : ℕ) (output output' : Stream) → FileFailed path files files' → files.faults ≤ files'.faults
     → WritesLine file_fault_line 4 output output' status
     → LoadFailed path files files' output output' status
-file_fault_printed path files files' status output output' failed files_count (count, inl (e, wrote)) = record {
-  is_status = inr (inl e);
-  refused = λ f. absurd (omega arith);
-  file_fault = λ _. (failed, wrote);
-  output_fault = λ f. absurd (omega arith);
-  no_memory = λ f. absurd (omega arith);
-  files_count = files_count;
-  output_count = count;
-}
-file_fault_printed path files files' status output output' failed files_count (count, inr (e, rose, cut)) = record {
-  is_status = inr (inr (inl e));
-  refused = λ f. absurd (omega arith);
-  file_fault = λ f. absurd (omega arith);
-  output_fault = λ _. (rose, inl (failed, cut));
-  no_memory = λ f. absurd (omega arith);
-  files_count = files_count;
-  output_count = count;
-}
+file_fault_printed path files files' status output output' failed files_count wrote = grind arith
 
 refused_at : {A : Type 0} (path : List ℕ) (told : Option (List (List ℕ × List ℕ))) (view : A → Schedules) (line : Vec ℕ Global)
     → IfSome told (λ fs. IsAsTold view (schedules_at fs path) (Err (Refused line)))
     → IfSome told (λ fs. refusal_line (schedules_at fs path) ≡ Some line.items)
-refused_at path None view line h = tt
-refused_at path (Some fs) view line h = h
+refused_at path told view line h = grind arith
 
 -- what the fault of a loader, once it is printed, comes to
 pub load_failed : {A : Type 0} (path : List ℕ) (files files' : FileStore) (output output' : Stream) (status : ℕ) (view : A → Schedules) (fault : HubFault)
     → IfSome files.told (λ fs. IsAsTold view (schedules_at fs path) (Err fault)) → HasCause {B = A} (Err fault) files.faults files'.faults
     → StopsWith {B = A} (Err fault) (LoadingStopped files.told files'.fault path) → PrintsFault fault output output' status → LoadFailed path files files' output output' status
-load_failed path files files' output output' status view (Refused line) told cause stops printed =
-    refused_printed path line.items files files' status output output' (refused_at path files.told view line told) cause printed
-load_failed path files files' output output' status view FileFault told (count, rose) stops printed =
-    file_fault_printed path files files' status output output' (rose, stops) count printed
-load_failed path files files' output output' status view NoMemory told cause stops (is, same) =
-    subst (λ s. LoadFailed path files files' output output' s) (sym is) (load_short path files files' output output' cause same)
+load_failed path files files' output output' status view fault told cause stops printed =
+    grind (arith, refused_printed, refused_at, printed, file_fault_printed, load_short)

@@ -1,5 +1,5 @@
 -- What the outcome of every command says of its status and of the counts.
-use Rattle.std.proofs.Common.{◌≡◌, ℕ, ◌≤◌, List, [], length, Option, Some, None, refl, sym, ◌∙◌, subst, arith, inl, inr}
+use Rattle.std.proofs.Common.{◌≡◌, ℕ, ◌≤◌, List, [], length, Option, Some, None, refl, sym, subst, arith, inl, inr}
 use Rattle.std.specs.Prelude.{◌⊎◌}
 use Rattle.hub_outside.specs.Outside.{Outside, Stream}
 use Rattle.hub_replay.specs.Outcome.{IsReplayStatus, ReplayOutcome}
@@ -17,11 +17,7 @@ use Rattle.hub_main.proofs.Commands.{IsAnswer, check_answers, check_status, foun
 -- ---- what a replay says whatever connections are given
 
 exit_of : (status : ℕ) → IsReplayStatus status → IsExitStatus status
-exit_of status (inl e) = inl e
-exit_of status (inr (inl e)) = inr (inr (inr (inl e)))
-exit_of status (inr (inr (inl e))) = inr (inr (inr (inr (inl e))))
-exit_of status (inr (inr (inr (inl e)))) = inr (inr (inr (inr (inr (inl e)))))
-exit_of status (inr (inr (inr (inr e)))) = inr (inr (inr (inr (inr (inr (inl e))))))
+exit_of status is = grind arith
 
 pub replay_exit : (hub : Hub) (input input' output output' : Stream) (status : ℕ) → ReplayOutcome hub input input' output output' status → IsExitStatus status
 replay_exit hub input input' output output' status (served, are_served, o) = exit_of status (o []).is_status
@@ -33,10 +29,7 @@ pub replay_output_count : (hub : Hub) (input input' output output' : Stream) (st
 replay_output_count hub input input' output output' status (served, are_served, o) = (o []).output_count
 
 load_exit : (status : ℕ) → (status ≡ 3) ⊎ (status ≡ 4) ⊎ (status ≡ 5) ⊎ (status ≡ 6) → IsExitStatus status
-load_exit status (inl e) = inr (inr (inl e))
-load_exit status (inr (inl e)) = inr (inr (inr (inl e)))
-load_exit status (inr (inr (inl e))) = inr (inr (inr (inr (inl e))))
-load_exit status (inr (inr (inr e))) = inr (inr (inr (inr (inr (inl e)))))
+load_exit status is = grind arith
 
 pub configured_exit : (path : List ℕ) (before after : Outside) (status : ℕ) → ReplayWithOutcome path before after status → IsExitStatus status
 configured_exit path before after status (inl (o, same)) = load_exit status o.is_status
@@ -53,32 +46,18 @@ configured_output path before after status (inr (plans, loaded, count, o)) = rep
 -- ---- one output, which is made whole before it is printed
 
 answer_exit : (defined : Output) (status : ℕ) → IsAnswer defined → (status ≡ defined.status) ⊎ (status ≡ 5) ⊎ (status ≡ 6) → IsExitStatus status
-answer_exit defined status (inl d) (inl e) = inl (e ∙ d)
-answer_exit defined status (inr (inl d)) (inl e) = inr (inr (inl (e ∙ d)))
-answer_exit defined status (inr (inr d)) (inl e) = inr (inr (inr (inr (inr (inr (inr (e ∙ d)))))))
-answer_exit defined status d (inr (inl e)) = inr (inr (inr (inr (inl e))))
-answer_exit defined status d (inr (inr e)) = inr (inr (inr (inr (inr (inl e)))))
+answer_exit defined status d is = grind arith
 
 answer_no_usage : {A : Type 0} (defined : Output) (status : ℕ) → IsAnswer defined → (status ≡ defined.status) ⊎ (status ≡ 5) ⊎ (status ≡ 6) → status ≡ 2 → A
-answer_no_usage defined status (inl d) (inl e) two = absurd (omega arith)
-answer_no_usage defined status (inr (inl d)) (inl e) two = absurd (omega arith)
-answer_no_usage defined status (inr (inr d)) (inl e) two = absurd (omega arith)
-answer_no_usage defined status d (inr (inl e)) two = absurd (omega arith)
-answer_no_usage defined status d (inr (inr e)) two = absurd (omega arith)
+answer_no_usage defined status d is two = grind arith
 
 -- ---- every command
 
 usage_exit : (status : ℕ) → (status ≡ 2) ⊎ (status ≡ 5) ⊎ (status ≡ 6) → IsExitStatus status
-usage_exit status (inl e) = inr (inl e)
-usage_exit status (inr (inl e)) = inr (inr (inr (inr (inl e))))
-usage_exit status (inr (inr e)) = inr (inr (inr (inr (inr (inl e)))))
+usage_exit status is = grind arith
 
 check_exit : (status : ℕ) → (status ≡ 0) ⊎ (status ≡ 3) ⊎ (status ≡ 4) ⊎ (status ≡ 5) ⊎ (status ≡ 6) → IsExitStatus status
-check_exit status (inl e) = inl e
-check_exit status (inr (inl e)) = inr (inr (inl e))
-check_exit status (inr (inr (inl e))) = inr (inr (inr (inl e)))
-check_exit status (inr (inr (inr (inl e)))) = inr (inr (inr (inr (inl e))))
-check_exit status (inr (inr (inr (inr e)))) = inr (inr (inr (inr (inr (inl e)))))
+check_exit status is = grind arith
 
 pub command_exit : (command : Option Command) (before after : Outside) (status : ℕ) → OutcomeOf command before after status → IsExitStatus status
 command_exit None before after status o = usage_exit status o.is_status
@@ -92,10 +71,7 @@ command_exit (Some (Gen seed trips messages)) before after status o =
     answer_exit (gen_output seed trips messages) status (check_answers (sample_lines seed trips messages)) o.is_status
 
 load_no_usage : {A : Type 0} (status : ℕ) → (status ≡ 3) ⊎ (status ≡ 4) ⊎ (status ≡ 5) ⊎ (status ≡ 6) → status ≡ 2 → A
-load_no_usage status (inl e) two = absurd (omega arith)
-load_no_usage status (inr (inl e)) two = absurd (omega arith)
-load_no_usage status (inr (inr (inl e))) two = absurd (omega arith)
-load_no_usage status (inr (inr (inr e))) two = absurd (omega arith)
+load_no_usage status is two = grind arith
 
 -- 2 comes where the words are no command
 pub command_usage : (command : Option Command) (before after : Outside) (status : ℕ) → OutcomeOf command before after status → status ≡ 2 → command ≡ None

@@ -1,5 +1,5 @@
 -- What a view answers of which no feed has said anything.
-use Rattle.std.proofs.Common.{◌≡◌, ℕ, List, [], length, Some, None, Ok, Bool, true, false, sym, ap, ◌∙◌, subst}
+use Rattle.std.proofs.Common.{◌≡◌, ℕ, List, [], length, Some, None, Ok, Bool, true, false, sym, ap, ◌∙◌, arith}
 use Rattle.feed_defs.specs.declared.history.Entry.{Entry}
 use Rattle.sched_types.specs.Schedules.{Schedules}
 use Rattle.board_defs.specs.Fold.{fold_of}
@@ -15,11 +15,7 @@ AnswersEach view question old new is_there =
 
 told : (plans : Schedules) (view : HubKept) (question : Question) (old new : List ℕ) (is_there wanted : Bool) → view ≡ hub_first plans → old ≡ [] → is_there ≡ wanted
     → AnswersEach view question old new is_there → Replies (answer_to plans (fold_of (length plans.feeds) []) question) [] new (Ok wanted)
-told plans view question old new is_there wanted first empty test each =
-    let by_view : HubKept → Type 0 = λ v. AnswersEach v question old new is_there in
-    let by_old : List ℕ → Type 0 = λ bytes. Replies (answer_to plans (fold_of (length plans.feeds) []) question) bytes new (Ok is_there) in
-    let by_test : Bool → Type 0 = λ b. Replies (answer_to plans (fold_of (length plans.feeds) []) question) [] new (Ok b) in
-    subst by_test test (subst by_old empty (subst by_view first each [] (stands_first plans)))
+told plans view question old new is_there wanted first empty test each = grind (arith, stands_first)
 
 pub first_there : (plans : Schedules) (view : HubKept) (question : Question) (old new : List ℕ) (is_there : Bool) → view ≡ hub_first plans → old ≡ [] → is_there ≡ true
     → AnswersEach view question old new is_there → Some new ≡ answer_to plans (fold_of (length plans.feeds) []) question

@@ -1,5 +1,5 @@
 -- What was loaded, or the fault, as preparing to serve answers it.
-use Rattle.std.proofs.Common.{◌≡◌, ◌∙◌, ℕ, ◌≤◌, List, map, Some, Ok, Err, refl, sym, ap, ap₂, subst}
+use Rattle.std.proofs.Common.{◌≡◌, ℕ, ◌≤◌, List, map, Some, Ok, Err, arith}
 use Rattle.std.specs.Option.{IfSome}
 use Rattle.hub_outside.specs.Outside.{FileStore, Stream}
 use Rattle.sched_types.specs.Schedules.{Schedules}
@@ -14,8 +14,8 @@ use Rattle.hub_load.specs.declared.loading.Configured.{Configured}
 use Rattle.hub_load.proofs.LoadedPlans.{refused_without}
 use Rattle.hub_load.proofs.Telling.{each_told}
 use Rattle.hub_main.specs.declared.preparing.Prepared.{Prepared}
-use Rattle.hub_main.specs.declared.preparing.Prepared.TheVariants.{Ready, Status}
-use Rattle.hub_main.specs.Offline.{LoadFailed, PrintsFault}
+use Rattle.hub_main.specs.declared.preparing.Prepared.TheVariants.{Status}
+use Rattle.hub_main.specs.Offline.{PrintsFault}
 use Rattle.hub_main.specs.Serving.{IsSharing, PrepareOutcome}
 use Rattle.hub_main.proofs.Commands.{load_failed, load_short}
 
@@ -28,18 +28,8 @@ pub loaded : (path : List ℕ) (files files' : FileStore) (output : Stream) (con
     → IfSome files.told (λ fs. configured_at fs path ≡ Ok (configured_seen configured))
     → configured.plans.feeds ≡ map named_feed configured.conf.feeds → IsLegal configured.conf → files.faults ≤ files'.faults
     → IsSharing configured prepared → PrepareOutcome (Some path) files files' output output prepared
-loaded path files files' output configured (Ready ready) told feeds legal count (same_conf, same_plans) = record {
-  told = each_told files.told _ _ told (λ fs is. is ∙ ap (λ (h : HubConf × Schedules). Ok h) (sym (both same_conf same_plans)));
-  feeds = ap (λ (s : Schedules). s.feeds) same_plans ∙ feeds ∙ ap (λ (c : HubConf). map named_feed c.feeds) (sym same_conf);
-  legal = subst (λ c. IsLegal c) (sym same_conf) legal;
-  files_count = count;
-  unwritten = refl;
-}
-  where
-    both : {c c' : HubConf} {p p' : Schedules} → c ≡ c' → p ≡ p' → beside c p ≡ beside c' p'
-    both e f = ap₂ beside e f
-loaded path files files' output configured (Status status) told feeds legal count six =
-    subst (λ s. LoadFailed path files files' output output s) (sym six) (load_short path files files' output output count refl)
+loaded path files files' output configured prepared told feeds legal count six =
+    grind (arith, each_told, load_short)
 
 -- it was not, and the fault was printed
 pub not_loaded : (path : List ℕ) (files files' : FileStore) (output output' : Stream) (status : ℕ) (fault : HubFault)

@@ -93,7 +93,8 @@ pub record CheckOutcome (path : List ℕ) (files files' : FileStore) (output out
 
 -- ---- commands that need the hub of a configuration
 
--- the configuration at a path and its timetables are these schedules and feeds, where files are told
+-- the configuration at a path and its timetables are these schedules and feeds, where files are
+-- told
 abbrev pub AreLoaded : List ℕ → FileStore → Schedules → Type 0
 AreLoaded path files plans = IfSome files.told (λ fs. schedules_at fs path ≡ Ok plans)
 
@@ -123,7 +124,8 @@ pub record LoadFailed (path : List ℕ) (files files' : FileStore) (output outpu
   pub files_count : files.faults ≤ files'.faults
   pub output_count : output.faults ≤ output'.faults
 
--- what printing such a fault comes to: its line was written, or the output failed in the midst of it
+-- what printing such a fault comes to: its line was written, or the output failed in the midst of
+-- it
 abbrev pub PrintsFault : HubFault → Stream → Stream → ℕ → Type 0
 PrintsFault (Refused line) output output' status =
     WritesLine line.items (code_of exit.Refused) output output' status

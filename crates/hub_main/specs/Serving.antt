@@ -25,8 +25,8 @@ pub record IsReady (path : List ℕ) (files files' : FileStore) (output output' 
   pub unwritten : output' ≡ output
 
 -- what preparing to serve comes to, by the path that the words name: words that name none are
--- answered as those that are no command; a configuration or timetable that is refused, or a file that
--- can't be read, as by every command that needs a hub
+-- answered as those that are no command; a configuration or timetable that is refused, or a file
+-- that can't be read, as by every command that needs a hub
 abbrev pub PrepareOutcome : Option (List ℕ) → FileStore → FileStore → Stream → Stream → Prepared
     → Type 0
 PrepareOutcome None files files' output output' (Ready ready) = ⊥

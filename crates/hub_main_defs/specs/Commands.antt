@@ -37,7 +37,8 @@ board_output asked plans = found_or_not (board_answer plans (fold_of (length pla
 abbrev pub replay_output : List Served → List ℕ → Schedules → Output
 replay_output served input plans = replayed (serving served (configured plans)) input
 
--- what is printed where a configuration or a timetable is refused, and else by its schedules and feeds
+-- what is printed where a configuration or a timetable is refused, and else by its schedules and
+-- feeds
 abbrev pub with_schedules : (Schedules → Output) → Result Schedules (List ℕ) → Output
 with_schedules output (Ok plans) = output plans
 with_schedules output (Err line) = record { written = line ++ line_feed; status = 3 }

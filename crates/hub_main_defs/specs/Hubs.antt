@@ -29,8 +29,8 @@ schedules_of conf ts = record {
   feeds = map named_feed conf.feeds;
 }
 
--- those of the configuration at a path, or the line of the first fault: the configuration counts first, and
--- then its timetables in order
+-- those of the configuration at a path, or the line of the first fault: the configuration counts
+-- first, and then its timetables in order
 unfoldable pub schedules_at : List (List ℕ × List ℕ) → List ℕ → Result Schedules (List ℕ)
 schedules_at files path = do
   conf ← conf_in (file_at files path)

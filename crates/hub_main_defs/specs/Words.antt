@@ -7,9 +7,9 @@ use Rattle.hub_replay_defs.specs.Lines.{board_in_words}
 use Rattle.hub_replay_defs.specs.Optional.{◌>>=◌}
 use Rattle.text_defs.specs.Numbers.{number}
 
--- what `hub` is asked to do: the replay of a script without a configuration, or with the one at a path;
--- a check of the configuration at a path; a board of the timetables alone; the run of a sample of a seed,
--- with so many trips and messages
+-- what `hub` is asked to do: the replay of a script without a configuration, or with the one at a
+-- path; a check of the configuration at a path; a board of the timetables alone; the run of a
+-- sample of a seed, with so many trips and messages
 pub data Command : Type 0 where
   Replay : Command
   ReplayWith : List ℕ → Command

@@ -51,7 +51,8 @@ abbrev pub moment_of : Result Duration Error → ℕ
 moment_of (Ok time) = min (as_nanos time / 1_000_000_000) last_moment
 moment_of (Err e) = 0
 
--- the moment of a clock that never goes back, in whole milliseconds, and none where it can't be read
+-- the moment of a clock that never goes back, in whole milliseconds, and none where it can't be
+-- read
 abbrev pub milliseconds_of : Result Duration Error → Option ℕ
 milliseconds_of (Ok time) = Some (min (as_nanos time / 1_000_000) last_count)
 milliseconds_of (Err e) = None
@@ -63,9 +64,9 @@ time_left limit since now =
     if nat_le limit (now - since) then None else Some (limit - (now - since))
 
 -- Whether a connection that could not be accepted tells nothing of those that come next: it is gone
--- already, a firewall forbids it, it can't do what was asked of it, the network or memory is wanting, or
--- too many files are open (ECONNABORTED, EPERM, EOPNOTSUPP, EMFILE, ENFILE and the like of POSIX; those
--- that std has no kind for among them). All else tells of the listener itself.
+-- already, a firewall forbids it, it can't do what was asked of it, the network or memory is
+-- wanting, or too many files are open (ECONNABORTED, EPERM, EOPNOTSUPP, EMFILE, ENFILE and the like
+-- of POSIX; those that std has no kind for among them). All else tells of the listener itself.
 abbrev pub is_passing : ErrorKind → Bool
 is_passing ConnectionAborted = true
 is_passing ConnectionReset = true

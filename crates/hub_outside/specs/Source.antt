@@ -30,8 +30,8 @@ HasReadCause (Got n) before after = before ≤ after
 HasReadCause End before after = before ≤ after
 HasReadCause Failed before after = (before ≤ after) × Rose before after
 
--- what a read to the end of a buffer did to its bytes and to those that are left: those that it gave
--- stand behind the old ones
+-- what a read to the end of a buffer did to its bytes and to those that are left: those that it
+-- gave stand behind the old ones
 abbrev pub ReadsBehind : ReadAnswer → Option (List ℕ) → Option (List ℕ) → List ℕ → List ℕ → Type 0
 ReadsBehind (Got n) left left' old new =
     (bytes : List ℕ) × (length bytes ≡ n) × (new ≡ old ++ bytes) × Consumes left left' bytes

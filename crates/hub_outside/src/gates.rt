@@ -11,8 +11,8 @@ pub enum GatePoint {
     Ingested(u32),
 }
 
-/// What threads pass at certain points. A gate of a test holds who passes, so that an order of events
-/// can be had; nothing that is answered depends on a gate.
+/// What threads pass at certain points. A gate of a test holds who passes, so that an order of
+/// events can be had; nothing that is answered depends on a gate.
 pub trait Gate {
     /// Passes a point. It may take as long as the gate likes.
     fn pass(&self, at: GatePoint);

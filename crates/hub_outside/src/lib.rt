@@ -2,10 +2,10 @@
 //! connections come in.
 //!
 //! Everything above reaches the outside by five traits alone: [`Source`], [`Sink`], [`Files`],
-//! [`Clock`] and [`Door`]. Each has a contract over what it *tells*: the bytes that a source has left,
-//! the bytes that a sink took, the map of files, the readings ahead, the links of a door. A real
-//! object tells nothing, a form in memory tells all, and code that is proved over the trait is right
-//! for both. A [`Gate`] is passed by threads and tells nothing either; it is there for tests.
+//! [`Clock`] and [`Door`]. Each has a contract over what it *tells*: the bytes that a source has
+//! left, the bytes that a sink took, the map of files, the readings ahead, the links of a door. A
+//! real object tells nothing, a form in memory tells all, and code that is proved over the trait is
+//! right for both. A [`Gate`] is passed by threads and tells nothing either; it is there for tests.
 //!
 //! What the layer above may rely on:
 //! - where contents are told, each answer says exactly what it took, left or found;

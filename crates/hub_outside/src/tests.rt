@@ -1,4 +1,5 @@
-//! What contracts alone see of files in memory: the path of the call that failed last is kept where there is memory.
+//! What contracts alone see of files in memory: the path of the call that failed last is kept where
+//! there is memory.
 use crate::{Buf, FileAnswer, Files, MemoryFiles};
 use std::test::Fail;
 

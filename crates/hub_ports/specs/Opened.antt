@@ -14,15 +14,15 @@ use Rattle.poll_port.specs.declared.port.PollPort.{PollPort}
 use Rattle.hub_ports.specs.declared.opening.SystemPort.{SystemPort}
 use Rattle.hub_ports.specs.declared.opening.SystemPort.TheVariants.{Nothing, Spool, Stream, Poll}
 
--- The port of a feed that is polled, before its first poll: it asks the host of the feed's place for
--- the path behind it.
+-- The port of a feed that is polled, before its first poll: it asks the host of the feed's place
+-- for the path behind it.
 abbrev pub IsPollingPortOf : {D H : Type 0} → FeedConf → PollPort D H → Type 0
 IsPollingPortOf feed port =
     polling_of port
     ≡ new_polling (request_for (host_of feed.place) (path_of feed.place)) feed.polls feed.tries
 
--- The port is of the feed's kind. One with no messages has none ahead, that of a folder stands before
--- its first file, and a stream was not read yet.
+-- The port is of the feed's kind. One with no messages has none ahead, that of a folder stands
+-- before its first file, and a stream was not read yet.
 abbrev pub IsPortOf : {R E : Type 0} → FeedConf → SystemPort R E → Type 0
 IsPortOf feed (Nothing port) = (feed.kind ≡ kind.Nothing) × (messages_ahead port ≡ [])
 IsPortOf feed (Spool port) =

@@ -1,5 +1,5 @@
--- How often something is told that happens again and again: at once the first time, and from there on
--- once a minute at most.
+-- How often something is told that happens again and again: at once the first time, and from there
+-- on once a minute at most.
 use Rattle.std.specs.Prelude.{ℕ, ◌-◌, ◌/◌, Bool, true, false, ◌&&◌, nat_le, nat_eq, List, Option, Some, None, Result, Ok, Err, if◌then◌else◌}
 use Rattle.std.specs.Duration.{as_nanos}
 use Rattle.std.specs.Option.{option_map}
@@ -26,8 +26,8 @@ abbrev pub is_due : Option ℕ → ℕ → Bool
 is_due None now = true
 is_due (Some told) now = nat_le pause (now - told)
 
--- it happens once more, at that moment: how often it has happened since it was told last, where it is
--- told now
+-- it happens once more, at that moment: how often it has happened since it was told last, where it
+-- is told now
 abbrev pub due_at : Pace → ℕ → Option ℕ
 due_at pace now = if is_due pace.told now then Some (one_more pace.untold) else None
 

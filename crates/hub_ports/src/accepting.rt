@@ -19,8 +19,8 @@ struct AcceptTeller<E> {
 
 /// A listener that hands on each answer of another one. Where that can't accept a connection, the
 /// cause is told on `E`, the first at once and from there on once a minute at most, by the clock of
-/// `R`, and that the listener itself has failed each time: whoever runs a server learns why nobody is
-/// answered. Several doors may share it; they wait for each other while one of them tells.
+/// `R`, and that the listener itself has failed each time: whoever runs a server learns why nobody
+/// is answered. Several doors may share it; they wait for each other while one of them tells.
 #[derive(Drop)]
 pub struct ToldListener<L, R, E> {
     listener: L,
@@ -65,7 +65,8 @@ impl<L: OpenListener, R: rt::Clock + Wait, E: Write + Copy> OpenListener for Tol
 }
 
 impl<E: Write + Copy> AcceptTeller<E> {
-    /// Tells that a further connection can't be accepted, where that is due. Without memory for the line there is none.
+    /// Tells that a further connection can't be accepted, where that is due. Without memory for the
+    /// line there is none.
     fn hear(&mut self, alloc: Global, now: u64, cause: ErrorKind) {
         if let Ok(Some(line)) = accept_news(alloc, &mut self.pace, now, cause) {
             tell(&mut StdSink::new(self.errors), line.as_bytes());

@@ -27,7 +27,8 @@ pub(crate) fn bind<R: Net<Listener = TcpListener, Stream = TcpStream>>(
     first_of(rt, place, &|address| rt.bind(address))
 }
 
-/// What the first address of the place gives that gives anything; or why the last one gives nothing.
+/// What the first address of the place gives that gives anything; or why the last one gives
+/// nothing.
 fn first_of<R: Net, T: Drop, F: Fn(SocketAddr) -> io::Result<T>>(
     rt: &R,
     place: &str,

@@ -22,8 +22,8 @@ pub struct Calling<R, E> {
     errors: E,
 }
 
-/// A connection that messages come over. It is made at its first read, so by the thread that asks for
-/// the messages: a place that doesn't answer delays nobody else.
+/// A connection that messages come over. It is made at its first read, so by the thread that asks
+/// for the messages: a place that doesn't answer delays nobody else.
 #[derive(Drop)]
 pub enum Connection<R, E> {
     /// The next read makes it.
@@ -35,8 +35,8 @@ pub enum Connection<R, E> {
 }
 
 impl<R: Copy, E: Copy> Connection<R, E> {
-    /// A connection of a feed to that place, an address and a port, that is still to be made. Where it
-    /// can't be, `errors` is told; or want of memory.
+    /// A connection of a feed to that place, an address and a port, that is still to be made. Where
+    /// it can't be, `errors` is told; or want of memory.
     pub(crate) fn ahead(
         system: R,
         alloc: Global,

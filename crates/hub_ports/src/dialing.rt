@@ -25,10 +25,11 @@ const WAIT_SECONDS: u64 = 30;
 /// The port of a host that names none (RFC 9110, section 4.2.1).
 const HTTP_PORT: u16 = 80;
 
-/// A door over the connections that are made to a host, one for each call. Before each but the first,
-/// made or not, some seconds pass. A connection has times within which a read has to give bytes and a
-/// write has to take some; where they pass, its source or its sink has failed. It never ends. That a connection can't be
-/// made is told on `E`, the first at once and from there on once a minute at most, by the clock of `R`.
+/// A door over the connections that are made to a host, one for each call. Before each but the
+/// first, made or not, some seconds pass. A connection has times within which a read has to give
+/// bytes and a write has to take some; where they pass, its source or its sink has failed. It never
+/// ends. That a connection can't be made is told on `E`, the first at once and from there on once a
+/// minute at most, by the clock of `R`.
 #[derive(Drop)]
 pub struct TcpDial<R, E> {
     system: R,
@@ -43,8 +44,8 @@ pub struct TcpDial<R, E> {
 }
 
 impl<R: Copy, E: Copy> TcpDial<R, E> {
-    /// A door of that feed to that host, an address or a name, with a port or without one, for 80. So
-    /// many seconds pass before each connection but the first. Or want of memory.
+    /// A door of that feed to that host, an address or a name, with a port or without one, for 80.
+    /// So many seconds pass before each connection but the first. Or want of memory.
     pub fn new(
         system: R,
         alloc: Global,
@@ -70,7 +71,8 @@ impl<R: Copy, E: Copy> TcpDial<R, E> {
 }
 
 impl<R: rt::Clock, E: Write + Copy> TcpDial<R, E> {
-    /// Tells that a connection can't be made, where that is due. Without memory for the line there is none.
+    /// Tells that a connection can't be made, where that is due. Without memory for the line there
+    /// is none.
     fn tell_cause(&mut self, cause: ErrorKind)
         ensures { dial_faults self.new ≡ dial_faults self.old }
     {

@@ -1,5 +1,6 @@
-//! What is told of what fails again and again: at once the first time, and from there on once a minute at most, with
-//! how often it has failed since. A listener that has failed itself is told of at once each time.
+//! What is told of what fails again and again: at once the first time, and from there on once a
+//! minute at most, with how often it has failed since. A listener that has failed itself is told of
+//! at once each time.
 
 ghost use Rattle.std.specs.Prelude.{◌≡◌, string_bytes, IfOk};
 ghost use Rattle.std.specs.Option.{option_map};
@@ -14,9 +15,9 @@ use poll_port::PollFault;
 use std::alloc::Global;
 use std::io::ErrorKind;
 
-/// A further connection can't be accepted, for that cause. The line that tells it, where it is told at that moment, in
-/// seconds of a clock that never goes back: at once where the listener itself has failed, which ends a door. Or want of
-/// memory, which counts as told.
+/// A further connection can't be accepted, for that cause. The line that tells it, where it is told
+/// at that moment, in seconds of a clock that never goes back: at once where the listener itself
+/// has failed, which ends a door. Or want of memory, which counts as told.
 pub fn accept_news(
     alloc: Global,
     pace: &mut Pace,
@@ -34,8 +35,8 @@ pub fn accept_news(
     }
 }
 
-/// A further connection can't be accepted, for that cause. How often that was so since it was told last,
-/// where it is told at that moment.
+/// A further connection can't be accepted, for that cause. How often that was so since it was told
+/// last, where it is told at that moment.
 fn count_accept(pace: &mut Pace, now: u64, cause: ErrorKind) -> Option<u64>
     ensures after { pace.new ≡ accepts_after pace.old now cause }
     ensures told { result ≡ accepts_told pace.old now cause }
@@ -47,8 +48,9 @@ fn count_accept(pace: &mut Pace, now: u64, cause: ErrorKind) -> Option<u64>
     }
 }
 
-/// A further poll of that feed has got no good reply. The line that tells it, where it is told at that moment, in
-/// seconds of a clock that never goes back. Or want of memory, which counts as told.
+/// A further poll of that feed has got no good reply. The line that tells it, where it is told at
+/// that moment, in seconds of a clock that never goes back. Or want of memory, which counts as
+/// told.
 pub fn poll_news(
     alloc: Global,
     feed: &str,
@@ -66,8 +68,9 @@ pub fn poll_news(
     }
 }
 
-/// A further connection of that feed to that place can't be made, for that cause. The line that tells it, where it is
-/// told at that moment, in seconds of a clock that never goes back. Or want of memory, which counts as told.
+/// A further connection of that feed to that place can't be made, for that cause. The line that
+/// tells it, where it is told at that moment, in seconds of a clock that never goes back. Or want
+/// of memory, which counts as told.
 pub fn dial_news(
     alloc: Global,
     feed: &str,

@@ -15,8 +15,9 @@ use std::net::{Net, OpenListener, TcpListener, TcpStream};
 use std::rt;
 use std::sync::{Arc, Wait};
 
-/// The listener of that address, and none where it can't be bound; a line on `errors` tells which. With the port 0
-/// the system chooses one, which the line names. The listener tells there why connections can't be accepted.
+/// The listener of that address, and none where it can't be bound; a line on `errors` tells which.
+/// With the port 0 the system chooses one, which the line names. The listener tells there why
+/// connections can't be accepted.
 pub fn listen<R, E>(
     rt: &R,
     alloc: Global,
@@ -44,8 +45,8 @@ where
     }
 }
 
-/// So many doors of the listener, each for up to `most` connections, of which 0 sets no end. Without a
-/// listener they are closed.
+/// So many doors of the listener, each for up to `most` connections, of which 0 sets no end.
+/// Without a listener they are closed.
 pub fn doors_of<L: OpenListener<Stream = TcpStream> + Drop, R: rt::Clock + Copy>(
     rt: &R,
     alloc: Global,

@@ -23,8 +23,8 @@ use std::io::Write;
 use std::net::{Net, TcpListener, TcpStream};
 use std::{rt, str};
 
-/// The port of a feed, by the kind that the configuration gives it. It tells on `E` that a connection
-/// can't be made, why polls fail, and why a file can't be read.
+/// The port of a feed, by the kind that the configuration gives it. It tells on `E` that a
+/// connection can't be made, why polls fail, and why a file can't be read.
 #[derive(Drop)]
 pub enum SystemPort<R, E> {
     /// No message comes.
@@ -58,8 +58,8 @@ where
     }
 }
 
-/// The port of each feed, in their order. What becomes of each is told on `errors`. Their numbers are in the ranges of a
-/// configuration.
+/// The port of each feed, in their order. What becomes of each is told on `errors`. Their numbers
+/// are in the ranges of a configuration.
 pub fn open_ports<R, E>(
     rt: &R,
     alloc: Global,
@@ -83,8 +83,8 @@ where
     Ok(ports)
 }
 
-/// The port of a feed. No connection is made before its first ask. Where that of a stream can't be made
-/// then, a line tells why, and that ask fails. One poll at least may be tried.
+/// The port of a feed. No connection is made before its first ask. Where that of a stream can't be
+/// made then, a line tells why, and that ask fails. One poll at least may be tried.
 pub fn open_port<R, E>(
     rt: &R,
     alloc: Global,
@@ -165,8 +165,8 @@ fn path_in(place: &str) -> Option<&str>
     }
 }
 
-/// How many bytes of a place are its host: those in front of the first `/` that stands behind at least
-/// one byte.
+/// How many bytes of a place are its host: those in front of the first `/` that stands behind at
+/// least one byte.
 fn host_length(place: &[u8]) -> usize
     ensures value { result ≡ host_length place.now }
     ensures within { result ≤ length place.now }

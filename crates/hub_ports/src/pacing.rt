@@ -10,8 +10,8 @@ use std::time::Duration;
 /// For how many seconds nothing more is told, once something was.
 const PAUSE: u64 = 60;
 
-/// How often something happens that is told at once the first time, and from there on once a minute at
-/// most. Moments are in seconds, of a clock that never goes back.
+/// How often something happens that is told at once the first time, and from there on once a minute
+/// at most. Moments are in seconds, of a clock that never goes back.
 #[derive(Clone, Copy, Debug, PartialEq, Eq)]
 pub struct Pace {
     told: Option<u64>,
@@ -29,8 +29,8 @@ impl Pace {
         }
     }
 
-    /// It happens once more, at that moment. Where it is to be told now: how often it has happened since
-    /// it was told last.
+    /// It happens once more, at that moment. Where it is to be told now: how often it has happened
+    /// since it was told last.
     pub fn count(&mut self, now: u64) -> Option<u64>
         ensures due { result ≡ due_at self.old now }
         ensures after { self.new ≡ pace_after self.old now }

@@ -12,8 +12,8 @@ use std::alloc::Global;
 use std::io::Write;
 use std::rt;
 
-/// Tells on `E` why the polls of a feed fail, the first at once and from there on once a minute at most, by the clock of
-/// `R`.
+/// Tells on `E` why the polls of a feed fail, the first at once and from there on once a minute at
+/// most, by the clock of `R`.
 #[derive(Drop)]
 pub struct PollTeller<R, E> {
     system: R,

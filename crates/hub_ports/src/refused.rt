@@ -6,8 +6,8 @@ ghost use Rattle.hub_ports.specs.Pacing.{new_refusals, told_of, refusals_after};
 use crate::pacing::Pace;
 use hub_core::Refusal;
 
-/// The messages of a feed that were refused, so far as that is told: those for which there was no memory
-/// at a pace of their own.
+/// The messages of a feed that were refused, so far as that is told: those for which there was no
+/// memory at a pace of their own.
 #[derive(Clone, Copy, Debug, PartialEq, Eq)]
 pub struct Refusals {
     is_polled: bool,
@@ -27,8 +27,9 @@ impl Refusals {
         }
     }
 
-    /// One more is refused, at a moment in seconds of a clock that never goes back. Where that is to be
-    /// told now: of how many. An address that has nothing new repeats its message, which isn't told.
+    /// One more is refused, at a moment in seconds of a clock that never goes back. Where that is
+    /// to be told now: of how many. An address that has nothing new repeats its message, which
+    /// isn't told.
     pub fn count(&mut self, refusal: &Refusal, now: u64) -> Option<u64>
         ensures told { result ≡ told_of self.old refusal.now now }
         ensures after { self.new ≡ refusals_after self.old refusal.now now }

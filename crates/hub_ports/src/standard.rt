@@ -5,10 +5,10 @@ use std::{fs, rt};
 /// Where nothing comes from.
 const NOTHING: &str = "/dev/null";
 
-/// Files that have those of the numbers 0 to 2 that the program was started without: the system gives
-/// each file the least number that is free. While they are held, nothing that is opened later, as the
-/// connection to a sender, is taken for standard input, output or error. They can't be written to, so
-/// what is told there is lost, as where a number is closed.
+/// Files that have those of the numbers 0 to 2 that the program was started without: the system
+/// gives each file the least number that is free. While they are held, nothing that is opened
+/// later, as the connection to a sender, is taken for standard input, output or error. They can't
+/// be written to, so what is told there is lost, as where a number is closed.
 #[derive(Drop)]
 pub struct HeldNumbers<F> {
     first: Option<F>,

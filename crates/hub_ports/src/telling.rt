@@ -43,8 +43,8 @@ pub(crate) fn no_listener_line(
     fault_line(alloc, "hub: can't listen on ", address, cause_text(cause))
 }
 
-/// `hub: feed <feed> can't connect to <place>: <cause>`, with the count before the cause of the last where they are
-/// several, and with an LF.
+/// `hub: feed <feed> can't connect to <place>: <cause>`, with the count before the cause of the
+/// last where they are several, and with an LF.
 pub(crate) fn no_connection_line(
     alloc: Global,
     feed: &str,
@@ -66,8 +66,8 @@ fn connecting_text(alloc: Global, feed: &str) -> Result<String, NoMemory>
     format!(in alloc; "hub: feed {feed} can't connect to ")
 }
 
-/// `hub: can't accept a connection: <cause>`, with the count before the cause of the last where they are several, and
-/// with an LF.
+/// `hub: can't accept a connection: <cause>`, with the count before the cause of the last where
+/// they are several, and with an LF.
 pub(crate) fn no_accept_line(
     alloc: Global,
     count: u64,
@@ -104,8 +104,8 @@ fn reading_text(alloc: Global, feed: &str) -> Result<String, NoMemory>
     format!(in alloc; "hub: feed {feed} can't read ")
 }
 
-/// `hub: feed <feed> got no good reply: <fault>`, with the count before the fault of the last where they are several,
-/// and with an LF.
+/// `hub: feed <feed> got no good reply: <fault>`, with the count before the fault of the last where
+/// they are several, and with an LF.
 pub(crate) fn bad_reply_line(
     alloc: Global,
     feed: &str,
@@ -160,8 +160,8 @@ fn news_text(news: FeedNews) -> &'static str
     }
 }
 
-/// How many messages of a feed were refused, with the cause of the last one; or for how many there was
-/// no memory, where that is the cause. With an LF.
+/// How many messages of a feed were refused, with the cause of the last one; or for how many there
+/// was no memory, where that is the cause. With an LF.
 pub(crate) fn refusal_line(
     alloc: Global,
     feed: &str,
@@ -236,8 +236,8 @@ fn cause_text(cause: ErrorKind) -> &'static str
     }
 }
 
-/// Why a connection can't be accepted, in a few words. The system has no kind of its own for too many open files, and an
-/// input that is invalid is the listener.
+/// Why a connection can't be accepted, in a few words. The system has no kind of its own for too
+/// many open files, and an input that is invalid is the listener.
 fn accept_text(cause: ErrorKind) -> &'static str
     ensures { result.now ≡ lines.accept_text cause }
 {

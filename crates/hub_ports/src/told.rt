@@ -44,9 +44,10 @@ pub(crate) struct Teller<R, E> {
     errors: E,
 }
 
-/// The port of a feed, with the same answers. Its end, or that it failed, is told on `E`, and so is its
-/// first message that is too long: whoever runs a server that goes on learns why its boards follow the
-/// feed no more. That messages are refused is told once a minute at most, by the clock of `R`.
+/// The port of a feed, with the same answers. Its end, or that it failed, is told on `E`, and so is
+/// its first message that is too long: whoever runs a server that goes on learns why its boards
+/// follow the feed no more. That messages are refused is told once a minute at most, by the clock
+/// of `R`.
 #[derive(Drop)]
 pub struct ToldPort<R, P, E> {
     port: P,
@@ -54,8 +55,8 @@ pub struct ToldPort<R, P, E> {
 }
 
 impl<R: rt::Clock + Copy, P: FeedPort, E: Write + Copy> ToldPort<R, P, E> {
-    /// A port of that feed, which was not asked yet. Of a feed without messages nothing is told. Or want
-    /// of memory.
+    /// A port of that feed, which was not asked yet. Of a feed without messages nothing is told. Or
+    /// want of memory.
     pub fn new(
         system: R,
         alloc: Global,

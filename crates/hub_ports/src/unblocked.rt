@@ -9,8 +9,8 @@ use std::os::fd::AsRawFd;
 /// The most bytes of a write: as many have room in a pipe that takes any (`PIPE_BUF` of Linux).
 const PIECE: usize = 4096;
 
-/// A writer that fails where it would have to be waited for, as standard error where it is a pipe that
-/// is full and that nobody reads.
+/// A writer that fails where it would have to be waited for, as standard error where it is a pipe
+/// that is full and that nobody reads.
 #[derive(Clone, Copy, Drop)]
 pub struct Unblocked<W> {
     writer: W,

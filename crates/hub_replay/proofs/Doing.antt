@@ -1,5 +1,5 @@
 -- Doing a record, by its line.
-use Rattle.std.proofs.Common.{◌≡◌, ℕ, ◌≤◌, length, Bool, true, List, [], ◌++◌, drop, Option, Some, None, refl, sym, ◌∙◌, append-nil}
+use Rattle.std.proofs.Common.{◌≡◌, ℕ, ◌≤◌, length, Bool, true, List, [], ◌++◌, drop, Option, Some, None, refl, sym, ◌∙◌, append-nil, arith}
 use Rattle.std.proofs.lemmas.List.Elements.{All-nil}
 use Rattle.board_text_defs.specs.Answers.{feed_number}
 use Rattle.hub_replay_defs.specs.Optional.{◌>>=◌}
@@ -11,30 +11,14 @@ use Rattle.hub_replay_defs.proofs.Options.{bind_at, bind_none}
 use Rattle.hub_replay_defs.proofs.Turns.{turn_line, no_line_here, no_line_turn}
 use Rattle.hub_replay_defs.proofs.Opens.{waits_by_line, short_waits}
 use Rattle.hub_replay.specs.declared.records.Step.{Step}
-use Rattle.hub_replay.specs.declared.records.Step.TheVariants.{Whole, Ends, Short, Long, Refused, NoMemory}
+use Rattle.hub_replay.specs.declared.records.Step.TheVariants.{Whole}
 use Rattle.hub_replay.specs.Records.{Turned, Does, Turns, Acts, LacksLine, numbered_turn}
 
 -- what is done follows the records that the bytes give
 pub does_same : (f g : Turned) (u v : List Served → List ℕ → Bool) → ((later : List Served) (more : List ℕ) → f later more ≡ g later more)
     → ((later : List Served) (more : List ℕ) → u later more ≡ v later more)
     → (step : Step) (old new : Hub) (bytes said said' : List ℕ) → Does g v step old new bytes said said' → Does f u step old new bytes said said'
-does_same f g u v same alike (Whole size) old new bytes said said' h = record {
-  reply = h.reply;
-  says = h.says;
-  within = h.within;
-  served = h.served;
-  are_served = h.are_served;
-  is = λ later more. same (h.served ++ later) more ∙ h.is later more;
-}
-does_same f g u v same alike Ends old new bytes said said' h = record { says = h.says; rest = h.rest; is = λ later more. same later more ∙ h.is later more }
-does_same f g u v same alike Short old new bytes said said' h = (h.0, λ later. same later [] ∙ h.1 later, λ later. alike later [] ∙ h.2 later)
-does_same f g u v same alike (Long end count) old new bytes said said' h = (
-  h.0,
-  λ later more. same later more ∙ h.1 later more,
-  λ later more few. alike later more ∙ h.2 later more few,
-)
-does_same f g u v same alike Refused old new bytes said said' h = (h.0, λ later more. same later more ∙ h.1 later more)
-does_same f g u v same alike NoMemory old new bytes said said' h = h
+does_same f g u v same alike later old new bytes said said' h = grind arith
 
 -- the record in front is that of its line
 pub turns_of_line : (hub new : Hub) (bytes line : List ℕ) (behind : ℕ) (head : Head) (step : Step) (said said' : List ℕ) → line_within longest_line bytes ≡ Some (line, drop behind bytes) → head_of line ≡ Some head
@@ -56,27 +40,17 @@ pub no_line_yet : (hub : Hub) (bytes : List ℕ) → line_within longest_line by
 no_line_yet hub bytes h = rw (append-nil bytes) (no_line_here hub bytes h)
 
 message_of_found : (hub : Hub) (feed : ℕ) (found : Option (List ℕ × List ℕ)) → (found >>= λ f. Some (offered_turn hub feed f)) ≡ numbered_turn hub feed found
-message_of_found hub feed None = refl
-message_of_found hub feed (Some f) = refl
+message_of_found hub feed found = grind arith
 
 -- what a message for a feed that is there does, by that feed's number
 pub acts_of_number : (hub : Hub) (bytes name : List ℕ) (feed size behind : ℕ) → feed_number hub.plans name ≡ Some feed
     → (more : List ℕ) → act hub (Message name size) (drop behind bytes ++ more) ≡ numbered_turn hub feed (payload_at size (drop behind bytes ++ more))
-acts_of_number hub bytes name feed size behind is more =
-    bind_at (feed_number hub.plans name) _ feed is ∙ message_of_found hub feed (payload_at size (drop behind bytes ++ more))
+acts_of_number hub bytes name feed size behind is more = grind (arith, bind_at, message_of_found)
 
 -- bytes without a line among them wait, or are no record
 pub lacks_line : (hub : Hub) (bytes said : List ℕ) (step : Step) → line_within longest_line bytes ≡ None → LacksLine (length bytes) step → Turns step hub hub bytes said said
-lacks_line hub bytes said Short none few = (
-  record { hub = refl; says = refl },
-  λ later. no_line_yet (serving later hub) bytes none,
-  λ later. rw (append-nil bytes) (short_waits (serving later hub) bytes none few),
-)
-lacks_line hub bytes said Refused none many = (refl, λ later. no_line_turn (serving later hub) bytes many none)
-lacks_line hub bytes said (Whole size) none h = absurd h
-lacks_line hub bytes said Ends none h = absurd h
-lacks_line hub bytes said (Long end size) none h = absurd h
-lacks_line hub bytes said NoMemory none h = absurd h
+lacks_line hub bytes said step none few =
+    grind (arith, no_line_yet, append-nil, short_waits, no_line_turn)
 
 -- a feed was declared
 pub feed_declared : (hub new : Hub) (name : List ℕ) (behind : ℕ) (bytes said : List ℕ) → behind ≤ length bytes → may_declare hub name ≡ true

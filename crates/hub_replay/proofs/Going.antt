@@ -44,16 +44,11 @@ leave_here ending old more sent unsent said left left' written written' read wro
 
 -- no record stands in front
 pub refused_here : (old : At) (more : List ℕ) (left' : Option (List ℕ)) → turn old.hub (old.held ++ (more ++ remaining left' (old.allowed - length more))) ≡ None → EndsAs (Refused old.place) old more [] left'
-refused_here old more left' h =
-    let none : old.place - old.place ≡ 0 = omega arith in
-    (omega arith, run_none old.hub (old.held ++ (more ++ remaining left' (old.allowed - length more))) h ∙ ap (λ (n : ℕ). let r : Run = record { out = []; taken = n; ended = false } in r) (sym none))
+refused_here old more left' h = grind (arith, run_none)
 
 -- no whole record stands in what was read, and what does waits for more
 pub nothing_told : (old : At) (more : List ℕ) (left' : Option (List ℕ)) → turn old.hub (old.held ++ more) ≡ None → waits old.hub (old.held ++ more) ≡ true → EndsAs InputFault old more [] left'
-nothing_told old more left' h waiting = (
-  ap (λ (r : Run). r.out) (run_none old.hub (old.held ++ more) h),
-  open_none old.hub (old.held ++ more) h ∙ waiting,
-)
+nothing_told old more left' h waiting = grind (arith, run_none, open_none)
 
 -- a record that was done, of so many bytes
 abbrev IsDone : At → Hub → List ℕ → List ℕ → ℕ → Type 0
@@ -195,10 +190,7 @@ get_first (b ∷ gone) now rest zero e some = absurd (omega arith)
 get_first (b ∷ gone) now rest (suc end) e some = get_first gone now rest end (omega arith) some
 
 drop_first : (gone now rest : List ℕ) (end : ℕ) → length gone ≡ end → 0 < length now → drop (end + 1) (gone ++ (now ++ rest)) ≡ drop 1 now ++ rest
-drop_first gone now rest end e some =
-    let one : 1 ≤ length now = some in
-    let sum : end + 1 ≡ length gone + 1 = omega arith in
-    rw (sum, drop-append-add gone (now ++ rest) 1) (drop-append-le 1 now rest one)
+drop_first gone now rest end e some = grind (arith, drop-append-add, drop-append-le)
 
 -- so of whatever connections are given
 abbrev pub AlwaysLong : At → ℕ → ℕ → Type 0
@@ -282,9 +274,7 @@ long_advances_from r w w' hub said emptied new place end count left left' writte
 -- a step from a replay that is as before is a step from it
 pub advances_same : (r : Option HowEnded) (w : Windowed) (hub hub' : Hub) (said said' : List ℕ) (place : ℕ) (new : At) (left left' written written' : Option (List ℕ)) → hub' ≡ hub → said' ≡ said
     → Advances r (window_at w hub' said' place) new left left' written written' → Advances r (window_at w hub said place) new left left' written written'
-advances_same r w hub hub' said said' place new left left' written written' e f h =
-    subst (λ (x : Hub). Advances r (window_at w x said place) new left left' written written') e
-    (subst (λ (s : List ℕ). Advances r (window_at w hub' s place) new left left' written written') f h)
+advances_same r w hub hub' said said' place new left left' written written' e f h = grind arith
 
 -- no record stands in front, whatever follows
 pub refused_leaves : (old : At) (said' : List ℕ) (left written : Option (List ℕ)) → ((later : List Served) (more : List ℕ) → turn (serving later old.hub) (old.held ++ more) ≡ None)
@@ -331,8 +321,7 @@ goes_none old left written =
 
 -- what is said over two steps
 said_joined : (a b d told told' sent sent' : List ℕ) → a ++ told ≡ sent ++ b → b ++ told' ≡ sent' ++ d → a ++ (told ++ told') ≡ (sent ++ sent') ++ d
-said_joined a b d told told' sent sent' p q =
-    sym (append_assoc a told told') ∙ ap (λ xs. xs ++ told') p ∙ append_assoc sent b told' ∙ ap (λ xs. sent ++ xs) q ∙ sym (append_assoc sent sent' d)
+said_joined a b d told told' sent sent' p q = grind (arith, append_assoc)
 
 -- one step after another
 pub goes_on : (a b d : At) (left left' left'' written written' written'' : Option (List ℕ)) → Goes a b left left' written written' → Goes b d left' left'' written' written'' → Goes a d left left'' written written''
@@ -376,21 +365,8 @@ ends_later Ended a b left left' written written' left'' more told later p few h 
   ap (λ xs. run (serving (p.served ++ later) a.hub) (a.held ++ xs)) (append_assoc p.more more rest) ∙ p.runs later (more ++ rest) ∙ ap (behind p.told (b.place - a.place)) (h rest).1,
 )
 ends_later (Refused place) a b left left' written written' left'' more told later p few h =
-    let joined = length-append p.more more in
-    let allowed = p.allowed in
-    let rises = p.rises in
-    let after = h.0 in
-    let left_is : a.allowed - length (p.more ++ more) ≡ b.allowed - length more = omega arith in
-    let places : (b.place - a.place) + (place - b.place) ≡ place - a.place = omega arith in (
-      omega arith,
-      rw left_is (ap (λ xs. run (serving (p.served ++ later) a.hub) (a.held ++ xs)) (append_assoc p.more more (remaining left'' (b.allowed - length more)))
-          ∙ p.runs later (more ++ remaining left'' (b.allowed - length more))
-          ∙ ap (behind p.told (b.place - a.place)) h.1 ∙ ap (λ (n : ℕ). let r : Run = record { out = p.told ++ told; taken = n; ended = false } in r) places),
-    )
-ends_later InputFault a b left left' written written' left'' more told later p few h = (
-  ap (λ (r : Run). r.out) (p.runs later more) ∙ ap (λ xs. p.told ++ xs) h.0,
-  p.opens later more ∙ h.1,
-)
+    grind (arith, length-append, append_assoc)
+ends_later InputFault a b left left' written written' left'' more told later p few h = grind arith
 ends_later OutputFault a b left left' written written' left'' more told later p few h = tt
 ends_later NoMemory a b left left' written written' left'' more told later p few h = tt
 

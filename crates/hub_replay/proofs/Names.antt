@@ -1,13 +1,12 @@
 -- The number of a name.
-use Rattle.std.proofs.Common.{◌≡◌, ℕ, ◌+◌, ◌<◌, List, [], ◌∷◌, length, Option, Some, None, Bool, true, false, sym, ◌∙◌, arith, MatchOption}
+use Rattle.std.proofs.Common.{◌≡◌, ℕ, ◌+◌, ◌<◌, List, [], ◌∷◌, length, Option, Some, None, Bool, sym, arith, MatchOption}
 use Rattle.std.specs.Prelude.{cond, position}
 use Rattle.std.specs.List.{position_from}
 use Rattle.std.proofs.lemmas.Iterator.Adapters.{position_from-zero}
 
 within_from : {A : Type 0} (test : A → Bool) (here : Bool) (at : ℕ) (x : A) (xs : List A) (k : ℕ)
     → ((j : ℕ) → position_from test (at + 1) xs ≡ Some j → j < at + 1 + length xs) → cond here (Some at) (position_from test (at + 1) xs) ≡ Some k → k < at + length (x ∷ xs)
-within_from test true at x xs k rest h = let e : at ≡ k = cc in omega arith
-within_from test false at x xs k rest h = let later = rest k h in omega arith
+within_from test here at x xs k rest h = grind arith
 
 position_within : {A : Type 0} (test : A → Bool) (at : ℕ) (xs : List A) (k : ℕ) → position_from test at xs ≡ Some k → k < at + length xs
 position_within test at [] k h = cc
@@ -17,8 +16,7 @@ abbrev pub IsPlace : {A : Type 0} → (A → Bool) → List A → Option ℕ →
 IsPlace test names found = MatchOption found (position test names ≡ None) (λ k. (k < length names) × (position test names ≡ Some k))
 
 is_place : {A : Type 0} (test : A → Bool) (names : List A) (found : Option ℕ) → position test names ≡ found → IsPlace test names found
-is_place test names None h = h
-is_place test names (Some k) h = let within = position_within test 0 names k (sym (position_from-zero test names) ∙ h) in (omega arith, h)
+is_place test names found h = grind (arith, position_within, position_from-zero)
 
 -- the first place where a test passes is a place of the list
 pub place_found : {A : Type 0} (test : A → Bool) (names : List A) (found : Option ℕ) → found ≡ position test names → IsPlace test names found

@@ -1,12 +1,12 @@
 -- A message for a feed, by its payload.
-use Rattle.std.proofs.Common.{◌≡◌, ◌≢◌, ℕ, zero, suc, ◌+◌, ◌≤◌, ◌<◌, List, [], ◌∷◌, ◌++◌, length, take, drop, Option, Some, None, Bool, true, false, refl, sym, ap, ◌∙◌, arith, append-nil, length-drop, length-append, Result, Ok}
+use Rattle.std.proofs.Common.{◌≡◌, ◌≢◌, ℕ, zero, suc, ◌+◌, ◌≤◌, ◌<◌, List, [], ◌∷◌, ◌++◌, length, take, drop, Option, Some, None, Bool, true, false, refl, sym, ap, ◌∙◌, arith, append-nil, length-drop, length-append, Result}
 use Rattle.std.specs.Prelude.{slice_get, ◌==◌, Err}
 use Rattle.std.proofs.lemmas.Bool.Decides.{nat_tests}
 use Rattle.std.proofs.lemmas.List.{take-append-le, drop-append-le, drop-drop, length-take-le}
 use Rattle.std.proofs.lemmas.List.Elements.{All-nil}
 use Rattle.std.proofs.lemmas.Option.{slice_get_past, slice_get_within}
 use Rattle.feed_defs.specs.declared.history.Entry.{Entry}
-use Rattle.feed_defs.specs.History.{Refusal, OfferOutcome, offer_outcome, outcome_of_judgement, judgement_of, last_stamp, longest_message}
+use Rattle.feed_defs.specs.History.{Refusal, offer_outcome, outcome_of_judgement, judgement_of, last_stamp, longest_message}
 use Rattle.feed_defs.specs.History.Refusal.{TooLong}
 use Rattle.feed_defs.proofs.WellFormed.{too_long}
 use Rattle.http_serve_defs.specs.Connections.{IsServed}
@@ -17,15 +17,13 @@ use Rattle.board_text_defs.specs.Answers.{feed_number}
 use Rattle.hub_replay_defs.proofs.Opens.{payload_short}
 use Rattle.hub_replay_defs.specs.Lines.Head.{Message}
 use Rattle.rt_types.specs.declared.message.FeedMessage.{FeedMessage}
-use Rattle.hub_core.specs.Answers.{cause_of}
 use Rattle.hub_core.specs.declared.refusal.Refusal.{Refusal as Answer}
 use Rattle.hub_replay.specs.Feeds.{Answers, RefusesFor}
 use Rattle.hub_replay.specs.Records.{Did, numbered_turn, long_turn, is_fed}
 use Rattle.script_lines.specs.Replies.{IsRefusalLine, IsReplyLine}
 
 fed_same : (o : Option ℕ) → is_line_end o ≡ is_fed o
-fed_same None = refl
-fed_same (Some b) = refl
+fed_same o = grind arith
 
 -- a byte of what stands behind a place
 get_behind : (at n : ℕ) (xs : List ℕ) → slice_get (drop at xs) n ≡ slice_get xs (at + n)
@@ -50,13 +48,7 @@ payload_in n xs = payload_is n xs ∙ ap (λ test. only_if test (take n xs, drop
 long_from : (hub : Hub) (feed n : ℕ) (xs : List ℕ) (test : Bool) → is_line_end (slice_get xs n) ≡ test → longest_message < n
     → numbered_turn hub feed (only_if test (take n xs, drop (n + 1) xs))
     ≡ only_if test (record { said = reply_line (Err (TooLong n)); hub = record hub { begun = true }; rest = drop (n + 1) xs; ended = false })
-long_from hub feed n xs true fed long =
-    let within = fed_within xs n fed in
-    let front : n ≤ length xs = omega arith in
-    let size = length-take-le n xs front in
-    let more : longest_message < length (take n xs) = omega arith in
-    rw (refused_long feed (take n xs) hub.history more, size) refl
-long_from hub feed n xs false fed long = refl
+long_from hub feed n xs test fed long = grind (arith, fed_within, length-take-le, refused_long)
 
 -- a message too long to be looked at
 pub long_message : (hub : Hub) (feed n behind : ℕ) (bytes more : List ℕ) → behind ≤ length bytes → longest_message < n
@@ -104,10 +96,7 @@ no_line_feed hub feed n behind bytes more b within at other = rw (there n behind
 
 -- a payload that isn't whole yet
 pub no_payload_yet : (hub : Hub) (feed n behind : ℕ) (bytes : List ℕ) → length bytes ≤ behind + n → numbered_turn hub feed (payload_at n (drop behind bytes ++ [])) ≡ None
-no_payload_yet hub feed n behind bytes short =
-    let size = length-drop behind bytes in
-    let few : length (drop behind bytes) ≤ n = omega arith in
-    rw (append-nil (drop behind bytes), no_payload n (drop behind bytes) few) refl
+no_payload_yet hub feed n behind bytes short = grind (arith, length-drop, append-nil, no_payload)
 
 pub not_line_feed : (b : ℕ) → b ≢ 10 → (b == 10) ≡ false
 not_line_feed b h = grind (arith, nat_tests, h)
@@ -122,16 +111,12 @@ nothing_there (b ∷ bs) (suc place) h = let later = nothing_there bs place h in
 pub message_waits : (hub : Hub) (name : List ℕ) (feed n behind : ℕ) (bytes more : List ℕ) → feed_number hub.plans name ≡ Some feed → behind ≤ length bytes
     → length (bytes ++ more) ≤ behind + n → payload_waits hub (Message name n) (drop behind bytes ++ more) ≡ true
 message_waits hub name feed n behind bytes more found within few =
-    let all = length-append bytes more in
-    let rest = length-append (drop behind bytes) more in
-    let size = length-drop behind bytes in
-    payload_short hub name (drop behind bytes ++ more) feed n found (omega arith)
+    grind (arith, length-append, length-drop, payload_short)
 
 -- a message that was refused leaves the history as it was
 stays_refused : (feed : ℕ) (history : List Entry) (judgement : Result FeedMessage Refusal) (cause : Refusal) → (outcome_of_judgement feed history judgement).reply ≡ Err cause
     → (outcome_of_judgement feed history judgement).history ≡ history
-stays_refused feed history (Ok m) cause h = cc
-stays_refused feed history (Err e) cause h = refl
+stays_refused feed history judgement cause h = grind arith
 
 pub refusal_stays : (feed : ℕ) (bytes : List ℕ) (history : List Entry) (cause : Refusal) → (offer_outcome feed bytes history).reply ≡ Err cause → (offer_outcome feed bytes history).history ≡ history
 refusal_stays feed bytes history cause h = stays_refused feed history (judgement_of (last_stamp feed history) bytes) cause h
@@ -139,17 +124,9 @@ refusal_stays feed bytes history cause h = stays_refused feed history (judgement
 -- the line of a refusal was said
 refuses : (feed : ℕ) (bytes text said said' : List ℕ) (old new : Hub) (cause : Option Refusal) → RefusesFor feed bytes old new cause → IsRefusalLine cause text → said' ≡ said ++ text
     → (said' ≡ said ++ reply_line (offer_outcome feed bytes old.history).reply) × (new ≡ record old { history = (offer_outcome feed bytes old.history).history; begun = true })
-refuses feed bytes text said said' old new None answers line says = absurd line
-refuses feed bytes text said said' old new (Some cause) answers line says = (
-  says ∙ ap (λ xs. said ++ xs) (line ∙ ap reply_line (sym answers.0)),
-  answers.1 ∙ ap (λ (entries : List Entry). let h : Hub = record old { history = entries; begun = true } in h) (sym (refusal_stays feed bytes old.history cause answers.0)),
-)
+refuses feed bytes text said said' old new cause answers line says = grind (arith, refusal_stays)
 
 -- the line of an answer was said
 pub offers_to : (feed : ℕ) (bytes text said said' : List ℕ) (old new : Hub) (reply : Result ℕ Answer) → Answers feed bytes old new reply → IsReplyLine reply text → said' ≡ said ++ text
     → (said' ≡ said ++ reply_line (offer_outcome feed bytes old.history).reply) × (new ≡ record old { history = (offer_outcome feed bytes old.history).history; begun = true })
-offers_to feed bytes text said said' old new (Ok count) answers line says = (
-  says ∙ ap (λ xs. said ++ xs) (line ∙ ap (λ (o : OfferOutcome). reply_line o.reply) (sym answers.0)),
-  answers.1 ∙ ap (λ (o : OfferOutcome). let h : Hub = record old { history = o.history; begun = true } in h) (sym answers.0),
-)
-offers_to feed bytes text said said' old new (Err refusal) answers line says = refuses feed bytes text said said' old new (cause_of refusal) answers line says
+offers_to feed bytes text said said' old new reply answers line says = grind (arith, refuses)

@@ -1,5 +1,5 @@
 -- From the ending of a replay to the outcome of the command.
-use Rattle.std.proofs.Common.{◌≡◌, ℕ, ◌+◌, ◌-◌, ◌≤◌, List, [], ◌++◌, length, take, Option, Some, None, IfSome, Bool, true, false, refl, sym, ap, ◌∙◌, subst, arith, inl, inr, append-nil, append_assoc}
+use Rattle.std.proofs.Common.{◌≡◌, ℕ, ◌+◌, ◌-◌, ◌≤◌, List, [], ◌++◌, length, take, Option, Some, IfSome, Bool, true, false, refl, sym, ap, ◌∙◌, subst, arith, inl, inr, append-nil, append_assoc}
 use Rattle.std.specs.Prelude.{unwrap_or, min, ◌⊎◌}
 use Rattle.std.specs.Io.KnownBytes.{Appends, Consumes}
 use Rattle.std.proofs.KnownBytes.{Appends-nil, Appends-trans, Consumes-nil}
@@ -18,9 +18,7 @@ use Rattle.hub_replay.specs.Outcome.{IsScript, IsUnfinished, IsCut, Outcome, Fin
 
 -- what is told of the script is told of all that the input had
 pub script_told : (left left' : Option (List ℕ)) (script : List ℕ) (P : List ℕ → Type 0) → IsScript left left' script → P script → IfSome left P
-script_told None left' script P s h = tt
-script_told (Some xs) None script P s h = absurd s.read
-script_told (Some xs) (Some ys) script P s h = subst P (s.all ∙ sym s.read) h
+script_told left left' script P s h = grind arith
 
 -- the front of a list and what of its end is within
 take_over : (n : ℕ) (front back : List ℕ) → length front ≤ n → take n (front ++ back) ≡ front ++ take (n - length front) back
@@ -56,19 +54,7 @@ pub record LeavesOn (ending : Ending) (old : At) (said : List ℕ) (left left' w
 
 pub leaves_on : (ending : Ending) (old : At) (said : List ℕ) (left left' written written' : Option (List ℕ)) (p : Leaves ending old said left left' written written')
     → (later : List Served) → LeavesOn ending (at_serving (p.served ++ later) old) said left left' written written'
-leaves_on ending old said left left' written written' p later = record {
-  more = p.more;
-  sent = p.sent;
-  told = p.told;
-  unsent = p.unsent;
-  read = p.read;
-  wrote = p.wrote;
-  says = p.says;
-  keeps = p.keeps;
-  allowed = p.allowed;
-  front = p.front later;
-  ends = p.ends later;
-}
+leaves_on ending old said left left' written written' p later = grind arith
 
 -- the facts of an ending that its outcome takes
 pub record Told (hub : Hub) (left left' written written' : Option (List ℕ)) (told sent : List ℕ) (script : List ℕ) : Type 0 where
@@ -83,69 +69,24 @@ module _ (hub : Hub) (result : ℕ) (left left' written written' written'' : Opt
 
   done : (status : ℕ) → (status ≡ 0) ⊎ (status ≡ 7) → result ≡ status
       → IfSome left (λ script. Appends written written'' (output_of_script hub script).written × (result ≡ (output_of_script hub script).status)) → Ends
-  done status (inl zero_is) is whole = record {
-    is_status = inl (is ∙ zero_is);
-    whole = λ _. whole;
-    input_fault = λ e. absurd (omega arith);
-    output_fault = λ e. absurd (omega arith);
-    no_memory = λ e. absurd (omega arith);
-    input_count = inputs;
-    output_count = omega arith;
-  }
-  done status (inr seven) is whole = record {
-    is_status = inr (inr (inr (inr (is ∙ seven))));
-    whole = λ _. whole;
-    input_fault = λ e. absurd (omega arith);
-    output_fault = λ e. absurd (omega arith);
-    no_memory = λ e. absurd (omega arith);
-    input_count = inputs;
-    output_count = omega arith;
-  }
+  done status kind is whole = grind arith
 
   input_failed : result ≡ 4 → Rose input input' × ((taken : List ℕ) × IsUnfinished hub left left' taken × Appends written written'' (fault_output hub taken)) → Ends
-  input_failed is h = record {
-    is_status = inr (inl is);
-    whole = elim [ inl e ↦ absurd (omega arith) | inr e ↦ absurd (omega arith) ];
-    input_fault = λ _. h;
-    output_fault = λ e. absurd (omega arith);
-    no_memory = λ e. absurd (omega arith);
-    input_count = inputs;
-    output_count = omega arith;
-  }
+  input_failed is h = grind arith
 
   output_failed : result ≡ 5 → Rose out out'' × IsCut hub (output_of_script hub) left left' written written'' input input' → Ends
-  output_failed is h = record {
-    is_status = inr (inr (inl is));
-    whole = elim [ inl e ↦ absurd (omega arith) | inr e ↦ absurd (omega arith) ];
-    input_fault = λ e. absurd (omega arith);
-    output_fault = λ _. h;
-    no_memory = λ e. absurd (omega arith);
-    input_count = inputs;
-    output_count = omega arith;
-  }
+  output_failed is h = grind arith
 
   out_of_memory : result ≡ 6 → (script : List ℕ) × IsScript left left' script × ((n : ℕ) × Appends written written'' (take n (output_of_script hub script).written)) → Ends
-  out_of_memory is h = record {
-    is_status = inr (inr (inr (inl is)));
-    whole = elim [ inl e ↦ absurd (omega arith) | inr e ↦ absurd (omega arith) ];
-    input_fault = λ e. absurd (omega arith);
-    output_fault = λ e. absurd (omega arith);
-    no_memory = λ _. h;
-    input_count = inputs;
-    output_count = omega arith;
-  }
+  out_of_memory is h = grind arith
 
   -- what was written first, and the rest of what is told
   joined : (told sent unsent line : List ℕ) → told ≡ sent ++ unsent → Appends written written' sent → Appends written' written'' (unsent ++ line) → Appends written written'' (told ++ line)
-  joined told sent unsent line says first last =
-      let all : sent ++ (unsent ++ line) ≡ told ++ line = sym (append_assoc sent unsent line) ∙ ap (λ xs. xs ++ line) (sym says) in
-      subst (Appends written written'') all (Appends-trans written written' written'' sent (unsent ++ line) first last)
+  joined told sent unsent line says first last = grind (arith, append_assoc, Appends-trans)
 
   cut : (told sent unsent line : List ℕ) (n : ℕ) → told ≡ sent ++ unsent → Appends written written' sent → Appends written' written'' (take n (unsent ++ line)) → Appends written written'' (take (length sent + n) (told ++ line))
   cut told sent unsent line n says first last =
-      let all : sent ++ take n (unsent ++ line) ≡ take (length sent + n) (told ++ line) =
-      sym (take-append-add sent (unsent ++ line) n) ∙ ap (take (length sent + n)) (sym (append_assoc sent unsent line) ∙ ap (λ xs. xs ++ line) (sym says)) in
-      subst (Appends written written'') all (Appends-trans written written' written'' sent (take n (unsent ++ line)) first last)
+      grind (arith, take-append-add, append_assoc, Appends-trans)
 
   -- the output failed in the midst of what is defined
   cut_within : (script told line : List ℕ) (m : ℕ) → Rose out out'' → IsScript left left' script → (more : List ℕ) → (output_of_script hub script).written ≡ told ++ line ++ more → Appends written written'' (take m (told ++ line)) → result ≡ 5 → Ends
@@ -243,8 +184,7 @@ module _ (hub : Hub) (result : ℕ) (left left' written written' written'' : Opt
       defined_of (Refused place) said p ∙ ap output_of whole ∙ ap (λ (n : ℕ). let o : Output = record { written = p.told ++ refused_line n; status = 7 } in o) exact in
       refused_outcome place said p is h
   outcome InputFault said p cause (count, inl (e, wrote)) =
-      let all = joined p.told p.sent p.unsent fault_line p.says p.wrote (from_unsent p.unsent said fault_line p.keeps wrote) in
-      input_failed e (cause.2, (p.more, unfinished said p, subst (λ xs. Appends written written'' (xs ++ fault_line)) (sym p.ends.0) all))
+      grind (arith, joined, from_unsent, input_failed, unfinished)
   outcome InputFault said p cause (count, inr (e, rose, (n, wrote))) =
       let part = cut p.told p.sent p.unsent fault_line n p.says p.wrote (cut_unsent p.unsent said fault_line n p.keeps wrote) in
       output_failed e (
@@ -263,33 +203,19 @@ module _ (hub : Hub) (result : ℕ) (left left' written written' written'' : Opt
 
 -- no count falls at an ending
 pub finishes_count : (ending : Ending) (result : ℕ) (said : List ℕ) (written written' : Option (List ℕ)) (out out' : ℕ) → Finishes ending result said written written' out out' → out ≤ out'
-finishes_count Ended result said written written' out out' h = h.0
-finishes_count (Refused place) result said written written' out out' (inl h) = h.0
-finishes_count (Refused place) result said written written' out out' (inr h) = h.0
-finishes_count InputFault result said written written' out out' h = h.0
-finishes_count OutputFault result said written written' out out' h = h.1
-finishes_count NoMemory result said written written' out out' h = h.0
+finishes_count ending result said written written' out out' h = grind arith
 
 whole_given : (f g : List ℕ → Output) → ((script : List ℕ) → f script ≡ g script) → (status : ℕ) (left written written' : Option (List ℕ)) → IsWhole f status left written written' → IsWhole g status left written written'
-whole_given f g same status None written written' h = h
-whole_given f g same status (Some xs) written written' h = λ which. rw (← same xs) (h which)
+whole_given f g same status left written written' h = grind arith
 
 cut_given : (hub : Hub) (f g : List ℕ → Output) → ((script : List ℕ) → f script ≡ g script) → (left left' written written' : Option (List ℕ)) (input input' : ℕ) → IsCut hub f left left' written written' input input' → IsCut hub g left left' written written' input input'
-cut_given hub f g same left left' written written' input input' (inl (script, is, (n, wrote))) = inl (script, is, (n, rw (← same script) wrote))
-cut_given hub f g same left left' written written' input input' (inr h) = inr h
+cut_given hub f g same left left' written written' input input' cut = grind arith
 
 -- an outcome, by another word for what is defined
 outcome_given : (hub : Hub) (f g : List ℕ → Output) → ((script : List ℕ) → f script ≡ g script) → (status : ℕ) (left left' written written' : Option (List ℕ)) (input input' out out' : ℕ)
     → Outcome hub f status left left' written written' input input' out out' → Outcome hub g status left left' written written' input input' out out'
-outcome_given hub f g same status left left' written written' input input' out out' o = record {
-  is_status = o.is_status;
-  whole = whole_given f g same status left written written' o.whole;
-  input_fault = o.input_fault;
-  output_fault = λ e. let h = o.output_fault e in (h.0, cut_given hub f g same left left' written written' input input' h.1);
-  no_memory = λ e. let h = o.no_memory e in (h.0, h.1, (h.2.0, rw (← same h.0) h.2.1));
-  input_count = o.input_count;
-  output_count = o.output_count;
-}
+outcome_given hub f g same status left left' written written' input input' out out' o =
+    grind (arith, whole_given, cut_given)
 
 replayed_is : (hub : Hub) (script : List ℕ) → output_of_script hub script ≡ replayed hub script
 unfolding replayed

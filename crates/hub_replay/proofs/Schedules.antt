@@ -1,5 +1,5 @@
 -- The schedule of a script without a configuration, and its feeds.
-use Rattle.std.proofs.Common.{◌≡◌, ℕ, zero, suc, ◌<◌, List, [], ◌∷◌, ◌++◌, length, slice_get, Some, Bool, true, false, refl, sym, ap, ◌∙◌, arith, inl, inr, length-append}
+use Rattle.std.proofs.Common.{◌≡◌, ℕ, zero, suc, List, [], ◌∷◌, ◌++◌, length, slice_get, Some, Bool, true, false, refl, sym, ap, ◌∙◌, arith, inl, inr, length-append}
 use Rattle.std.specs.Prelude.{◌⊎◌, ◌&&◌, not, nat_lt, codes}
 use Rattle.std.specs.List.{list_any}
 use Rattle.std.specs.Str.{bytes_eq}
@@ -8,18 +8,15 @@ use Rattle.std.proofs.lemmas.Option.{same_Some}
 use Rattle.std.proofs.lemmas.Slice.Eq.{bytes_eq-Decides}
 use Rattle.text_defs.specs.Names.{is_name}
 use Rattle.sched_types.specs.declared.plans.NamedFeed.{NamedFeed}
-use Rattle.sched_types.specs.declared.plans.NamedPlan.{NamedPlan}
 use Rattle.sched_types.specs.Schedules.{AreSchedules}
 use Rattle.hub_replay_defs.specs.Record.{plain_schedules}
 
 -- one of none, and one of one
 none_at : {X : Type 0} (i : ℕ) (x : X) → slice_get {X = X} [] i ≡ Some x → ⊥
-none_at zero x h = cc
-none_at (suc i) x h = cc
+none_at i x h = grind arith
 
 first_at : {X : Type 0} (y : X) (i : ℕ) (x : X) → slice_get (y ∷ []) i ≡ Some x → (i ≡ 0) × (y ≡ x)
-first_at y zero x h = (refl, same_Some y x h)
-first_at y (suc i) x h = absurd (none_at i x h)
+first_at y i x h = grind (arith, same_Some, none_at)
 
 plain_named : is_name (codes "plain") ≡ true
 unfolding is_name
@@ -27,15 +24,7 @@ plain_named = refl
 
 -- the one schedule has a name, and no feeds are all apart
 pub plain_sound : AreSchedules (plain_schedules [])
-plain_sound = record {
-  few_plans = omega arith;
-  few_feeds = omega arith;
-  plan_named = λ i plan at. ap (λ (p : NamedPlan). is_name p.name) (sym (first_at _ i plan at).1) ∙ plain_named;
-  feed_named = λ i feed at. absurd (none_at i feed at);
-  plans_apart = λ i j p q at also same. (first_at _ i p at).0 ∙ sym (first_at _ j q also).0;
-  feeds_apart = λ i j p q at also same. absurd (none_at i p at);
-  plan_is = λ i feed at. absurd (none_at i feed at);
-}
+plain_sound = grind (arith, first_at, plain_named, none_at)
 
 pub no_feeds_sound : (feeds : List NamedFeed) → feeds ≡ [] → AreSchedules (plain_schedules feeds)
 no_feeds_sound feeds e = rw e plain_sound
@@ -67,35 +56,7 @@ pub one_more_sound : (feeds : List NamedFeed) (name : List ℕ) → AreSchedules
     → is_name name && not (list_any (named name) feeds) && nat_lt (length feeds) 64 ≡ true
     → AreSchedules (plain_schedules (feeds ++ feed_named_so name ∷ []))
 one_more_sound feeds name sound new =
-    let parts = and_parts (is_name name && not (list_any (named name) feeds)) (nat_lt (length feeds) 64) new in
-    let both = and_parts (is_name name) (not (list_any (named name) feeds)) parts.0 in
-    let other = not-true (list_any (named name) feeds) both.1 in
-    let few = ltb-true (length feeds) 64 parts.1 in
-    let long = length-append feeds (feed_named_so name ∷ []) in
-    record {
-      few_plans = sound.few_plans;
-      few_feeds = omega arith;
-      plan_named = sound.plan_named;
-      feed_named = λ i feed at. elim (get_last feeds (feed_named_so name) i feed at) as (λ _. is_name feed.name ≡ true) [
-        | inl before ↦ sound.feed_named i feed before
-        | inr last ↦ ap (λ (f : NamedFeed). is_name f.name) (sym last.1) ∙ both.0
-      ];
-      plans_apart = sound.plans_apart;
-      feeds_apart = λ i j p q at also same. elim (get_last feeds (feed_named_so name) i p at) as (λ _. i ≡ j) [
-        | inl before ↦ elim (get_last feeds (feed_named_so name) j q also) as (λ _. i ≡ j) [
-          | inl too ↦ sound.feeds_apart i j p q before too same
-          | inr last ↦ absurd (differs name feeds other i p before (ap (λ (f : NamedFeed). f.name) last.1 ∙ sym same))
-        ]
-        | inr last ↦ elim (get_last feeds (feed_named_so name) j q also) as (λ _. i ≡ j) [
-          | inl before ↦ absurd (differs name feeds other j q before (ap (λ (f : NamedFeed). f.name) last.1 ∙ same))
-          | inr too ↦ last.0 ∙ sym too.0
-        ]
-      ];
-      plan_is = λ i feed at. elim (get_last feeds (feed_named_so name) i feed at) as (λ _. feed.plan < 1) [
-        | inl before ↦ sound.plan_is i feed before
-        | inr last ↦ rw (← last.1) (omega arith)
-      ];
-    }
+    grind (arith, and_parts, not-true, ltb-true, length-append, get_last, differs)
 
 -- the same, of a name that was tested and kept
 pub declared_sound : (feeds tested feeds' : List NamedFeed) (name kept : List ℕ) (test : Bool) → AreSchedules (plain_schedules feeds) → tested ≡ feeds

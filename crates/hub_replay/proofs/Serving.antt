@@ -1,5 +1,5 @@
 -- A connection, by its input.
-use Rattle.std.proofs.Common.{◌≡◌, ℕ, ◌+◌, ◌≤◌, List, [], ◌∷◌, ◌++◌, length, take, drop, Some, Result, Ok, Err, true, false, refl, sym, ap, ◌∙◌, arith, append-nil, append_assoc, length-drop}
+use Rattle.std.proofs.Common.{◌≡◌, ℕ, ◌+◌, ◌≤◌, List, [], ◌∷◌, ◌++◌, length, take, drop, Some, Result, true, false, refl, ◌∙◌, arith, append-nil, append_assoc, length-drop}
 use Rattle.std.specs.Prelude.{slice_get, ◌==◌}
 use Rattle.std.specs.Result.{IsErrAnd}
 use Rattle.std.specs.Str.{bytes_eq}
@@ -8,7 +8,7 @@ use Rattle.std.proofs.lemmas.Option.{slice_get_within}
 use Rattle.std.proofs.lemmas.Slice.Eq.{bytes_eq-Decides}
 use Rattle.http_serve_defs.specs.Connections.{Served, IsServed, connection_bytes}
 use Rattle.hub_replay_defs.specs.Lines.Head.{Connection}
-use Rattle.hub_replay_defs.specs.Record.{Hub, connection_of, connection_reply, folds_in, serving}
+use Rattle.hub_replay_defs.specs.Record.{Hub, connection_of, connection_reply, folds_in}
 use Rattle.hub_replay_defs.proofs.Connections.{first_is_served}
 use Rattle.hub_replay_defs.proofs.Opens.{input_short}
 use Rattle.hub_replay_defs.proofs.Payloads.{no_payload}
@@ -48,26 +48,14 @@ no_line_feed_behind hub moment n behind bytes said b within at other =
 pub input_waits : (hub : Hub) (moment n behind : ℕ) (bytes said : List ℕ) → behind ≤ length bytes → length bytes ≤ behind + n
     → Acts (Connection moment n) behind Short hub hub bytes said said
 input_waits hub moment n behind bytes said within short =
-    let size = length-drop behind bytes in
-    let few : length (drop behind bytes) ≤ n = omega arith in (
-      record { hub = refl; says = refl },
-      λ later. rw (append-nil (drop behind bytes), no_payload n (drop behind bytes) few) refl,
-      λ later. rw (append-nil (drop behind bytes)) (input_short (serving later hub) moment n (drop behind bytes) few),
-    )
+    grind (arith, length-drop, append-nil, no_payload, input_short)
 
 -- nothing was said
 pub says_nothing : {A E : Type 0} (r : Result A E) (said text : List ℕ) (P : E → Type 0) → IsErrAnd r P → Says r said said text
-says_nothing (Ok x) said text P e = absurd e
-says_nothing (Err x) said text P e = ([], sym (append-nil said))
+says_nothing r said text P e = grind (arith, append-nil)
 
 -- something was said behind two texts
 pub says_behind : {A E : Type 0} (r : Result A E) (said first second third line bytes last text : List ℕ) → first ≡ said ++ line → second ≡ first ++ bytes
     → Says r second third last → line ++ (bytes ++ last) ≡ text → Says r said third text
-says_behind (Ok x) said first second third line bytes last text one two three all =
-    three ∙ ap (λ xs. xs ++ last) (two ∙ ap (λ xs. xs ++ bytes) one) ∙ ap (λ xs. xs ++ last) (append_assoc said line bytes)
-    ∙ append_assoc said (line ++ bytes) last ∙ ap (λ xs. said ++ xs) (append_assoc line bytes last ∙ all)
-says_behind (Err x) said first second third line bytes last text one two three all = (
-  line ++ (bytes ++ three.0),
-  three.1 ∙ ap (λ xs. xs ++ three.0) (two ∙ ap (λ xs. xs ++ bytes) one) ∙ ap (λ xs. xs ++ three.0) (append_assoc said line bytes)
-      ∙ append_assoc said (line ++ bytes) three.0 ∙ ap (λ xs. said ++ xs) (append_assoc line bytes three.0),
-)
+says_behind r said first second third line bytes last text one two three all =
+    grind (arith, append_assoc)

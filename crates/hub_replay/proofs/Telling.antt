@@ -1,5 +1,5 @@
 -- What a question is answered.
-use Rattle.std.proofs.Common.{ℕ, List, length, Result, Ok, Err, Bool, true, false, refl}
+use Rattle.std.proofs.Common.{ℕ, List, length, Result, Bool, arith}
 use Rattle.std.specs.declared.alloc.AllocError.{AllocError}
 use Rattle.board_defs.specs.Fold.{fold_of}
 use Rattle.board_text_defs.specs.Answers.{Question}
@@ -10,6 +10,4 @@ use Rattle.hub_replay.specs.Feeds.{shown_hub, Tells}
 -- a hub that runs tells what its view answers, of the history that it stands for
 pub tells : (kept : Replayed) (question : Question) (out out' : List ℕ) (r : Result Bool AllocError)
     → Answers kept.shown.plans (fold_of (length kept.shown.plans.feeds) kept.history) question out out' r → Tells r (shown_hub kept) (shown_hub kept) question out out'
-tells kept question out out' (Ok true) h = ((h.bytes, h.are, h.appended), refl)
-tells kept question out out' (Ok false) h = (h.0, refl)
-tells kept question out out' (Err e) h = tt
+tells kept question out out' r h = grind arith

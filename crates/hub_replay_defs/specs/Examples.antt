@@ -68,7 +68,12 @@ pub messages_are_fed :
     ≡ done (accepted 1 ++ feed (header 0 5)))
     × (replayed start (script plain) ≡ done (feed (header 0 0)))
     × (replayed start (script (line (codes "O city"))) ≡ done (line (codes "feed none")))
-unfolding is_utf8 chars digits encode groups_at varint_at span_at tag_at wire_payload_at field_with behind_end group_at field_at fields_within fields_of groups varint payload_bytes field_bytes occurrences_of last_of unknown_bytes_of fields_of_all value message_bytes merged_message values numbered_values read write well_formed messages_of since_full changes_by_id entities_of feed_bytes fold_of feed_answer feed_number schedule_number line_within percent_decode texts_of head_of payload_at turn run_within run replayed is_name number waits is_open_within is_open
+unfolding is_utf8 chars digits encode groups_at varint_at span_at tag_at wire_payload_at field_with
+    behind_end group_at field_at fields_within fields_of groups varint payload_bytes field_bytes
+    occurrences_of last_of unknown_bytes_of fields_of_all value message_bytes merged_message values
+    numbered_values read write well_formed messages_of since_full changes_by_id entities_of
+    feed_bytes fold_of feed_answer feed_number schedule_number line_within percent_decode texts_of
+    head_of payload_at turn run_within run replayed is_name number waits is_open_within is_open
 messages_are_fed = (refl, refl, refl, refl)
 
 -- an entity goes out under its feed, and what is unknown within it as it came; one that the same
@@ -85,7 +90,12 @@ pub entities_are_named :
     (script (offer (header 1 5 ++ entity (id (codes "x"))
     ++ entity (id (codes "x") ++ 0x10 ∷ 0x01 ∷ [])) ++ plain))
     ≡ done (accepted 1 ++ feed (header 0 5)))
-unfolding is_utf8 chars digits encode groups_at varint_at span_at tag_at wire_payload_at field_with behind_end group_at field_at fields_within fields_of groups varint payload_bytes field_bytes occurrences_of last_of unknown_bytes_of fields_of_all value message_bytes merged_message values numbered_values read write well_formed messages_of since_full changes_by_id entities_of feed_bytes fold_of feed_answer feed_number schedule_number line_within percent_decode texts_of head_of payload_at turn run_within run replayed is_name number waits is_open_within is_open
+unfolding is_utf8 chars digits encode groups_at varint_at span_at tag_at wire_payload_at field_with
+    behind_end group_at field_at fields_within fields_of groups varint payload_bytes field_bytes
+    occurrences_of last_of unknown_bytes_of fields_of_all value message_bytes merged_message values
+    numbered_values read write well_formed messages_of since_full changes_by_id entities_of
+    feed_bytes fold_of feed_answer feed_number schedule_number line_within percent_decode texts_of
+    head_of payload_at turn run_within run replayed is_name number waits is_open_within is_open
 entities_are_named = (refl, refl, refl)
 
 -- a whole data set takes the place of all before it
@@ -96,7 +106,12 @@ pub full_starts_anew :
     ++ offer (header 0 4 ++ entity (id (codes "s"))) ++ plain))
     ≡ done (accepted 1 ++ accepted 2 ++ accepted 3 ++ accepted 4
     ++ feed (header 0 4 ++ entity (id (codes "a:s"))))
-unfolding is_utf8 chars digits encode groups_at varint_at span_at tag_at wire_payload_at field_with behind_end group_at field_at fields_within fields_of groups varint payload_bytes field_bytes occurrences_of last_of unknown_bytes_of fields_of_all value message_bytes merged_message values numbered_values read write well_formed messages_of since_full changes_by_id entities_of feed_bytes fold_of feed_answer feed_number schedule_number line_within percent_decode texts_of head_of payload_at turn run_within run replayed is_name number waits is_open_within is_open
+unfolding is_utf8 chars digits encode groups_at varint_at span_at tag_at wire_payload_at field_with
+    behind_end group_at field_at fields_within fields_of groups varint payload_bytes field_bytes
+    occurrences_of last_of unknown_bytes_of fields_of_all value message_bytes merged_message values
+    numbered_values read write well_formed messages_of since_full changes_by_id entities_of
+    feed_bytes fold_of feed_answer feed_number schedule_number line_within percent_decode texts_of
+    head_of payload_at turn run_within run replayed is_name number waits is_open_within is_open
 full_starts_anew = refl
 
 -- a message is taken once; another version, and one whose control characters would break the line;
@@ -113,7 +128,12 @@ pub messages_are_refused :
     ≡ done (line (codes "refused version   0")))
     × (replayed start (script (offer (0x0a ∷ 0x05 ∷ 0x0a ∷ 0x03 ∷ codes "2.0"))) ≡ done
     (line (codes "refused stamp 0")))
-unfolding is_utf8 chars digits encode groups_at varint_at span_at tag_at wire_payload_at field_with behind_end group_at field_at fields_within fields_of groups varint payload_bytes field_bytes occurrences_of last_of unknown_bytes_of fields_of_all value message_bytes merged_message values numbered_values read write well_formed messages_of since_full changes_by_id entities_of feed_bytes fold_of feed_answer feed_number schedule_number line_within percent_decode texts_of head_of payload_at turn run_within run replayed is_name number waits is_open_within is_open
+unfolding is_utf8 chars digits encode groups_at varint_at span_at tag_at wire_payload_at field_with
+    behind_end group_at field_at fields_within fields_of groups varint payload_bytes field_bytes
+    occurrences_of last_of unknown_bytes_of fields_of_all value message_bytes merged_message values
+    numbered_values read write well_formed messages_of since_full changes_by_id entities_of
+    feed_bytes fold_of feed_answer feed_number schedule_number line_within percent_decode texts_of
+    head_of payload_at turn run_within run replayed is_name number waits is_open_within is_open
 messages_are_refused = (refl, refl, refl, refl)
 
 -- faults tell the entity that they are in, and change nothing
@@ -122,7 +142,12 @@ pub faults_are_named :
     ++ offer (header 0 5 ++ 0x12 ∷ 0x03 ∷ 0x0a ∷ 0x01 ∷ []) ++ offer (header 0 5)))
     ≡ done (line (codes "refused malformed 1 cut FeedEntity 0")
     ++ line (codes "refused malformed 0 cut FeedMessage 0") ++ accepted 1)
-unfolding is_utf8 chars digits encode groups_at varint_at span_at tag_at wire_payload_at field_with behind_end group_at field_at fields_within fields_of groups varint payload_bytes field_bytes occurrences_of last_of unknown_bytes_of fields_of_all value message_bytes merged_message values numbered_values read write well_formed messages_of since_full changes_by_id entities_of feed_bytes fold_of feed_answer feed_number schedule_number line_within percent_decode texts_of head_of payload_at turn run_within run replayed is_name number waits is_open_within is_open
+unfolding is_utf8 chars digits encode groups_at varint_at span_at tag_at wire_payload_at field_with
+    behind_end group_at field_at fields_within fields_of groups varint payload_bytes field_bytes
+    occurrences_of last_of unknown_bytes_of fields_of_all value message_bytes merged_message values
+    numbered_values read write well_formed messages_of since_full changes_by_id entities_of
+    feed_bytes fold_of feed_answer feed_number schedule_number line_within percent_decode texts_of
+    head_of payload_at turn run_within run replayed is_name number waits is_open_within is_open
 faults_are_named = refl
 
 -- so many groups, one within the other
@@ -133,14 +158,24 @@ nested depth = replicate depth 0x4b ++ replicate depth 0x4c
 pub groups_nest :
     replayed start (script (offer (header 0 5 ++ nested 64) ++ offer (header 0 6 ++ nested 65)))
     ≡ done (accepted 1 ++ line (codes "refused malformed 0 group FeedMessage 0"))
-unfolding is_utf8 chars digits encode groups_at varint_at span_at tag_at wire_payload_at field_with behind_end group_at field_at fields_within fields_of groups varint payload_bytes field_bytes occurrences_of last_of unknown_bytes_of fields_of_all value message_bytes merged_message values numbered_values read write well_formed messages_of since_full changes_by_id entities_of feed_bytes fold_of feed_answer feed_number schedule_number line_within percent_decode texts_of head_of payload_at turn run_within run replayed is_name number waits is_open_within is_open
+unfolding is_utf8 chars digits encode groups_at varint_at span_at tag_at wire_payload_at field_with
+    behind_end group_at field_at fields_within fields_of groups varint payload_bytes field_bytes
+    occurrences_of last_of unknown_bytes_of fields_of_all value message_bytes merged_message values
+    numbered_values read write well_formed messages_of since_full changes_by_id entities_of
+    feed_bytes fold_of feed_answer feed_number schedule_number line_within percent_decode texts_of
+    head_of payload_at turn run_within run replayed is_name number waits is_open_within is_open
 groups_nest = refl
 
 -- a line that is no record; an input that ends before E
 pub scripts_are_refused :
     (replayed start (line (codes "X")) ≡ refused_at 0)
     × (replayed start (line (codes "F a")) ≡ refused_at 4)
-unfolding is_utf8 chars digits encode groups_at varint_at span_at tag_at wire_payload_at field_with behind_end group_at field_at fields_within fields_of groups varint payload_bytes field_bytes occurrences_of last_of unknown_bytes_of fields_of_all value message_bytes merged_message values numbered_values read write well_formed messages_of since_full changes_by_id entities_of feed_bytes fold_of feed_answer feed_number schedule_number line_within percent_decode texts_of head_of payload_at turn run_within run replayed is_name number waits is_open_within is_open
+unfolding is_utf8 chars digits encode groups_at varint_at span_at tag_at wire_payload_at field_with
+    behind_end group_at field_at fields_within fields_of groups varint payload_bytes field_bytes
+    occurrences_of last_of unknown_bytes_of fields_of_all value message_bytes merged_message values
+    numbered_values read write well_formed messages_of since_full changes_by_id entities_of
+    feed_bytes fold_of feed_answer feed_number schedule_number line_within percent_decode texts_of
+    head_of payload_at turn run_within run replayed is_name number waits is_open_within is_open
 scripts_are_refused = (refl, refl)
 
 -- a length of 12 digits is one, a length of 13 digits and one above the greatest are none
@@ -164,5 +199,10 @@ pub records_wait :
     × (is_open start (line (codes "F a") ++ line (codes "M a 2") ++ codes "ab") ≡ true)
     × (is_open start (line (codes "F a") ++ line (codes "M b 2")) ≡ false)
     × (is_open start (line (codes "F a") ++ line (codes "E")) ≡ false)
-unfolding is_utf8 chars digits encode groups_at varint_at span_at tag_at wire_payload_at field_with behind_end group_at field_at fields_within fields_of groups varint payload_bytes field_bytes occurrences_of last_of unknown_bytes_of fields_of_all value message_bytes merged_message values numbered_values read write well_formed messages_of since_full changes_by_id entities_of feed_bytes fold_of feed_answer feed_number schedule_number line_within percent_decode texts_of head_of payload_at turn run_within run replayed is_name number waits is_open_within is_open
+unfolding is_utf8 chars digits encode groups_at varint_at span_at tag_at wire_payload_at field_with
+    behind_end group_at field_at fields_within fields_of groups varint payload_bytes field_bytes
+    occurrences_of last_of unknown_bytes_of fields_of_all value message_bytes merged_message values
+    numbered_values read write well_formed messages_of since_full changes_by_id entities_of
+    feed_bytes fold_of feed_answer feed_number schedule_number line_within percent_decode texts_of
+    head_of payload_at turn run_within run replayed is_name number waits is_open_within is_open
 records_wait = (refl, refl, refl, refl, refl)

@@ -63,8 +63,8 @@ abbrev pub is_json_in : List ℕ → Option Bool
 is_json_in word =
     if bytes_eq word (codes "text") then Some false else only_if (bytes_eq word (codes "json")) true
 
--- The board that words ask for: schedule, stop, moment, span, limit and form. Its numbers have at most
--- so many digits.
+-- The board that words ask for: schedule, stop, moment, span, limit and form. Its numbers have at
+-- most so many digits.
 abbrev pub board_in_words : ℕ → List (List ℕ) → Option BoardAsked
 board_in_words digits (schedule ∷ stop ∷ moment ∷ span ∷ limit ∷ form ∷ []) =
     number digits 0 last_moment moment >>= λ at.
@@ -81,8 +81,9 @@ board_in_words digits (schedule ∷ stop ∷ moment ∷ span ∷ limit ∷ form 
     })
 board_in_words digits _ = None
 
--- what a record's line says: a feed is declared, a message of so many bytes comes for a feed, a question
--- is asked, a connection is served at a moment, of which so many bytes come, or the script ends
+-- what a record's line says: a feed is declared, a message of so many bytes comes for a feed, a
+-- question is asked, a connection is served at a moment, of which so many bytes come, or the script
+-- ends
 pub data Head : Type 0 where
   Feed : List ℕ → Head
   Message : List ℕ → ℕ → Head

@@ -26,9 +26,9 @@ use Rattle.hub_replay_defs.specs.Optional.{◌>>=◌}
 abbrev pub most_feeds : ℕ
 most_feeds = 64
 
--- The hub of a script: its timetables and feeds, what it accepted, and whether no feed can be declared
--- any more; and the connections that its records may serve. Which items an input has is a relation, so
--- these are given; what is served is the first one given that has the record's input.
+-- The hub of a script: its timetables and feeds, what it accepted, and whether no feed can be
+-- declared any more; and the connections that its records may serve. Which items an input has is a
+-- relation, so these are given; what is served is the first one given that has the record's input.
 pub record Hub : Type 0 where
   pub plans : Schedules
   pub history : List Entry
@@ -79,8 +79,8 @@ question_word (AlertsOf asked) = codes "alerts"
 question_word (UnmatchedOf schedule) = codes "unmatched"
 question_word StatusOf = codes "status"
 
--- what a question is answered: how many bytes follow, and these with an LF behind them; or that what
--- it asks for isn't there
+-- what a question is answered: how many bytes follow, and these with an LF behind them; or that
+-- what it asks for isn't there
 abbrev pub answer_reply : List ℕ → Option (List ℕ) → List ℕ
 answer_reply word None = word ++ codes " none" ++ line_feed
 answer_reply word (Some bytes) =

@@ -21,8 +21,8 @@ ingests_at words place port seat report port' seat' report' =
     IngestsBy seat seat' (words.ahead port) (words.ahead port') (words.faults port)
     (words.faults port') report'
 
--- A feed's messages were ingested by a seat that had accepted nothing, whose last stamp this is; and
--- what the ended history has of the feed is just what that seat accepted.
+-- A feed's messages were ingested by a seat that had accepted nothing, whose last stamp this is;
+-- and what the ended history has of the feed is just what that seat accepted.
 pub record FeedRan (hub : Ties) (ending : Option Told) (feed : ℕ) (before after : Ahead)
     (faults faults' : ℕ) (report : PortReport) (last : ℕ) : Type 0 where
   pub seat : SeatSeen

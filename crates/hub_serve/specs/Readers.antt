@@ -20,8 +20,8 @@ serves_at words seen ahead place door pass post door' pass' post' =
     (hub (ahead post'.clock) pass'.shown.plans (history_of pass'.line) pass'.reads false post'.kept)
     post'.report
 
--- The connections of a door were served by a reader that knew nothing and had kept no view at first,
--- at the readings of a clock; what it knew in the end begins the ended history.
+-- The connections of a door were served by a reader that knew nothing and had kept no view at
+-- first, at the readings of a clock; what it knew in the end begins the ended history.
 pub record DoorRan {I O : Type 0} (seen : Ends I O) (plans : Schedules) (ending : Option Told)
     (links links' : Option (Links I O)) (faults faults' : ℕ) (ahead : Option (List ℕ))
     (report : DoorReport) : Type 0 where

@@ -90,9 +90,9 @@ status_by Whole closed reports doors =
 
 -- ---- the run
 
--- A hub ran with these ports and doors to their ends. All feeds' messages stand in one legal history,
--- which is that of the ending, where one was had, and each was read from bytes; each reader's history
--- begins it.
+-- A hub ran with these ports and doors to their ends. All feeds' messages stand in one legal
+-- history, which is that of the ending, where one was had, and each was read from bytes; each
+-- reader's history begins it.
 pub record Ran {P D I O : Type 0}
     (ports : PortWords P) (doors : DoorWords D I O) (seen : Ends I O) (schedules : Schedules)
     (ps ps' : List P) (ds ds' : List D) (aheads : List (Option (List ℕ)))

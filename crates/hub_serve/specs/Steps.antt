@@ -17,8 +17,8 @@ use Rattle.serve_lines.specs.declared.pieces.Writing.TheVariants.{Whole}
 use Rattle.serve_lines.specs.Wrote.{Wrote, HasCause}
 use Rattle.hub_serve.specs.Runs.{text_of, status_by}
 
--- The hub was closed, and what it accepted is legal, is what these seats did and begins with what these
--- passes knew; or closing found no memory, and there is no ending.
+-- The hub was closed, and what it accepted is legal, is what these seats did and begins with what
+-- these passes knew; or closing found no memory, and there is no ending.
 pub record Closes (hub : Ties) (seats : List SeatSeen) (passes : List PassSeen)
     (closed : Bool) : Type 0 where
   pub ending : Option Told

@@ -117,13 +117,15 @@ where
     let serving = Serving { rt, alloc, gate };
     let mut ingesters = ||
         requires { IsSync R.row × IsSync G.row × IsSend P.row
-            × ArePlaces (λ place port seat report. seat.ties ≡ ingesting.hub.now) 0 ports.now seats.now reports.now
+            × ArePlaces (λ place port seat report. seat.ties ≡ ingesting.hub.now)
+            0 ports.now seats.now reports.now
             × (length ports.now ≤ 64) }
         ensures { PlacesChanged (ingests_at (port_words P.ahead P.faults)) 0 ports.entry.now
             seats.entry.now reports.entry.now ports.exit.now seats.exit.now reports.exit.now }
     { each_place(rt, &ingesting, 0, ports, seats, reports) };
     let mut readers = ||
-        requires { IsSync R.row × IsSync G.row × IsSync H.row × IsSend H.row × IsSend D.row × IsSend D.In.row × IsSend D.Out.row × IsSend C.row
+        requires { IsSync R.row × IsSync G.row × IsSync H.row × IsSend H.row × IsSend D.row
+            × IsSend D.In.row × IsSend D.Out.row × IsSend C.row
             × ArePlaces (λ place door pass post. post.kept ≡ []) 0 doors.now passes.now posts.now
             × (length doors.now ≤ 64) }
         ensures { PlacesChanged (serves_at (door_words D.links D.faults)

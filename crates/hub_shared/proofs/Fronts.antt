@@ -1,11 +1,11 @@
 -- Histories that begin with one another, and what they have of a feed.
-use Rattle.std.proofs.Common.{◌≡◌, ℕ, zero, suc, ◌+◌, ◌<◌, ◌≤◌, List, [], ◌∷◌, ◌++◌, ◌-◌, length, take, Option, Some, refl, sym, ap, ◌∙◌, subst, arith, append-nil, length-append}
+use Rattle.std.proofs.Common.{◌≡◌, ℕ, ◌+◌, ◌≤◌, List, [], ◌∷◌, ◌++◌, ◌-◌, length, Option, Some, refl, sym, ap, ◌∙◌, subst, arith, append-nil, length-append}
 use Rattle.std.specs.Prelude.{slice_get}
 use Rattle.std.specs.Option.{option_map}
 use mathlib.Core.List.{IsPrefix}
 use Rattle.rt_types.specs.declared.message.FeedMessage.{FeedMessage}
 use Rattle.feed_defs.specs.declared.history.Entry.{Entry}
-use Rattle.feed_defs.specs.History.{messages_of, message_of, last_stamp, stamps_of, stamp_of}
+use Rattle.feed_defs.specs.History.{messages_of, message_of}
 use Rattle.hub_history.specs.declared.item.LogItem.{LogItem}
 use Rattle.hub_history.specs.Log.{entries_of}
 use Rattle.hub_history.proofs.Logs.{entries_append}
@@ -35,8 +35,7 @@ begins_trans xs ys zs a b =
 
 -- the messages of a log that begins another begin its messages
 pub prefix_begins : (old new : List LogItem) → IsPrefix old new → Begins (entries_of old) (entries_of new)
-prefix_begins old new pre =
-    subst (λ (ws : List Entry). Begins (entries_of old) ws) (sym (entries_append old pre.0) ∙ ap entries_of pre.1) (begins_append (entries_of old) (entries_of pre.0))
+prefix_begins old new pre = grind (arith, entries_append, begins_append)
 
 pub messages_append : (feed : ℕ) (xs ys : List Entry) → messages_of feed (xs ++ ys) ≡ messages_of feed xs ++ messages_of feed ys
 unfolding messages_of
@@ -49,10 +48,7 @@ none_left (x ∷ xs) e = absurd (omega arith)
 -- a history that begins with another, and has no more of a feed, has the same messages of it
 pub level : (feed : ℕ) (old new : List Entry) → Begins old new → count_of feed new ≤ count_of feed old → messages_of feed new ≡ messages_of feed old
 level feed old new begins few =
-    let t = rest_of old new begins in
-    let both : messages_of feed new ≡ messages_of feed old ++ messages_of feed t.0 = ap (messages_of feed) t.1 ∙ messages_append feed old t.0 in
-    let none : messages_of feed t.0 ≡ [] = none_left (messages_of feed t.0) (omega (arith, ap length both, length-append (messages_of feed old) (messages_of feed t.0), few)) in
-    both ∙ ap (λ (ms : List FeedMessage). messages_of feed old ++ ms) none ∙ append-nil (messages_of feed old)
+    grind (arith, rest_of, messages_append, none_left, length-append, append-nil)
 
 last_of_more : (xs : List Entry) (x : Entry) → slice_get (xs ++ x ∷ []) (length (xs ++ x ∷ []) - 1) ≡ Some x
 last_of_more xs x = let e : length (xs ++ x ∷ []) - 1 ≡ length xs = omega (arith, length-append xs (x ∷ [])) in

@@ -1,6 +1,6 @@
 -- Messages that are handed in one after another, and what becomes of each.
-use Rattle.std.proofs.Common.{◌≡◌, ℕ, ◌+◌, ◌<◌, ◌≤◌, not, Bool, true, false, cond, List, [], ◌∷◌, ◌++◌, length, map, filter, Option, Some, None, Result, Ok, Err, refl, sym, ap, ◌∙◌, subst, arith, append-nil, append_assoc, length-append}
-use Rattle.std.specs.Prelude.{nat_lt, if◌then◌else◌}
+use Rattle.std.proofs.Common.{◌≡◌, ℕ, ◌+◌, ◌<◌, ◌≤◌, not, Bool, true, false, List, [], ◌∷◌, ◌++◌, length, filter, Option, Some, None, Result, Ok, Err, refl, sym, ap, ◌∙◌, subst, arith, append-nil, append_assoc, length-append}
+use Rattle.std.specs.Prelude.{if◌then◌else◌}
 use Rattle.std.specs.List.{All}
 use Rattle.std.proofs.lemmas.Bool.Decides.{nat_tests}
 use Rattle.std.proofs.lemmas.List.{map-append}
@@ -8,14 +8,13 @@ use Rattle.std.proofs.lemmas.List.Elements.{All-nil, All-cons, All-append, filte
 use Rattle.answer_defs.specs.Defined.{IsCause}
 use Rattle.pb_wire_defs.specs.Spelling.{AreBytes}
 use Rattle.rt_types.specs.declared.message.FeedMessage.{FeedMessage}
-use Rattle.feed_defs.specs.declared.history.Entry.{Entry}
 use Rattle.feed_defs.specs.History.{Refusal, judgement_of, well_formed, longest_message, messages_of, stamp_of}
 use Rattle.feed_defs.specs.History.Refusal.{TooLong}
 use Rattle.hub_history.specs.Told.{Told, history_of}
 use Rattle.hub_shared.specs.declared.report.Tally.{Tally}
 use Rattle.hub_shared.specs.Seats.{SeatSeen, history_at, Begins}
-use Rattle.hub_shared.specs.Calls.{Accepts, Takes}
-use Rattle.hub_shared.specs.Feeding.{Given, IsFit, IsOfBytes, Sorts, SortsMore, newer_by, newer_of, last_after, exceeds, bytes_of, judged_of, count_by, counted, tally_of, total}
+use Rattle.hub_shared.specs.Calls.{Accepts}
+use Rattle.hub_shared.specs.Feeding.{Given, IsFit, IsOfBytes, Sorts, SortsMore, newer_by, newer_of, last_after, exceeds, bytes_of, judged_of, count_by, counted, total}
 use Rattle.hub_shared.proofs.Fronts.{begins_append, begins_trans}
 
 -- ---- what is accepted of one more
@@ -53,8 +52,7 @@ count_push test given one b is = ap length (filter-append test given (one ∷ []
   single false e = rw e refl
 
 pub judged_push : (given : List Given) (bytes : List ℕ) → judged_of (given ++ record { bytes = bytes; starved = false } ∷ []) ≡ judged_of given ++ bytes ∷ []
-judged_push given bytes = ap bytes_of (filter-append (λ one. not one.starved) given (record { bytes = bytes; starved = false } ∷ []))
-    ∙ map-append (λ one. one.bytes) (filter (λ one. not one.starved) given) (record { bytes = bytes; starved = false } ∷ [])
+judged_push given bytes = grind (arith, filter-append, map-append)
 
 pub judged_same : (given : List Given) (bytes : List ℕ) → judged_of (given ++ record { bytes = bytes; starved = true } ∷ []) ≡ judged_of given
 judged_same given bytes = ap bytes_of (filter-append (λ one. not one.starved) given (record { bytes = bytes; starved = true } ∷ []) ∙ append-nil (filter (λ one. not one.starved) given))
@@ -126,20 +124,8 @@ module _ (first old new : SeatSeen) (given : List Given) (bytes : List ℕ) (tal
     pub leaves : (tally' : Tally) → tally'.accepted ≡ tally.accepted → tally'.starved ≡ tally.starved + (if starved then 1 else 0)
         → (starved ≡ true → length bytes ≤ longest_message) → IsOfBytes (record { bytes = bytes; starved = starved }) → tally'.too_long ≡ count_by exceeds (with_one starved) → total tally' ≡ total tally + 1
         → Sorts first new (with_one starved) tally'
-    leaves tally' accepted_is starved_is fit_is bytes_are too_long_is total_is = record {
-      messages = ap (λ seat. messages_of first.feed (history_at seat.receipt)) same ∙ s.messages ∙ ap (λ ms. messages_of first.feed (history_at first.receipt) ++ ms) (sym newer);
-      begins = subst (λ seat. Begins (history_at first.receipt) (history_at seat.receipt)) (sym same) s.begins;
-      hub = ap (λ seat. seat.ties) same ∙ s.hub;
-      feed = ap (λ seat. seat.feed) same ∙ s.feed;
-      last = ap (λ seat. seat.last) same ∙ s.last ∙ ap (last_after first.last) (sym newer);
-      seat = ap (λ seat. seat.accepted) same ∙ s.seat ∙ ap (λ n. first.accepted + n) (sym accepted_is);
-      accepted = accepted_is ∙ s.accepted ∙ ap length (sym newer);
-      starved = starved_is ∙ ap (λ n. n + (if starved then 1 else 0)) s.starved ∙ sym (count_push (λ one. one.starved) given (record { bytes = bytes; starved = starved }) starved refl);
-      fit = fit_with starved fit_is;
-      of_bytes = bytes_with starved bytes_are;
-      too_long = too_long_is;
-      all = total_is ∙ ap (λ n. n + 1) s.all ∙ sym (length_with starved);
-    }
+    leaves tally' accepted_is starved_is fit_is bytes_are too_long_is total_is =
+        grind (arith, newer, count_push, fit_with, bytes_with, too_long, length_with)
 
   -- it was refused
   pub refuses : length bytes ≤ longest_message → AreBytes bytes → new ≡ old → (cause : Refusal) → judgement_of old.last bytes ≡ Err cause → Sorts first new (with_one false) (counted (Some cause) tally)
@@ -158,5 +144,4 @@ module _ (first old new : SeatSeen) (given : List Given) (bytes : List ℕ) (tal
 
   -- it was refused, or memory was wanting for it
   pub not_accepted : length bytes ≤ longest_message → AreBytes bytes → new ≡ old → (o : Option Refusal) → IsCause (judgement_of old.last bytes) o → (tally' : Tally) → tally' ≡ counted o tally → SortsMore first new given bytes tally'
-  not_accepted few are same None is tally' is_now = record { starved = true; sorts = subst (λ (t : Tally). Sorts first new (with_one true) t) (sym is_now) (starves few are same) }
-  not_accepted few are same (Some cause) is tally' is_now = record { starved = false; sorts = subst (λ (t : Tally). Sorts first new (with_one false) t) (sym is_now) (refuses few are same cause is) }
+  not_accepted few are same cause is tally' is_now = grind (arith, starves, refuses)

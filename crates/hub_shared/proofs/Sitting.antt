@@ -1,5 +1,5 @@
 -- What is true of seats.
-use Rattle.std.proofs.Common.{◌≡◌, ℕ, ◌+◌, ◌<◌, ◌≤◌, List, [], ◌∷◌, ◌++◌, length, map, Option, Some, None, refl, sym, ap, ◌∙◌, subst, arith}
+use Rattle.std.proofs.Common.{◌≡◌, ℕ, ◌<◌, ◌≤◌, List, [], length, map, Option, Some, None, refl, sym, ap, ◌∙◌, subst, arith}
 use Rattle.std.specs.Prelude.{unwrap_or, slice_index}
 use Rattle.std.specs.List.{last_or}
 use mathlib.Core.List.{IsPrefix}
@@ -8,13 +8,11 @@ use Rattle.feed_defs.specs.declared.history.Entry.{Entry}
 use Rattle.feed_defs.specs.History.{IsLegal, messages_of, last_stamp, stamp_of}
 use Rattle.feed_permits.specs.Seen.{DeskSeen, KeySeen, fresh_key}
 use Rattle.hub_history.specs.Told.{Told, history_of, AreOne}
-use Rattle.hub_history.specs.Log.{entries_of}
-use Rattle.hub_history.specs.declared.item.LogItem.{LogItem}
 use Rattle.snapshot_cell.specs.Seen.{PassSeen}
-use Rattle.hub_shared.specs.Seats.{Ties, IsOf, SeatSeen, history_at, count_of, Begins}
-use Rattle.hub_shared.specs.Kept.{IsSeat, IsNewest, Newest}
-use Rattle.hub_shared.specs.Calls.{IsSound, HasReceipt, Receives}
-use Rattle.hub_shared.proofs.Fronts.{begins_append, begins_trans, prefix_begins, level, none_left}
+use Rattle.hub_shared.specs.Seats.{Ties, IsOf, history_at, count_of, Begins}
+use Rattle.hub_shared.specs.Kept.{IsSeat, Newest}
+use Rattle.hub_shared.specs.Calls.{IsSound, HasReceipt}
+use Rattle.hub_shared.proofs.Fronts.{begins_trans, prefix_begins, level, none_left}
 
 -- no message of any feed
 pub nothing_of : (feed : ℕ) → messages_of feed [] ≡ []
@@ -27,8 +25,7 @@ stamp_same feed a b e = ap (λ (ms : List FeedMessage). unwrap_or (last_or None 
 
 -- what the receipt knows begins what the seat's pass knows, and has the same messages of the feed
 pub newest_begins : (line : Told) (feed accepted : ℕ) (receipt : Option Told) → Newest line feed accepted receipt → Begins (history_at receipt) (history_of line)
-newest_begins line feed accepted None newest = refl
-newest_begins line feed accepted (Some told) newest = newest.begins
+newest_begins line feed accepted receipt newest = grind arith
 
 pub newest_own : (line : Told) (feed accepted : ℕ) (receipt : Option Told) → Newest line feed accepted receipt → count_of feed (history_of line) ≡ accepted → messages_of feed (history_of line) ≡ messages_of feed (history_at receipt)
 newest_own line feed accepted None newest counted = none_left (messages_of feed (history_of line)) (counted ∙ newest) ∙ sym (nothing_of feed)
@@ -44,28 +41,15 @@ module _ (key : KeySeen) (pass : PassSeen) (feed accepted last : ℕ) (receipt :
       → Begins (history_at receipt) (history_of new) × (messages_of feed (history_of new) ≡ messages_of feed (history_at receipt))
       × (count_of feed (history_of new) ≡ accepted) × (last_stamp feed (history_of new) ≡ last)
   levelled new pre few =
-      let own = known new pre few in (
-        begins_trans (history_at receipt) (history_of pass.line) (history_of new) (newest_begins pass.line feed accepted receipt seat.newest) (prefix_begins pass.line.log new.log pre),
-        own ∙ newest_own pass.line feed accepted receipt seat.newest seat.counted,
-        ap (λ (ms : List FeedMessage). length ms) own ∙ seat.counted,
-        stamp_same feed (history_of new) (history_of pass.line) own ∙ seat.last_is,
-      )
+      grind (arith, known, begins_trans, newest_begins, prefix_begins, newest_own, stamp_same)
 
   -- what the desk agrees with the key
   pub agreed : (desk desk' : DeskSeen) (key' : KeySeen) (count : ℕ) → slice_index desk'.counts key'.number ≤ key'.granted → desk' ≡ desk → key' ≡ key → slice_index desk.counts feed ≡ count → count ≤ accepted
-  agreed desk desk' key' count low same_desk same_key counts =
-      let at : slice_index desk'.counts key'.number ≡ count =
-      ap (λ (d : DeskSeen). slice_index d.counts key'.number) same_desk ∙ ap (λ (k : KeySeen). slice_index desk.counts k.number) same_key
-      ∙ ap (λ (n : ℕ). slice_index desk.counts n) seat.number ∙ counts in
-      let granted : key'.granted ≡ accepted = ap (λ (k : KeySeen). k.granted) same_key ∙ seat.granted in
-      omega (arith, low, at, granted)
+  agreed desk desk' key' count low same_desk same_key counts = grind arith
 
   -- the seat is of the hub that published it
   pub one_hub : (hub : Ties) (new : Told) → hub.book ≡ pass.line.book → hub.plans ≡ pass.shown.plans → IsOf new hub → AreOne pass.line new
-  one_hub hub new book plans of = record {
-    book = sym book ∙ sym of.book;
-    feeds = seat.feeds ∙ sym (λ i. length (plans i).feeds) ∙ sym of.feeds;
-  }
+  one_hub hub new book plans of = grind arith
 
   -- a seat that was shown what was published
   pub shown : (key' : KeySeen) (pass' : PassSeen) (new : Told) → key' ≡ key → pass'.line ≡ new → pass'.shown ≡ pass.shown → AreOne pass.line new
@@ -119,15 +103,4 @@ module _ (key : KeySeen) (pass : PassSeen) (feed accepted last : ℕ) (receipt :
 
 -- the seat of a feed that sent nothing
 pub begins_seat : (key : KeySeen) (pass : PassSeen) (feed : ℕ) → key ≡ fresh_key key.table feed → pass.line.log ≡ [] → pass.line.feeds ≡ length pass.shown.plans.feeds → feed < pass.line.feeds → pass.line.feeds ≤ 64 → IsSeat key pass feed 0 0 None
-begins_seat key pass feed fresh empty feeds one few =
-    let none : messages_of feed (history_of pass.line) ≡ [] = ap (λ (log : List LogItem). messages_of feed (entries_of log)) empty ∙ nothing_of feed in
-    record {
-      number = ap (λ (k : KeySeen). k.number) fresh;
-      granted = ap (λ (k : KeySeen). k.granted) fresh;
-      feeds = feeds;
-      one = one;
-      few = few;
-      counted = ap (λ (ms : List FeedMessage). length ms) none;
-      last_is = ap (λ (ms : List FeedMessage). unwrap_or (last_or None (map stamp_of ms)) 0) none;
-      newest = refl;
-    }
+begins_seat key pass feed fresh empty feeds one few = grind (arith, nothing_of)

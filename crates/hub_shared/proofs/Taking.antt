@@ -1,5 +1,5 @@
 -- A message that is taken in keeps what is true under the lock.
-use Rattle.std.proofs.Common.{◌≡◌, ◌≢◌, zero, suc, replicate, ◌⊎◌, ⊎_elim, ℕ, ◌+◌, ◌<◌, ◌≤◌, List, [], ◌∷◌, ◌++◌, length, get_or, set, Bool, true, false, Option, Some, None, IsTrue, refl, sym, ap, ◌∙◌, subst, arith, length-set, length-append, get_or-set_same, get_or-set_other}
+use Rattle.std.proofs.Common.{◌≡◌, zero, suc, replicate, ◌⊎◌, ⊎_elim, ℕ, ◌+◌, ◌<◌, ◌≤◌, List, [], ◌∷◌, length, true, Some, IsTrue, refl, sym, ap, ◌∙◌, subst, arith, length-set, length-append, get_or-set_same, get_or-set_other}
 use Rattle.std.specs.Prelude.{slice_index, slice_set}
 use Rattle.std.proofs.lemmas.Bool.{and_parts}
 use Rattle.std.proofs.lemmas.Bool.Decides.{nat_tests}
@@ -43,9 +43,7 @@ module _ (core : HubKept) (publisher : Publishing) (desk : DeskSeen) (locked : I
     legal_at = legal_more publisher.line.feeds (history_of publisher.line) feed m locked.legal (subst (λ n. feed < n) (sym locked.feeds) one) sound (subst (λ n. n < stamp_of m) (sym last_is) newer)
 
     pub room : (feed_at core feed).fold.count ≤ (feed_at core feed).fold.stamp → accepted < 253402300799
-    room few =
-        let top : stamp_of m ≤ last_moment = below_last (stamp_of m) (moment_of m sound) in
-        omega (arith, few, stamp_at, count_at, newer, top)
+    room few = grind (arith, below_last, moment_of, stamp_at, count_at)
 
     pub more : count_of feed (grown (history_of publisher.line) feed m) ≡ accepted + 1
     more = ap length (messages_of-own feed (history_of publisher.line) m) ∙ length-append (messages_of feed (history_of publisher.line)) (m ∷ []) ∙ ap (λ n. n + 1) counted
@@ -85,40 +83,18 @@ module _ (core : HubKept) (publisher : Publishing) (desk : DeskSeen) (locked : I
         → history_of receipt ≡ grown (history_of publisher.line) feed m
         → new ≡ record old { accepted = old.accepted + 1; last = stamp_of m; receipt = Some receipt }
         → Takes old m new receipt
-    takes hub old new receipt ties feed_is of are begins own history seat = record {
-      hub = record {
-        book = are.book ∙ of.book ∙ sym (ap (λ (t : Ties). t.book) ties);
-        feeds = are.feeds ∙ of.feeds ∙ sym (ap (λ (t : Ties). length t.plans.feeds) ties);
-      };
-      before = history_of publisher.line;
-      ends = history ∙ ap (λ (n : ℕ). grown (history_of publisher.line) n m) (sym feed_is);
-      begins = begins;
-      own = ap (λ (h : List Entry). messages_of old.feed h) history
-          ∙ ap (λ (n : ℕ). messages_of n (grown (history_of publisher.line) feed m)) feed_is
-          ∙ messages_of-own feed (history_of publisher.line) m
-          ∙ ap (λ (ms : List FeedMessage). ms ++ m ∷ []) own
-          ∙ ap (λ (n : ℕ). messages_of n (history_at old.receipt) ++ m ∷ []) (sym feed_is);
-      seat = seat;
-    }
+    takes hub old new receipt ties feed_is of are begins own history seat =
+        grind (arith, grown, messages_of-own)
 
 -- the same of names for the same things
 pub legal_moved : (p p' : Publishing) (f f' : ℕ) (m m' : FeedMessage) → p' ≡ p → f' ≡ f → m' ≡ m → IsLegal p.line.feeds (grown (history_of p.line) f m) → IsLegal p'.line.feeds (grown (history_of p'.line) f' m')
-legal_moved p p' f f' m m' e g h legal =
-    subst (λ (x : FeedMessage). IsLegal p'.line.feeds (grown (history_of p'.line) f' x)) (sym h)
-    (subst (λ (n : ℕ). IsLegal p'.line.feeds (grown (history_of p'.line) n m)) (sym g)
-    (subst (λ (q : Publishing). IsLegal q.line.feeds (grown (history_of q.line) f m)) (sym e) legal))
+legal_moved p p' f f' m m' e g h legal = grind (arith, grown)
 
 pub stands_moved : (p p' : Publishing) (f : ℕ) (m m' : FeedMessage) (kept kept' : HubKept) → p' ≡ p → m' ≡ m → kept' ≡ kept → StandsFor (grown (history_of p.line) f m) kept → StandsFor (grown (history_of p'.line) f m') kept'
-stands_moved p p' f m m' kept kept' e h same stands =
-    subst (λ (x : FeedMessage). StandsFor (grown (history_of p'.line) f x) kept') (sym h)
-    (subst (λ (q : Publishing). StandsFor (grown (history_of q.line) f m) kept') (sym e)
-    (subst (λ (k : HubKept). StandsFor (grown (history_of p.line) f m) k) (sym same) stands))
+stands_moved p p' f m m' kept kept' e h same stands = grind (arith, grown)
 
 pub grown_moved : (p p' : Publishing) (f f' : ℕ) (m m' : FeedMessage) → p' ≡ p → f' ≡ f → m' ≡ m → grown (history_of p'.line) f' m' ≡ grown (history_of p.line) f m
-grown_moved p p' f f' m m' e g h =
-    ap (λ (x : FeedMessage). grown (history_of p'.line) f' x) h
-    ∙ ap (λ (n : ℕ). grown (history_of p'.line) n m) g
-    ∙ ap (λ (q : Publishing). grown (history_of q.line) f m) e
+grown_moved p p' f f' m m' e g h = grind (arith, grown)
 
 -- what is kept of a hub that accepted nothing
 pub locked_first : (core view : HubKept) (publisher : Publishing) (desk : DeskSeen) → StandsFor [] core → view ≡ core → publisher.line.log ≡ [] → publisher.line.feeds ≡ length view.plans.feeds → publisher.plans ≡ view.plans

@@ -32,8 +32,8 @@ abbrev pub HasReceipt : SeatSeen → Option Told → Type 0
 HasReceipt seat None = seat.accepted ≡ 0
 HasReceipt seat (Some told) = Receives seat told
 
--- what is true of every seat: its receipt is of its hub, and the feed's messages in its history are as
--- many as were accepted, the last of them with the seat's stamp
+-- what is true of every seat: its receipt is of its hub, and the feed's messages in its history are
+-- as many as were accepted, the last of them with the seat's stamp
 pub record IsSound (seat : SeatSeen) : Type 0 where
   pub one : seat.feed < length seat.ties.plans.feeds
   pub receipt : HasReceipt seat seat.receipt
@@ -42,9 +42,9 @@ pub record IsSound (seat : SeatSeen) : Type 0 where
 
 -- ---- ingesting
 
--- The receipt's history ends with the message, begins with the history of the seat's last receipt, and
--- has no other message of the feed more than that. The seat has one more accepted message, its stamp,
--- and a receipt of the same history.
+-- The receipt's history ends with the message, begins with the history of the seat's last receipt,
+-- and has no other message of the feed more than that. The seat has one more accepted message, its
+-- stamp, and a receipt of the same history.
 pub record Takes (old : SeatSeen) (message : FeedMessage) (new : SeatSeen)
     (receipt : Told) : Type 0 where
   pub hub : IsOf receipt old.ties
@@ -65,8 +65,8 @@ pub record Accepts (bytes : List ℕ) (old new : SeatSeen) (receipt : Told) : Ty
   pub judged : judgement_of old.last bytes ≡ Ok message
   pub taken : Takes old message new receipt
 
--- the bytes were accepted, or they are refused with the cause, and the seat is as it was; want of memory
--- may come at any point
+-- the bytes were accepted, or they are refused with the cause, and the seat is as it was; want of
+-- memory may come at any point
 abbrev pub Ingested : List ℕ → SeatSeen → SeatSeen → Result Told Refusal → Type 0
 Ingested bytes old new (Ok receipt) = Accepts bytes old new receipt
 Ingested bytes old new (Err refusal) =

@@ -81,9 +81,9 @@ counted (Some cause) tally = record tally { refused = tally.refused + 1 }
 
 -- ---- what became of it
 
--- These were handed in. The feed's messages in the history of the seat's receipt are those of before
--- and then just the well-formed ones that are newer than all accepted before them, but for those for
--- which memory was wanting; each is counted once.
+-- These were handed in. The feed's messages in the history of the seat's receipt are those of
+-- before and then just the well-formed ones that are newer than all accepted before them, but for
+-- those for which memory was wanting; each is counted once.
 pub record Sorts (old new : SeatSeen) (given : List Given) (tally : Tally) : Type 0 where
   pub messages : messages_of old.feed (history_at new.receipt)
       ≡ messages_of old.feed (history_at old.receipt) ++ newer_of old.last (judged_of given)
@@ -111,8 +111,8 @@ AreAll None after items = Unit {0}
 AreAll (Some xs) None items = Unit {0}
 AreAll (Some xs) (Some ys) items = xs ≡ items
 
--- Why no more was asked for: these were all, the port failed, so many were handed in, or there was no
--- memory for the buffer, and nothing was asked for.
+-- Why no more was asked for: these were all, the port failed, so many were handed in, or there was
+-- no memory for the buffer, and nothing was asked for.
 abbrev pub EndsAs : PortEnd → List (List ℕ) → Ahead → Ahead → ℕ → ℕ → Type 0
 EndsAs Ended items before after faults faults' =
     (length items < most_answers) × AreAll before after items

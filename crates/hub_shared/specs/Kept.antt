@@ -7,9 +7,9 @@ use Rattle.hub_history.specs.Told.{Told, history_of, AreOne}
 use Rattle.snapshot_cell.specs.Seen.{PassSeen, Publishing}
 use Rattle.hub_shared.specs.Seats.{history_at, count_of, last_feed, Begins}
 
--- Under the lock: the core's view stands for the history that was published, which is legal, and has
--- the timetables of the first view; and the desk's count of each feed is how many messages of it
--- stand in that history.
+-- Under the lock: the core's view stands for the history that was published, which is legal, and
+-- has the timetables of the first view; and the desk's count of each feed is how many messages of
+-- it stand in that history.
 pub record IsLocked (core : HubKept) (publisher : Publishing) (desk : DeskSeen) : Type 0 where
   pub stands : StandsFor (history_of publisher.line) core
   pub plans : publisher.plans ≡ core.plans
@@ -35,7 +35,8 @@ Newest line feed accepted None = accepted ≡ 0
 Newest line feed accepted (Some told) = IsNewest line feed accepted told
 
 -- In a seat: the key is that of the feed, and was granted once for each accepted message; and what
--- the seat's pass knows has just these messages of the feed, the last of them with the seat's stamp.
+-- the seat's pass knows has just these messages of the feed, the last of them with the seat's
+-- stamp.
 pub record IsSeat (key : KeySeen) (pass : PassSeen) (feed accepted last : ℕ)
     (receipt : Option Told) : Type 0 where
   pub number : key.number ≡ feed

@@ -108,7 +108,8 @@ fn seats_of(
     requires passes { All (λ pass. IsFresh hub.now pass) passes.items }
     requires enough { length hub.now.plans.feeds ≤ vec_len passes }
     ensures seats { IfOk result (λ all. all.0.items ≡ fresh_seats hub.now) }
-    ensures count { IfOk result (λ all. vec_len all.1 + length hub.now.plans.feeds ≡ vec_len passes) }
+    ensures count { IfOk result
+        (λ all. vec_len all.1 + length hub.now.plans.feeds ≡ vec_len passes) }
     ensures passes { IfOk result (λ all. All (λ pass. IsFresh hub.now pass) all.1.items) }
 {
     let feeds = feeds_of(hub.core.view());

@@ -26,12 +26,14 @@ pub(crate) fn publish<R: Wait>(
 ) -> Result<Receipt, NoMemory>
     ghost entry: { Entry }
     requires named { entry ≡ record { feed = feed; message = message.now.value } }
-    requires legal { IsLegal publisher.old.line.feeds (history_of publisher.old.line ++ entry ∷ []) }
+    requires legal { IsLegal publisher.old.line.feeds
+        (history_of publisher.old.line ++ entry ∷ []) }
     requires stands { StandsFor (history_of publisher.old.line ++ entry ∷ []) (arc_value view) }
     requires plans { (arc_value view).plans ≡ publisher.old.plans }
     ensures published { IfOk result (λ receipt. publisher.new.line ≡ receipt) }
     ensures history { IfOk result (λ receipt. history_of receipt
-        ≡ history_of publisher.old.line ++ record { feed = feed; message = message.now.value } ∷ []) }
+        ≡ history_of publisher.old.line
+        ++ record { feed = feed; message = message.now.value } ∷ []) }
     ensures hub { IfOk result (λ receipt. AreOne receipt publisher.old.line) }
     ensures plans { publisher.new.plans ≡ publisher.old.plans }
     ensures kept { OnErr result (publisher.new ≡ publisher.old) }

@@ -118,7 +118,8 @@ impl FeedSeat {
         ensures begins { Begins (history_at self.old.receipt) (history_of publisher.old.line) }
         ensures own { messages_of self.old.feed (history_of publisher.old.line)
             ≡ messages_of self.old.feed (history_at self.old.receipt) }
-        ensures counted { count_of self.old.feed (history_of publisher.old.line) ≡ self.old.accepted }
+        ensures counted { count_of self.old.feed (history_of publisher.old.line)
+            ≡ self.old.accepted }
         ensures last { last_stamp self.old.feed (history_of publisher.old.line) ≡ self.old.last }
         ensures one { self.old.feed < length self.old.ties.plans.feeds }
         ensures few { self.old.feed < 64 }

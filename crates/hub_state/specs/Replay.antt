@@ -13,14 +13,15 @@ pub record Replayed : Type 0 where
   pub shown : HubKept
   pub reads : ℕ
 
--- the history is a legal one of its feeds, each message of which was read, and the view stands for it
+-- the history is a legal one of its feeds, each message of which was read, and the view stands for
+-- it
 pub record KeepsHistory (history : List Entry) (shown : HubKept) : Type 0 where
   pub legal : IsLegal (length shown.plans.feeds) history
   pub read : ∥ WereRead history ∥₁
   pub stands : StandsFor history shown
 
--- An offered message stands at the end of the history, whose new length is the answer, or it is refused with
--- its cause and the hub is as it was. Want of memory may come at any point.
+-- An offered message stands at the end of the history, whose new length is the answer, or it is
+-- refused with its cause and the hub is as it was. Want of memory may come at any point.
 abbrev pub Offers : ℕ → List ℕ → Replayed → Replayed → Result ℕ Refusal → Type 0
 Offers feed bytes old new (Ok count) = offer_outcome feed bytes old.history
     ≡ record { reply = Ok count; history = new.history }

@@ -33,7 +33,11 @@ impl Model for ReplayHub {
 
     ghost Value = { Replayed };
 
-    ghost view = { λ hub. record { history = hub.history.items; shown = hub.core; reads = hub.looks } };
+    ghost view = { λ hub. record {
+      history = hub.history.items;
+      shown = hub.core;
+      reads = hub.looks;
+    } };
 
     ghost invariant = { λ hub. KeepsHistory hub.history.items hub.core };
 }

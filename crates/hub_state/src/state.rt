@@ -1,9 +1,9 @@
 //! The state, and its step.
 
-ghost use Rattle.std.specs.Prelude.{◌≡◌, ◌<◌, List, [], ◌∷◌, ◌++◌, length, IfOk, IsTrue};
+ghost use Rattle.std.specs.Prelude.{◌≡◌, ◌<◌, List, [], ◌∷◌, ◌++◌, length, true, IfOk, IsTrue};
 ghost use Rattle.std.specs.Arc.{arc_value};
 ghost use Rattle.feed_defs.specs.declared.history.Entry.{Entry};
-ghost use Rattle.feed_defs.specs.History.{stamp_of};
+ghost use Rattle.feed_defs.specs.History.{is_full, stamp_of};
 ghost use Rattle.text_defs.specs.Moments.{is_stamp};
 ghost use Rattle.board_defs.specs.Views.{StandsFor, feed_at, hub_first, hub_after};
 
@@ -14,6 +14,7 @@ use sched_types::Plans;
 use std::alloc::Global;
 use std::marker::Model;
 use std::sync::Arc;
+use std::thread::Threads;
 
 /// The state of a hub. A contract sees it as the `HubKept` of its view.
 #[derive(Drop)]
@@ -30,7 +31,7 @@ impl Model for HubCore {
 }
 
 impl HubCore {
-    /// A hub with those timetables and feeds that accepted nothing; or want of memory.
+    /// A hub with those timetables and feeds that accepted nothing; or out of memory.
     pub fn new(alloc: Global, plans: Arc<Plans>) -> Result<HubCore, NoMemory>
         ensures first { IfOk result (λ core. core ≡ hub_first (arc_value plans)) }
         ensures stands { IfOk result (λ core. StandsFor [] core) }
@@ -41,8 +42,8 @@ impl HubCore {
         })
     }
 
-    /// The view after one message more of the feed of that number, whose stamp is a moment behind
-    /// that feed's last one; or want of memory. The state stays as it is.
+    /// The view after one message more of the feed of that number, whose stamp is a moment after
+    /// that feed's last one; or out of memory. The state stays as it is.
     pub fn prepare(
         &self,
         alloc: Global,
@@ -57,6 +58,27 @@ impl HubCore {
             StandsFor (h ++ record { feed = feed; message = message } ∷ []) (arc_value next)) }
     {
         let next = self.newest.after(alloc, feed, message)?;
+        Ok(Arc::new(alloc, next)?)
+    }
+
+    /// What [`HubCore::prepare`] gives of a whole data set, made on as many threads as the machine
+    /// has processors. It is worth the threads from some thousand entities on.
+    pub fn prepare_full(
+        &self,
+        rt: &(impl Threads + Sync),
+        alloc: Global,
+        feed: u32,
+        message: FeedMessage,
+    ) -> Result<Arc<HubView>, NoMemory>
+        requires whole { is_full message ≡ true }
+        requires feed { feed < length self.now.plans.feeds }
+        requires moment { IsTrue (is_stamp (stamp_of message)) }
+        requires newer { (feed_at self.now feed).fold.stamp < stamp_of message }
+        ensures after { IfOk result (λ next. arc_value next ≡ hub_after feed message self.now) }
+        ensures stands { (h : List Entry) → StandsFor h self.now → IfOk result (λ next.
+            StandsFor (h ++ record { feed = feed; message = message } ∷ []) (arc_value next)) }
+    {
+        let next = self.newest.after_whole(rt, alloc, feed, message)?;
         Ok(Arc::new(alloc, next)?)
     }
 

@@ -10,11 +10,11 @@
 //! `clap` counts words and names them, no more: the numbers and the form of a board are read of the
 //! words that it gives, and words that are no numbers, or out of range, are no command.
 //!
-//! [`asks_for_server`] and [`serve_path`] tell the words of the server, which is no command that runs
-//! once and ends; `clap` has no part in it.
+//! [`asks_for_server`] and [`serve_path`] tell the words of the server, which is no command that
+//! runs once and ends; `clap` has no part in it.
 //!
-//! The crate stands on `clap` for the parsing, on `long_numbers` for numbers, on `script_lines` for the form of a
-//! board and on `rt_types` for the words.
+//! The crate stands on `clap` for the parsing, on `long_numbers` for numbers, on `script_lines` for
+//! the form of a board and on `rt_types` for the words.
 #![tactic(auto)]
 
 mod board;

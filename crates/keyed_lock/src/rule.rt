@@ -4,7 +4,8 @@ use crate::keyed::Keyed;
 use atomic_table::{Play, TableRule};
 use std::marker::PhantomData;
 
-/// The rule of the lock (`specs/Guarded`). As a kind of step it takes the value out where it is at home.
+/// The rule of the lock (`specs/Guarded`). As a kind of step it takes the value out where it is at
+/// home.
 pub struct Guarding<T> {
     of: PhantomData<T>,
 }

@@ -1,5 +1,5 @@
 -- A reader's loop over the fields of bytes.
-use Rattle.std.proofs.Common.{◌≡◌, ℕ, zero, suc, ◌<◌, false, eqb, List, [], ◌∷◌, ◌++◌, length, Result, Ok, Err, refl, sym, ap, ◌∙◌, append_assoc, arith}
+use Rattle.std.proofs.Common.{◌≡◌, ℕ, ◌<◌, false, eqb, List, [], ◌∷◌, ◌++◌, length, Result, Ok, Err, sym, ap, ◌∙◌, append_assoc, arith}
 use Rattle.std.proofs.lemmas.List.{append-nil, nil_from_length}
 use Rattle.pb_wire_defs.specs.Field.{Field, Fault}
 use Rattle.answer_defs.specs.Steps.{◌>>=◌}
@@ -15,15 +15,13 @@ pub record Progress (done : List Field) (rest bytes : List ℕ) : Type 0 where
   pub whole : with_front done (fields_of rest) ≡ fields_of bytes
 
 with_front-nil : (told : Result (List Field) Fault) → with_front [] told ≡ told
-with_front-nil (Ok fields) = refl
-with_front-nil (Err fault) = refl
+with_front-nil told = grind arith
 
 pub begins : (bytes : List ℕ) → Progress [] bytes bytes
 begins bytes = record { whole = with_front-nil (fields_of bytes) }
 
 front_moved : (front : List Field) (x : Field) (told : Result (List Field) Fault) → with_front front (told >>= λ others. Ok (x ∷ others)) ≡ with_front (front ++ x ∷ []) told
-front_moved front x (Ok fields) = ap (λ (fs : List Field). Ok fs) (sym (append_assoc front (x ∷ []) fields))
-front_moved front x (Err fault) = refl
+front_moved front x told = grind (arith, append_assoc)
 
 module _ (done : List Field) (rest bytes : List ℕ) (so_far : Progress done rest bytes) where
   -- one field more
@@ -43,10 +41,7 @@ module _ (done : List Field) (rest bytes : List ℕ) (so_far : Progress done res
 
   -- nothing is left
   pub ends : length rest ≡ 0 → fields_of bytes ≡ Ok done
-  ends none =
-      let told : with_front done (fields_of rest) ≡ Ok done = rw (nil_from_length rest none, fields_of-nil) (ap (λ (fs : List Field). Ok fs) (append-nil done)) in
-      sym so_far.whole ∙ told
+  ends none = grind (arith, so_far.whole, nil_from_length, fields_of-nil, append-nil)
 
 pub some_left : (n : ℕ) → false ≡ eqb n 0 → 0 < n
-some_left zero e = absurd cc
-some_left (suc n) e = omega arith
+some_left n e = grind arith

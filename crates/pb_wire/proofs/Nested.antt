@@ -1,5 +1,5 @@
 -- A reader's loop over the groups that are open: what is behind all of them.
-use Rattle.std.proofs.Common.{◌≡◌, ℕ, zero, suc, ◌+◌, ◌-◌, ◌/◌, ◌%◌, ◌<◌, ◌≤◌, Bool, true, false, cond, eqb, List, length, get_or, Result, Ok, Err, refl, sym, ap, subst, ◌∙◌, arith, set}
+use Rattle.std.proofs.Common.{◌≡◌, ℕ, zero, suc, ◌+◌, ◌-◌, ◌/◌, ◌%◌, ◌<◌, ◌≤◌, false, eqb, List, length, get_or, Result, Ok, Err, refl, sym, ap, subst, ◌∙◌, arith, set}
 use Rattle.std.proofs.lemmas.Bool.{ne_eqb}
 use Rattle.std.proofs.lemmas.List.{get_or-set_same, get_or-set_other}
 use Rattle.std.proofs.Math.ListN.{length-set}
@@ -13,12 +13,7 @@ use Rattle.pb_wire_defs.proofs.Groups.{payload_at-plain, group_at-no_tag, group_
 -- where no group may be open, wire types but those of the other payloads begin none
 pub plain_none : (wire_type : ℕ) (bytes : List ℕ) → (wire_type ≡ 0 → ⊥) → (wire_type ≡ 1 → ⊥) → (wire_type ≡ 2 → ⊥) → (wire_type ≡ 5 → ⊥) → payload_at (group_at 0) 0 wire_type bytes ≡ Err BadGroup
 unfolding payload_at
-plain_none wire_type bytes not_0 not_1 not_2 not_5 =
-    rw (ne_eqb wire_type 0 not_0, ne_eqb wire_type 1 not_1, ne_eqb wire_type 2 not_2, group_at-too_deep 0 bytes, ne_eqb wire_type 5 not_5) (either (eqb wire_type 3) (Err BadGroup))
-  where
-    either : (b : Bool) (x : Result (Payload × List ℕ) Fault) → cond b x x ≡ x
-    either true x = refl
-    either false x = refl
+plain_none wire_type bytes not_0 not_1 not_2 not_5 = grind (arith, ne_eqb, group_at-too_deep)
 
 -- what is behind the groups that are open, of which the last began last
 pub behind_open : List ℕ → ℕ → List ℕ → Result (List ℕ) Fault
@@ -36,8 +31,7 @@ behind_set : (numbers : List ℕ) (at n depth : ℕ) (bytes : List ℕ) → dept
 unfolding behind_open
 behind_set numbers at n zero bytes le = refl
 behind_set numbers at n (suc depth) bytes le =
-    let other : get_or (set numbers at n) depth 0 ≡ get_or numbers depth 0 = get_or-set_other numbers at depth n 0 (omega arith) in
-    rw other (bind_same (group_at (deepest_group - depth) (get_or numbers depth 0) bytes) (behind_open (set numbers at n) depth) (behind_open numbers depth) (λ rest. behind_set numbers at n depth rest (omega arith)))
+    grind (arith, get_or, get_or-set_other, bind_same, behind_open, behind_set numbers at n depth)
 
 pub begins : (numbers : List ℕ) (number : ℕ) (bytes : List ℕ) → deepest_group ≤ length numbers → get_or numbers 0 0 ≡ number → Nested numbers 1 bytes (group_at deepest_group number bytes)
 unfolding behind_open
@@ -67,15 +61,11 @@ module _ (numbers : List ℕ) (depth : ℕ) (rest : List ℕ) (told : Result (Li
   -- what is behind the group that began last decides
   last_open : (d : ℕ) → depth ≡ suc d → (group_at (suc (deepest_group - suc d)) (get_or numbers d 0) rest >>= behind_open numbers d) ≡ told
   unfolding behind_open
-  last_open d is =
-      let levels : deepest_group - d ≡ suc (deepest_group - suc d) = omega (arith, so_far.deep) in
-      rw (← levels) (subst (λ (n : ℕ). behind_open numbers n rest ≡ told) is so_far.whole)
+  last_open d is = grind (arith, behind_open)
 
   -- no tag in front
   pub no_tag : (fault : Fault) → 0 < depth → tag_at rest ≡ Err fault → told ≡ Err fault
-  no_tag fault some e =
-      let is : depth ≡ suc (depth - 1) = omega arith in
-      sym (last_open (depth - 1) is) ∙ rw (group_at-no_tag (deepest_group - suc (depth - 1)) (get_or numbers (depth - 1) 0) rest fault e) refl
+  no_tag fault some e = grind (arith, last_open (depth - 1) (omega arith), group_at-no_tag)
 
   module _ (tag : ℕ) (after : List ℕ) (some : 0 < depth) (tagged : tag_at rest ≡ Ok (tag, after)) where
     -- a group too many

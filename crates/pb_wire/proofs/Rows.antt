@@ -9,9 +9,9 @@ use Rattle.std.proofs.lemmas.List.Concat.{flat_map-cons}
 use Rattle.std.proofs.lemmas.List.Elements.{All-from_recursion}
 use Rattle.std.proofs.Math.Seq.{take-append_seam, drop-append_seam}
 use Rattle.answer_defs.specs.Defined.{AsDefined, IsCause}
-use Rattle.pb_wire_defs.specs.Field.{Field, Fault, Payload, deepest_group}
+use Rattle.pb_wire_defs.specs.Field.{Field, Payload}
 use Rattle.pb_wire_defs.specs.Field.Payload.{Varint, Eight, Span, Four, Group}
-use Rattle.pb_wire_defs.specs.Spelling.{IsPayload, IsGroup, IsField, HasFields}
+use Rattle.pb_wire_defs.specs.Spelling.{IsPayload, IsField, HasFields}
 use Rattle.pb_wire_defs.specs.Reading.{field_at, fields_of}
 use Rattle.answer_defs.proofs.Steps.{bind_ok, ok_is}
 use Rattle.pb_wire_defs.proofs.Bytes.{AreBytes, AreBytes-behind}
@@ -29,15 +29,13 @@ abbrev pub bytes_of : List Field → List ℕ
 bytes_of fields = flat_map (λ field. field.raw) fields
 
 bytes_of-push : (fields : List Field) (x : Field) → bytes_of (fields ++ x ∷ []) ≡ bytes_of fields ++ x.raw
-bytes_of-push fields x =
-    flat_map-append (λ field. field.raw) fields (x ∷ []) ∙ ap (λ (r : List ℕ). bytes_of fields ++ r) (flat_map-cons (λ field. field.raw) x [] ∙ append-nil x.raw)
+bytes_of-push fields x = grind (arith, flat_map-append, flat_map-cons, append-nil)
 
 places-push : (at : ℕ) (fields : List Field) (x : Field) → places at (fields ++ x ∷ []) ≡ places at fields ++ place (at + length (bytes_of fields)) x ∷ []
 unfolding places
 places-push at [] x = let n : at + 0 ≡ at = omega arith in rw n refl
 places-push at (f ∷ fs) x =
-    let n : at + length (bytes_of (f ∷ fs)) ≡ (at + length f.raw) + length (bytes_of fs) = omega (arith, ap length (flat_map-cons (λ field. field.raw) f fs), length-append f.raw (bytes_of fs)) in
-    rw (n, places-push (at + length f.raw) fs x) refl
+    grind (arith, flat_map-cons, length-append, places-push (at + length f.raw) fs x)
 
 -- fields were noted, and with those of the rest they are the fields of the bytes
 pub record Placing (noted : List placed.Field) (at : ℕ) (rest bytes : List ℕ) : Type 0 where
@@ -52,16 +50,11 @@ unfolding places
 begins bytes = record { done = []; noted_is = refl; at_is = refl; split = refl; progress = lists.begins bytes }
 
 run_fits : (group : ℕ → List ℕ → Type 0) (number : ℕ) (payload : Payload) (spelling : List ℕ) (most : ℕ) → IsPayload group number spelling payload → length spelling ≤ most → FitsIn payload most
-run_fits group number (Varint n) spelling most carries le = tt
-run_fits group number (Eight n) spelling most carries le = tt
-run_fits group number (Span content) spelling most (size, sized, is) le = omega (arith, ap length is, length-append size content)
-run_fits group number (Four n) spelling most carries le = tt
-run_fits group number Group spelling most carries le = tt
+run_fits group number payload spelling most carries le = grind (arith, length-append)
 
 -- a run of bytes is no longer than the field that carries it
 pub carried_fits : (field : Field) → IsField field → FitsIn field.payload (length field.raw)
-carried_fits field h =
-    run_fits (IsGroup deepest_group) field.number field.payload h.rest (length field.raw) h.carries (omega (arith, ap length h.whole, length-append h.tag h.rest))
+carried_fits field h = grind (arith, run_fits, length-append)
 
 module _ (noted : List placed.Field) (at : ℕ) (rest bytes : List ℕ) (so_far : Placing noted at rest bytes) (fits : AreBytes bytes) where
   pub rest_fits : AreBytes rest
@@ -70,8 +63,7 @@ module _ (noted : List placed.Field) (at : ℕ) (rest bytes : List ℕ) (so_far 
   -- a field ends within the bytes
   pub ends_within : (x : Field) (after : List ℕ) → field_at rest ≡ Ok (x, after) → at + length x.raw ≤ length bytes
   ends_within x after found =
-      let here = field_found rest (x, after) rest_fits found in
-      omega (arith, so_far.at_is, ap length so_far.split, length-append (bytes_of so_far.done) rest, ap length here.1, length-append x.raw after)
+      grind (arith, so_far.at_is, so_far.split, length-append, (field_found rest (x, after) rest_fits found).1)
 
   pub carries_within : (x : Field) (after : List ℕ) → field_at rest ≡ Ok (x, after) → FitsIn x.payload (length x.raw)
   carries_within x after found =
@@ -97,9 +89,7 @@ module _ (noted : List placed.Field) (at : ℕ) (rest bytes : List ℕ) (so_far 
       causes (placed_fields (fields_of bytes)) fault (fails_on (field_at rest) (placed_fields (fields_of bytes)) fault (λ told e. rw (lists.stops so_far.done rest bytes so_far.progress told some e) refl) found)
 
   pub ends : length rest ≡ 0 → placed_fields (fields_of bytes) ≡ Ok noted
-  ends none =
-      let told : fields_of bytes ≡ Ok so_far.done = lists.ends so_far.done rest bytes so_far.progress none in
-      rw (told, so_far.noted_is) refl
+  ends none = grind (arith, so_far.noted_is, lists.ends so_far.done rest bytes so_far.progress none)
 
 -- ---- what the places are
 
@@ -122,36 +112,24 @@ payload_right group number Group front tag spelling behind bytes h whole = refl
 
 -- a field that stands in the bytes is seen at its places
 field_right : (field : Field) (front behind bytes : List ℕ) → IsField field → bytes ≡ front ++ (field.raw ++ behind) → field_in bytes (place (length front) field) ≡ field
-field_right field front behind bytes h whole =
-    let raw_is : slice_range bytes (length front) (length front + length field.raw) ≡ field.raw = rw whole (slice_between front field.raw behind) in
-    let split : bytes ≡ front ++ ((h.tag ++ h.rest) ++ behind) = rw (← h.whole) whole in
-    let payload_is : payload_in bytes (payload_place (length front + length field.raw) field.payload) ≡ field.payload = rw h.whole (payload_right (IsGroup deepest_group) field.number field.payload front h.tag h.rest behind bytes h.carries split) in
-    let made : Payload → List ℕ → Field = λ payload raw. record { number = field.number; payload = payload; raw = raw } in
-    ap (λ (p : Payload). made p (slice_range bytes (length front) (length front + length field.raw))) payload_is ∙ ap (λ (r : List ℕ). made field.payload r) raw_is
+field_right field front behind bytes h whole = grind (arith, slice_between, payload_right)
 
 fields_right : (fields : List Field) (front bytes : List ℕ) → AllByRecursion IsField fields → bytes ≡ front ++ bytes_of fields → fields_in bytes (places (length front) fields) ≡ fields
 unfolding places
 fields_right [] front bytes each whole = refl
 fields_right (f ∷ fs) front bytes each whole =
-    let split : bytes ≡ front ++ (f.raw ++ bytes_of fs) = whole ∙ ap (λ (r : List ℕ). front ++ r) (flat_map-cons (λ field. field.raw) f fs) in
-    let onward : bytes ≡ (front ++ f.raw) ++ bytes_of fs = split ∙ sym (append_assoc front f.raw (bytes_of fs)) in
-    let n : length front + length f.raw ≡ length (front ++ f.raw) = sym (length-append front f.raw) in
-    rw (field_right f front (bytes_of fs) bytes each.0 split, n, fields_right fs (front ++ f.raw) bytes each.1 onward) refl
+    grind (arith, flat_map-cons, append_assoc, length-append, field_right, fields_right fs (front ++ f.raw) bytes each.1)
 
 payload_between : (payload : Payload) (start size : ℕ) → FitsIn payload size → LiesBetween start (start + size) (payload_place (start + size) payload)
-payload_between (Varint n) start size fits = tt
-payload_between (Eight n) start size fits = tt
-payload_between (Span content) start size fits = (omega arith, omega arith, refl)
-payload_between (Four n) start size fits = tt
-payload_between Group start size fits = tt
+payload_between payload start size fits = grind arith
 
 fields_within : (fields : List Field) (at limit : ℕ) → AllByRecursion IsField fields → at + length (bytes_of fields) ≤ limit → AllByRecursion (LiesWithin limit) (places at fields)
 unfolding places
 fields_within [] at limit each fits = tt
 fields_within (f ∷ fs) at limit each fits =
-    let n : length (bytes_of (f ∷ fs)) ≡ length f.raw + length (bytes_of fs) = ap length (flat_map-cons (λ field. field.raw) f fs) ∙ length-append f.raw (bytes_of fs) in
-    let some : 1 ≤ length f.raw = field_long f each.0 in
-    (record { taken = omega arith; ended = omega arith; carried = payload_between f.payload at (length f.raw) (carried_fits f each.0) }, fields_within fs (at + length f.raw) limit each.1 (omega arith))
+    let n : length (bytes_of (f ∷ fs)) ≡ length f.raw + length (bytes_of fs) = grind (arith, flat_map-cons, length-append) in
+    let here = payload_between f.payload at (length f.raw) (carried_fits f each.0) in
+    (record { taken = omega (arith, field_long f each.0); ended = omega arith; carried = here }, fields_within fs (at + length f.raw) limit each.1 (omega arith))
 
 fields_in_row : (fields : List Field) (at limit : ℕ) → at + length (bytes_of fields) ≡ limit → AreInRow at limit (places at fields)
 unfolding places
@@ -173,20 +151,7 @@ module _ (bytes : List ℕ) (fits : AreBytes bytes) where
   is_exact (Ok v) h =
       let t = told v h in
       t.1 ∙ ap (λ (fs : List Field). Ok fs) (sym (ap (fields_in bytes) t.2 ∙ fields_right t.0 [] bytes t.3.each t.3.whole))
-  is_exact (Err fault) h =
-      fails_told fault h
-    where
-      -- places are told where fields are
-      told_fault : (told : Result (List Field) Fault) (first : Fault) → placed_fields told ≡ Err first → told ≡ Err first
-      told_fault (Ok fields) first e = absurd cc
-      told_fault (Err other) first e = cc
-
-      fails_told : (fault : WireFault) → IsCause (placed_fields (fields_of bytes)) (cause_of fault) → IsCause (fields_of bytes) (cause_of fault)
-      fails_told named.Cut h = told_fault (fields_of bytes) _ h
-      fails_told named.Varint h = told_fault (fields_of bytes) _ h
-      fails_told named.Tag h = told_fault (fields_of bytes) _ h
-      fails_told named.Group h = told_fault (fields_of bytes) _ h
-      fails_told named.NoMemory h = tt
+  is_exact (Err fault) h = grind (arith, told)
 
   pub is_found : (answer : Result (Vec placed.Field) WireFault) → AsDefined (λ v. v.items) cause_of (placed_fields (fields_of bytes)) answer → IfOk answer (λ v. HasFields bytes (fields_in bytes v.items))
   is_found (Ok v) h =
@@ -195,33 +160,14 @@ module _ (bytes : List ℕ) (fits : AreBytes bytes) where
   is_found (Err e) h = tt
 
   pub is_within : (answer : Result (Vec placed.Field) WireFault) → AsDefined (λ v. v.items) cause_of (placed_fields (fields_of bytes)) answer → IfOk answer (λ v. All (LiesWithin (length bytes)) v.items)
-  is_within (Ok v) h =
-      let t = told v h in
-      let each : AllByRecursion (LiesWithin (length bytes)) (places 0 t.0) = fields_within t.0 0 (length bytes) t.3.each (omega (arith, ap length t.3.whole)) in
-      subst (All (LiesWithin (length bytes))) (sym t.2) (All-from_recursion (LiesWithin (length bytes)) (places 0 t.0) each)
-  is_within (Err e) h = tt
+  is_within answer h = grind (arith, told, fields_within, All-from_recursion)
 
   pub is_row : (answer : Result (Vec placed.Field) WireFault) → AsDefined (λ v. v.items) cause_of (placed_fields (fields_of bytes)) answer → IfOk answer (λ v. AreInRow 0 (length bytes) v.items)
-  is_row (Ok v) h =
-      let t = told v h in
-      subst (AreInRow 0 (length bytes)) (sym t.2) (fields_in_row t.0 0 (length bytes) (omega (arith, ap length t.3.whole)))
-  is_row (Err e) h = tt
+  is_row answer h = grind (arith, told, fields_in_row)
 
 -- where the bytes spell fields, nothing but want of memory is answered
 pub is_none : (bytes : List ℕ) (answer : Result (Vec placed.Field) WireFault) (fault : WireFault) → AsDefined (λ v. v.items) cause_of (placed_fields (fields_of bytes)) answer → answer ≡ Err fault → (fault ≡ named.NoMemory → ⊥) → (fields : List Field) → HasFields bytes fields → ⊥
-is_none bytes (Ok v) fault h e other fields spelled = cc
-is_none bytes (Err first) fault h e other fields spelled =
-    let first_is : first ≡ fault = cc in
-    let ok : placed_fields (fields_of bytes) ≡ Ok (places 0 fields) = rw (fields_only bytes fields spelled) refl in
-    no_fault fault (placed_fields (fields_of bytes)) (places 0 fields) ok other (subst (λ (e : WireFault). IsCause (placed_fields (fields_of bytes)) (cause_of e)) first_is h)
-  where
-    no_fault : (fault : WireFault) (told : Result (List placed.Field) Fault) (fs : List placed.Field) → told ≡ Ok fs → (fault ≡ named.NoMemory → ⊥) → IsCause told (cause_of fault) → ⊥
-    no_fault named.Cut told fs e other h = cc
-    no_fault named.Varint told fs e other h = cc
-    no_fault named.Tag told fs e other h = cc
-    no_fault named.Group told fs e other h = cc
-    no_fault named.NoMemory told fs e other h = other refl
+is_none bytes answer fault h e other fields spelled = grind (arith, fields_only, told)
 
 pub is_only : (bytes : List ℕ) (answer : Result (Vec placed.Field) WireFault) (fields : List Field) → HasFields bytes fields → AsDefined (λ v. fields_in bytes v.items) cause_of (fields_of bytes) answer → AsDefined (λ v. fields_in bytes v.items) cause_of (Ok fields) answer
-is_only bytes answer fields spelled exact =
-    subst (λ (r : Result (List Field) Fault). AsDefined (λ v. fields_in bytes v.items) cause_of r answer) (fields_only bytes fields spelled) exact
+is_only bytes answer fields spelled exact = grind (arith, fields_only)

@@ -18,32 +18,39 @@ remains n lt = omega arith
 nested : (n : ℕ) → 268435456 ≤ n → n < 34359738368
     → (n % 128 + 128) ∷ (n / 128 % 128 + 128) ∷ (n / 128 / 128 % 128 + 128) ∷ (n / 128 / 128 / 128 % 128 + 128) ∷ (n / 128 / 128 / 128 / 128 % 128) ∷ [] ≡ varint n
 unfolding varint
-nested n from below =
-    let second = n / 128 in
-    let third = second / 128 in
-    let fourth = third / 128 in
-    let last = fourth / 128 in
-    let from_2 : 2097152 ≤ second = at_least n 2097152 (omega (arith, from)) in
-    let from_3 : 16384 ≤ third = at_least second 16384 (omega (arith, from_2)) in
-    let from_4 : 128 ≤ fourth = at_least third 128 (omega (arith, from_3)) in
-    let below_2 : second < 268435456 = at_most n 268435456 (omega (arith, below)) in
-    let below_3 : third < 2097152 = at_most second 2097152 (omega (arith, below_2)) in
-    let below_4 : fourth < 16384 = at_most third 16384 (omega (arith, below_3)) in
-    let below_5 : last < 128 = at_most fourth 128 (omega (arith, below_4)) in
-    sym (more_groups 9 n (omega (arith, from))
-    ∙ ap (λ xs. (n % 128 + 128) ∷ xs) (more_groups 8 second (omega (arith, from_2))
-    ∙ ap (λ xs. (second % 128 + 128) ∷ xs) (more_groups 7 third (omega (arith, from_3))
-    ∙ ap (λ xs. (third % 128 + 128) ∷ xs) (more_groups 6 fourth from_4
-    ∙ ap (λ xs. (fourth % 128 + 128) ∷ xs) (last_group 5 last below_5 ∙ ap (λ m. m ∷ []) (sym (remains last below_5)))))))
+nested n from below = grind (arith, at_least, at_most, more_groups, last_group, remains)
 
 pub five : (n last : ℕ) → last ≡ n / 268435456 → 0 < last → last < 128
     → (n % 128 + 128) ∷ (n / 128 % 128 + 128) ∷ (n / 16384 % 128 + 128) ∷ (n / 2097152 % 128 + 128) ∷ last ∷ [] ≡ varint n
-five n last is some few =
-    let third : n / 16384 ≡ n / 128 / 128 = omega arith in
-    let fourth : n / 2097152 ≡ n / 128 / 128 / 128 = omega arith in
-    let end : last ≡ n / 128 / 128 / 128 / 128 % 128 = omega (arith, is, few) in
-    (λ i. (n % 128 + 128) ∷ (n / 128 % 128 + 128) ∷ (third i % 128 + 128) ∷ (fourth i % 128 + 128) ∷ end i ∷ [])
-    ∙ nested n (omega (arith, is, some)) (omega (arith, is, few))
+five n last is some few = grind (arith, nested)
+
+pub two : (n last : ℕ) → last ≡ n / 128 → 0 < last → last < 128 → (n % 128 + 128) ∷ last ∷ [] ≡ varint n
+unfolding varint
+two n last is some few = grind (arith, at_least, more_groups, last_group)
+
+-- ---- a number of as many groups as there can be
+
+abbrev listed : ℕ → ℕ → List ℕ
+listed zero n = n ∷ []
+listed (suc k) n = (n % 128 + 128) ∷ listed k (n / 128)
+
+pow_some : (k : ℕ) → 1 ≤ 128 ^ k
+pow_some zero = omega arith
+pow_some (suc k) = rw pow-suc (omega (arith, pow_some k))
+
+all_listed : (most k n : ℕ) → k ≤ most → 128 ^ k ≤ n → n < 128 ^ suc k → listed k n ≡ groups (suc most) n
+all_listed most zero n few from below = sym (last_group most n (omega arith))
+all_listed zero (suc k) n few from below = absurd (omega arith)
+all_listed (suc most) (suc k) n few from below =
+    let longer : 128 ^ k * 128 ≤ n = rw pow-suc at from in
+    let some = pow_some k in
+    let long : 128 ≤ n = omega arith in
+    ap (λ rest. (n % 128 + 128) ∷ rest) (all_listed most k (n / 128) (omega arith) (at_least n (128 ^ k) longer) (quotient_below n (128 ^ suc k) (rw pow-suc at below)))
+    ∙ sym (more_groups (suc most) n long)
+
+pub ten : (n : ℕ) → 9223372036854775808 ≤ n → n < 2 ^ 64 → listed 9 n ≡ varint n
+unfolding varint
+ten n from below = all_listed 9 9 n (omega arith) from (omega arith)
 
 -- ---- group by group
 

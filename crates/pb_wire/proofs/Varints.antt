@@ -2,6 +2,7 @@
 use Rattle.std.proofs.Common.{◌≡◌, ℕ, suc, ◌+◌, ◌-◌, ◌*◌, ◌/◌, ◌%◌, ◌^◌, ◌<◌, ◌≤◌, List, [], ◌∷◌, length, take, drop, get_or, Result, Ok, Err, refl, sym, ap, ◌∙◌, arith}
 use Rattle.std.proofs.Math.Nat.{add-mul-mod_self_left}
 use Rattle.std.proofs.Math.Seq.{take-length}
+use Rattle.std.proofs.lemmas.Bool.Decides.{nat_tests}
 use Rattle.std.proofs.lemmas.Bool.{lt-ltb, le-ltb}
 use Rattle.std.proofs.lemmas.List.{nil_from_length}
 use Rattle.pb_wire_defs.specs.Field.{Fault}
@@ -21,16 +22,14 @@ begins bytes =
 
 -- a whole number of times the modulus makes no difference
 same_modulo : (m a b j k : ℕ) → a + m * j ≡ b + m * k → a % m ≡ b % m
-same_modulo m a b j k e =
-    sym (add-mul-mod_self_left a m j) ∙ ap (λ (n : ℕ). n % m) e ∙ add-mul-mod_self_left b m k
+same_modulo m a b j k e = grind (arith, add-mul-mod_self_left a m j, add-mul-mod_self_left b m k)
 
 -- a number is its rest and a whole number of times the modulus
 parted : (m a : ℕ) → a % m + m * (a / m) ≡ a
 parted m a = omega arith
 
 whole_sum : (m v s x h am aq pm pq qm qq : ℕ) → pm + m * pq ≡ s * x → am + m * aq ≡ v + pm → qm + m * qq ≡ s * 128 → (am + qm * h) + m * (aq + pq + qq * h) ≡ (v + s * (x + 128 * h)) + m * 0
-whole_sum m v s x h am aq pm pq qm qq product sum scaled =
-    omega (arith, ap (λ (n : ℕ). n * h) scaled)
+whole_sum m v s x h am aq pm pq qm qq product sum scaled = omega (arith, ap (λ n. n * h) scaled)
 
 -- what is added may be taken modulo at each step
 added_modulo : (m v s x h : ℕ) → ((v + s * x % m) % m + s * 128 % m * h) % m ≡ (v + s * (x + 128 * h)) % m
@@ -40,35 +39,25 @@ added_modulo m v s x h =
 
 -- a product may be taken modulo before the sum is
 sum_modulo : (m v p : ℕ) → (v + p % m) % m ≡ (v + p) % m
-sum_modulo m v p =
-    same_modulo m (v + p % m) (v + p) (p / m) 0 (omega (arith, parted m p))
+sum_modulo m v p = same_modulo m _ _ (p / m) 0 (omega (arith, parted m p))
 
 module _ (value scale counter : ℕ) (rest : List ℕ) (told : Result (ℕ × List ℕ) Fault) (so : so_far value scale (10 - counter) rest ≡ told) where
   -- the bytes end within the varint
   pub ends_early : counter < 10 → length rest ≡ 0 → told ≡ Err Cut
   unfolding so_far groups_at
-  ends_early lt none =
-      let most : 10 - counter ≡ suc (9 - counter) = omega arith in
-      let cut : so_far value scale (10 - counter) rest ≡ Err Cut = rw (most, nil_from_length rest none) refl in
-      sym so ∙ cut
+  ends_early lt none = grind (arith, so_far, nil_from_length)
 
   -- no group is left
   pub too_long : 10 ≤ counter → told ≡ Err Overlong
   unfolding so_far groups_at
-  too_long le =
-      let most : 10 - counter ≡ 0 = omega arith in
-      let overlong : so_far value scale (10 - counter) rest ≡ Err Overlong = rw most refl in
-      sym so ∙ overlong
+  too_long le = grind (arith, so_far)
 
   module _ (b group : ℕ) (after : List ℕ) (lt : counter < 10) (split : rest ≡ b ∷ after) (is : group ≡ b % 128) where
     -- a byte below 128 is the last
     pub last_group : b < 128 → told ≡ Ok ((value + scale * group % 2 ^ 64) % 2 ^ 64, after)
     unfolding so_far groups_at
     last_group small =
-        let most : 10 - counter ≡ suc (9 - counter) = omega arith in
-        let group_is : group ≡ b = omega arith in
-        let done : so_far value scale (10 - counter) rest ≡ Ok ((value + scale * b) % 2 ^ 64, after) = rw (most, split, lt-ltb b 128 small) refl in
-        sym so ∙ done ∙ rw (sum_modulo (2 ^ 64) value (scale * group), group_is) refl
+        grind (arith, nat_tests, sum_modulo (2 ^ 64) value (scale * group))
 
     -- behind another byte the groups go on
     pub next_group : 128 ≤ b → so_far ((value + scale * group % 2 ^ 64) % 2 ^ 64) (scale * 128 % 2 ^ 64) (10 - (counter + 1)) after ≡ told

@@ -7,8 +7,8 @@ use crate::NoMemory;
 use std::alloc::{AllocError, AllocFailed};
 use thiserror::Error;
 
-/// Why no fields were read: the first fault of the bytes from the left (Protocol Buffers, "Encoding"), or want of
-/// memory.
+/// Why no fields were read: the first fault of the bytes from the left (Protocol Buffers,
+/// "Encoding"), or want of memory.
 #[derive(Clone, Copy, Debug, PartialEq, Eq, Error)]
 pub enum WireFault {
     /// The bytes end within a field; so they do where a group has no end.

@@ -1,7 +1,7 @@
 //! A field by its places in the bytes.
 
-/// What a field carries, where its bytes are named by their places (Protocol Buffers, "Encoding", "Message
-/// Structure").
+/// What a field carries, where its bytes are named by their places (Protocol Buffers, "Encoding",
+/// "Message Structure").
 #[derive(Clone, Copy, Debug, PartialEq, Eq)]
 pub enum Payload {
     /// Wire type 0.
@@ -12,7 +12,8 @@ pub enum Payload {
     Span(usize, usize),
     /// Wire type 5: four bytes, the lowest first.
     Four(u32),
-    /// Wire type 3: the fields up to an end tag of the same number; the field's own bytes hold them.
+    /// Wire type 3: the fields up to an end tag of the same number; the field's own bytes hold
+    /// them.
     Group,
 }
 

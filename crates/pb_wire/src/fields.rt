@@ -14,8 +14,8 @@ use crate::part::{Part, PartPayload};
 use crate::reading::field_at;
 use std::alloc::Global;
 
-/// The fields that the bytes spell, in order, one behind another (Protocol Buffers, "Encoding", "Message
-/// Structure").
+/// The fields that the bytes spell, in order, one behind another (Protocol Buffers, "Encoding",
+/// "Message Structure").
 pub fn read_fields(alloc: Global, bytes: &[u8]) -> Result<Vec<Field>, WireFault>
     // What is read is spelled so.
     ensures found { IfOk result (λ v. HasFields bytes.now (fields_in bytes.now v.items)) }

@@ -9,9 +9,9 @@ use crate::fault::WireFault;
 use crate::numbers::tag_at;
 use crate::payloads::plain_payload_at;
 
-/// The bytes behind a group of that number, from behind its start tag on (Protocol Buffers, "Encoding",
-/// "Groups"). The numbers of the open groups stand in an array, so that nesting takes no stack.
-/// Groups are rare, so their array is kept off the path of the other fields.
+/// The bytes behind a group of that number, from behind its start tag on (Protocol Buffers,
+/// "Encoding", "Groups"). The numbers of the open groups stand in an array, so that nesting takes
+/// no stack. Groups are rare, so their array is kept off the path of the other fields.
 #[inline(never)]
 pub fn group_at(number: u32, bytes: &[u8]) -> Result<&[u8], WireFault>
     ensures { Finds (λ x. x.now) result (group_at deepest_group number bytes.now) }

@@ -1,11 +1,11 @@
 //! Bytes on the wire: reads the fields of a Protocol Buffers message, and writes fields.
 //!
-//! `read_fields` tells where each field of the bytes lies, exactly as `pb_wire_defs` says which bytes
-//! spell a list of fields, or names the first fault. `field_at` gives the field in front as a borrow,
-//! for readers that take one after another. Both go over the bytes once and copy no payload. Groups
-//! are read, up to 64 deep, in a loop over their tags, with no memory but a fixed array.
-//! `write_varint`, `write_scalar`, `write_four` and `write_field` append the one spelling that a
-//! writer chooses; where memory runs out, what was written before stays as it was.
+//! `read_fields` tells where each field of the bytes lies, exactly as `pb_wire_defs` says which
+//! bytes spell a list of fields, or names the first fault. `field_at` gives the field in front as a
+//! borrow, for readers that take one after another. Both go over the bytes once and copy no
+//! payload. Groups are read, up to 64 deep, in a loop over their tags, with no memory but a fixed
+//! array. `write_varint`, `write_scalar`, `write_four` and `write_field` append the one spelling
+//! that a writer chooses; where memory runs out, what was written before stays as it was.
 //!
 //! It stands on `pb_wire_defs` for the meaning of all of this.
 #![tactic(auto)]

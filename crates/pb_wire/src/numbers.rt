@@ -1,4 +1,5 @@
-//! What stands in front of a byte list: a varint, a number of four or eight bytes, or a run of bytes.
+//! What stands in front of a byte list: a varint, a number of four or eight bytes, or a run of
+//! bytes.
 
 ghost use Rattle.std.specs.Prelude.{◌≡◌, ℕ, List, ◌<◌};
 ghost use Rattle.std.specs.Int.{w32, w64};
@@ -42,7 +43,8 @@ fn long_varint_at(bytes: &[u8]) -> Result<(u64, &[u8]), WireFault>
     Err(WireFault::Varint)
 }
 
-/// The tag in front, and the bytes behind it: it has a number of at least 1 and a wire type of at most 5.
+/// The tag in front, and the bytes behind it: it has a number of at least 1 and a wire type of at
+/// most 5.
 #[tactic(auto, unfolding(pb_wire_defs::specs::Reading::tag_at))]
 #[inline(always)]
 pub fn tag_at(bytes: &[u8]) -> Result<(u32, &[u8]), WireFault>

@@ -8,8 +8,8 @@ use crate::numbers::tag_at;
 use crate::part::Part;
 use crate::payloads::payload_at;
 
-/// The field in front of the bytes, and the bytes after it; or the fault there, also where there are
-/// no bytes (Protocol Buffers, "Encoding", "Message Structure").
+/// The field in front of the bytes, and the bytes after it; or the fault there, also where there
+/// are no bytes (Protocol Buffers, "Encoding", "Message Structure").
 ///
 /// Each field of a message passes here: in line, what it answers stays in registers.
 #[tactic(auto, unfolding(pb_wire_defs::specs::Reading::field_at, pb_wire_defs::specs::Reading::field_with))]

@@ -9,13 +9,19 @@ use crate::NoMemory;
 /// The bytes of the longest varint.
 const LONGEST_VARINT: usize = 10;
 
-/// The least number whose varint has five groups. Instants of our time, in seconds since 1970, have as many.
+/// The least number whose varint has five groups. Instants of our time, in seconds since 1970, have
+/// as many.
 const LEAST_OF_FIVE: u64 = 268_435_456;
 
-/// Appends the shortest varint of the value (Protocol Buffers, "Encoding", "Base 128 Varints"). Want of memory
-/// leaves `out` as it was.
+/// The least number whose varint has ten groups. Negative numbers, as 64 bits of two's complement,
+/// are no less.
+const LEAST_OF_TEN: u64 = 9_223_372_036_854_775_808;
+
+/// Appends the shortest varint of the value (Protocol Buffers, "Encoding", "Base 128 Varints").
+/// Want of memory leaves `out` as it was.
 ///
-/// Most tags, lengths and numbers are below 128: in line, those are one push, and a tag is a constant.
+/// Most tags, lengths and numbers are below 128: in line, those are one push, and a tag is a
+/// constant.
 #[inline(always)]
 pub fn write_varint(value: u64, out: &mut Vec<u8>) -> Result<(), NoMemory>
     ensures written { OnOk result (out.new.items ≡ out.old.items ++ varint value) }
@@ -28,18 +34,36 @@ pub fn write_varint(value: u64, out: &mut Vec<u8>) -> Result<(), NoMemory>
     write_long(value, out)
 }
 
-/// The same of larger numbers. Most of these are instants, which are appended in one piece.
+/// The same of larger numbers. Most of these are instants, delays of some minutes, or negative
+/// delays, which have the greatest: those are appended in one piece.
 #[inline(never)]
 fn write_long(value: u64, out: &mut Vec<u8>) -> Result<(), NoMemory>
     ensures written { OnOk result (out.new.items ≡ out.old.items ++ varint value) }
     ensures kept { OnErr result (out.new.items ≡ out.old.items) }
 {
-    let last = value / LEAST_OF_FIVE;
-    if 0 < last && last < 128 {
-        out.extend_from_slice(&five_groups(value, last))
-    } else {
-        write_groups(value, out)
+    let second = value / 128;
+    if 0 < second && second < 128 {
+        return out.extend_from_slice(&two_groups(value, second));
     }
+    let fifth = value / LEAST_OF_FIVE;
+    if 0 < fifth && fifth < 128 {
+        return out.extend_from_slice(&five_groups(value, fifth));
+    }
+    if value < LEAST_OF_TEN {
+        return write_groups(value, out);
+    }
+    out.extend_from_slice(&ten_groups(value))
+}
+
+/// The varint of a number that has two groups, the last of which is given.
+#[inline(always)]
+fn two_groups(value: u64, last: u64) -> [u8; 2]
+    requires last { last ≡ value / 128 }
+    requires some { 0 < last }
+    requires below { last < 128 }
+    ensures { result ≡ varint value }
+{
+    [(value % 128) as u8 + 128, last as u8]
 }
 
 /// The varint of a number that has five groups, the last of which is given.
@@ -59,8 +83,37 @@ fn five_groups(value: u64, last: u64) -> [u8; 5]
     ]
 }
 
-/// Appends the shortest varint, group by group. Room for the longest varint is taken first, so that no push runs out of
-/// memory.
+/// The varint of a number that has ten groups.
+#[inline(always)]
+fn ten_groups(value: u64) -> [u8; 10]
+    requires { 9223372036854775808 ≤ value }
+    ensures { result ≡ varint value }
+{
+    let second = value / 128;
+    let third = second / 128;
+    let fourth = third / 128;
+    let fifth = fourth / 128;
+    let sixth = fifth / 128;
+    let seventh = sixth / 128;
+    let eighth = seventh / 128;
+    let ninth = eighth / 128;
+    let last = ninth / 128;
+    [
+        (value % 128) as u8 + 128,
+        (second % 128) as u8 + 128,
+        (third % 128) as u8 + 128,
+        (fourth % 128) as u8 + 128,
+        (fifth % 128) as u8 + 128,
+        (sixth % 128) as u8 + 128,
+        (seventh % 128) as u8 + 128,
+        (eighth % 128) as u8 + 128,
+        (ninth % 128) as u8 + 128,
+        last as u8,
+    ]
+}
+
+/// Appends the shortest varint, group by group. Room for the longest varint is taken first, so that
+/// no push runs out of memory.
 fn write_groups(value: u64, out: &mut Vec<u8>) -> Result<(), NoMemory>
     ensures written { OnOk result (out.new.items ≡ out.old.items ++ varint value) }
     ensures kept { OnErr result (out.new.items ≡ out.old.items) }
@@ -75,9 +128,10 @@ fn write_groups(value: u64, out: &mut Vec<u8>) -> Result<(), NoMemory>
     Ok(())
 }
 
-/// Puts the length of what stands behind the place, as its shortest varint, in place of the byte there. So a run of
-/// bytes is written before its length is known: the byte is kept for it, and only a longer length moves the run.
-/// What stands before the place stays, also where memory is wanting.
+/// Puts the length of what stands behind the place, as its shortest varint, in place of the byte
+/// there. So a run of bytes is written before its length is known: the byte is kept for it, and
+/// only a longer length moves the run. What stands before the place stays, also where memory is
+/// wanting.
 pub fn write_length(place: usize, out: &mut Vec<u8>) -> Result<(), NoMemory>
     requires { place < length out.old.items }
     ensures written { OnOk result (out.new.items ≡ take place out.old.items
@@ -96,8 +150,8 @@ pub fn write_length(place: usize, out: &mut Vec<u8>) -> Result<(), NoMemory>
     Ok(())
 }
 
-/// Appends a field of wire type 0: its tag and the value, in shortest varints. Want of memory leaves `out`
-/// as it was.
+/// Appends a field of wire type 0: its tag and the value, in shortest varints. Want of memory
+/// leaves `out` as it was.
 pub fn write_scalar(number: u32, value: u64, out: &mut Vec<u8>) -> Result<(), NoMemory>
     requires first { 1 ≤ number }
     requires last { number ≤ 536870911 }
@@ -114,8 +168,8 @@ pub fn write_scalar(number: u32, value: u64, out: &mut Vec<u8>) -> Result<(), No
     answer
 }
 
-/// Appends a field of wire type 2: its tag, the length of the bytes and the bytes. Want of memory leaves
-/// `out` as it was.
+/// Appends a field of wire type 2: its tag, the length of the bytes and the bytes. Want of memory
+/// leaves `out` as it was.
 pub fn write_field(number: u32, bytes: &[u8], out: &mut Vec<u8>) -> Result<(), NoMemory>
     requires first { 1 ≤ number }
     requires last { number ≤ 536870911 }
@@ -132,8 +186,8 @@ pub fn write_field(number: u32, bytes: &[u8], out: &mut Vec<u8>) -> Result<(), N
     answer
 }
 
-/// Appends a field of wire type 5: its tag and the four bytes of the value, the lowest first. Want of memory
-/// leaves `out` as it was.
+/// Appends a field of wire type 5: its tag and the four bytes of the value, the lowest first. Want
+/// of memory leaves `out` as it was.
 pub fn write_four(number: u32, value: u32, out: &mut Vec<u8>) -> Result<(), NoMemory>
     requires first { 1 ≤ number }
     requires last { number ≤ 536870911 }

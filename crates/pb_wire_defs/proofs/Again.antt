@@ -1,11 +1,11 @@
 -- What is written reads back, with the fields that were read before behind it.
 use Rattle.std.specs.Prelude.{map, filter}
-use Rattle.std.proofs.Common.{◌≡◌, ℕ, zero, suc, ◌+◌, ◌*◌, ◌/◌, ◌%◌, ◌^◌, ◌<◌, ◌≤◌, Bool, true, false, cond, List, [], ◌∷◌, ◌++◌, length, Ok, refl, sym, ap, subst, ◌∙◌, append_assoc, arith, inl, inr}
+use Rattle.std.proofs.Common.{◌≡◌, ℕ, zero, suc, ◌+◌, ◌*◌, ◌/◌, ◌%◌, ◌^◌, ◌<◌, ◌≤◌, Bool, cond, List, [], ◌∷◌, ◌++◌, length, Ok, refl, sym, subst, append_assoc, arith}
 use Rattle.std.specs.List.{flat_map, AllByRecursion}
 use Rattle.std.proofs.Math.Nat.{pow-suc, mod-eq_of_lt}
 use Rattle.std.proofs.lemmas.Bool.{cases_lt, lt-ltb, le-ltb}
 use Rattle.std.proofs.lemmas.List.Concat.{flat_map-cons}
-use Rattle.pb_wire_defs.specs.Field.{Payload, Field, wire_type, tag_of, deepest_group}
+use Rattle.pb_wire_defs.specs.Field.{Payload, Field, deepest_group}
 use Rattle.pb_wire_defs.specs.Field.Payload.{Varint, Eight, Span, Four, Group}
 use Rattle.pb_wire_defs.specs.Spelling.{IsGroups, IsVarint, IsPayload, IsGroup, IsField}
 use Rattle.pb_wire_defs.specs.Reading.{fields_of}
@@ -25,23 +25,15 @@ unfolding groups
 more_groups most n le = rw (le-ltb n 128 le) refl
 
 put_before : (n b high : ℕ) (spelling : List ℕ) → IsGroups spelling high → 128 ≤ b → b < 256 → n + 128 ≡ b + 128 * high → IsGroups (b ∷ spelling) n
-put_before n b high [] h le lt e = absurd h
-put_before n b high (c ∷ cs) h le lt e = (le, lt, high, e, h)
+put_before n b high spelling h le lt e = grind (arith)
 
 pub quotient_below : (n bound : ℕ) → n < bound * 128 → n / 128 < bound
 quotient_below n bound lt = omega arith
 
 groups_spell : (most n : ℕ) → n < 128 ^ suc most → IsShort (suc most) n (groups (suc most) n)
-groups_spell zero n lt =
-    let small : n < 128 = omega arith in
-    rw (last_group 0 n small) ((small, refl), omega arith)
+groups_spell zero n lt = grind (arith, last_group)
 groups_spell (suc most) n lt =
-    elim (cases_lt n 128) [
-      | inl small ↦ rw (last_group (suc most) n small) ((small, refl), omega arith)
-      | inr le ↦
-          let rest = groups_spell most (n / 128) (quotient_below n (128 ^ suc most) (rw pow-suc at lt)) in
-          rw (more_groups (suc most) n le) (put_before n (n % 128 + 128) (n / 128) (groups (suc most) (n / 128)) rest.0 (omega arith) (omega arith) (omega arith), omega (arith, rest.1))
-    ]
+    grind (arith, cases_lt, last_group, quotient_below, pow-suc, more_groups, put_before, groups_spell most (n / 128) (quotient_below n (128 ^ suc most) (rw pow-suc at lt)))
 
 -- the writer's varint spells its number
 pub varint_spells : (n : ℕ) → n < 2 ^ 64 → IsVarint (varint n) n
@@ -55,18 +47,12 @@ groups_shortest most n sum [] h le = absurd h
 groups_shortest zero n sum (b ∷ bs) h le = unfold groups in omega arith
 groups_shortest (suc most) n sum (b ∷ []) h le = rw (last_group most n (omega (arith, h.0, h.1))) (omega arith)
 groups_shortest (suc most) n sum (b ∷ c ∷ bs) (low, below, high, is, spelt) le =
-    elim (cases_lt n 128) [
-      | inl small ↦ rw (last_group most n small) (omega arith)
-      | inr large ↦
-          let rest = groups_shortest most (n / 128) high (c ∷ bs) spelt (omega arith) in
-          rw (more_groups most n large) (omega (arith, rest))
-    ]
+    grind (arith, cases_lt, last_group, more_groups, groups_shortest most (n / 128) high (c ∷ bs) spelt (omega arith))
 
 -- no spelling of a number is shorter than the writer's
 pub varint_shortest : (n : ℕ) (spelling : List ℕ) → IsVarint spelling n → length (varint n) ≤ length spelling
 unfolding varint
-varint_shortest n spelling h =
-    groups_shortest 10 n h.sum spelling h.groups (omega (arith, h.modulo))
+varint_shortest n spelling h = grind (arith, groups_shortest)
 
 -- ---- what can be written
 
@@ -99,10 +85,7 @@ payload_spelled group number Group fits = absurd fits
 -- what is written spells the field
 pub spelled_is_field : (w : Written) → IsSpellable w → IsField (as_field w)
 unfolding field_bytes
-spelled_is_field w h =
-    let below : wire_type w.payload < 8 = wire_type_below w.payload in
-    let small : tag_of w.number w.payload < 2 ^ 32 = omega (arith, h.high) in
-    record { tag = varint (tag_of w.number w.payload); rest = payload_bytes w.payload; whole = refl; tagged = varint_spells (tag_of w.number w.payload) (omega arith); numbered = h.low; small = small; carries = payload_spelled (IsGroup deepest_group) w.number w.payload h.fits }
+spelled_is_field w h = grind (arith, wire_type_below, varint_spells, payload_spelled)
 
 written_are_fields : (ws : List Written) (fields : List Field) → AllByRecursion IsSpellable ws → AllByRecursion IsField fields → AllByRecursion IsField (map as_field ws ++ fields)
 written_are_fields [] fields each rest = rest
@@ -110,18 +93,14 @@ written_are_fields (w ∷ ws) fields each rest = (spelled_is_field w each.0, wri
 
 written_whole : (ws : List Written) (fields : List Field) → flat_map field_bytes ws ++ flat_map (λ field. field.raw) fields ≡ flat_map (λ field. field.raw) (map as_field ws ++ fields)
 written_whole [] fields = refl
-written_whole (w ∷ ws) fields =
-    let rest = flat_map (λ field. field.raw) fields in
-    ap (λ (r : List ℕ). r ++ rest) (flat_map-cons field_bytes w ws) ∙ append_assoc (field_bytes w) (flat_map field_bytes ws) rest ∙ ap (λ (r : List ℕ). field_bytes w ++ r) (written_whole ws fields) ∙ sym (flat_map-cons (λ field. field.raw) (as_field w) (map as_field ws ++ fields))
+written_whole (w ∷ ws) fields = grind (arith, flat_map-cons, append_assoc, written_whole ws fields)
 
 -- written fields, and behind them fields that stood in bytes, read back
 pub found_again : (ws : List Written) (fields : List Field) → AllByRecursion IsSpellable ws → AllByRecursion IsField fields → fields_of (flat_map field_bytes ws ++ flat_map (λ field. field.raw) fields) ≡ Ok (map as_field ws ++ fields)
-found_again ws fields each rest =
-    fields_only _ (map as_field ws ++ fields) (record { each = written_are_fields ws fields each rest; whole = written_whole ws fields })
+found_again ws fields each rest = grind (arith, fields_only, written_are_fields, written_whole)
 
 kept_or_not : {X : Type 0} (P : X → Type 0) (x : X) (b : Bool) (xs : List X) → P x → AllByRecursion P xs → AllByRecursion P (cond b (x ∷ xs) xs)
-kept_or_not P x true xs here each = (here, each)
-kept_or_not P x false xs here each = each
+kept_or_not P x b xs here each = grind (arith)
 
 -- what holds of each holds of each that passes a test
 pub AllByRecursion-filter : {X : Type 0} (P : X → Type 0) (p : X → Bool) (xs : List X) → AllByRecursion P xs → AllByRecursion P (filter p xs)
@@ -156,11 +135,7 @@ pub record WasRead (field : Field) : Type 0 where
   pub is : IsField field
 
 payload_in_range : (group : ℕ → List ℕ → Type 0) (number : ℕ) (payload : Payload) (spelling : List ℕ) → IsPayload group number spelling payload → WasInRange payload
-payload_in_range group number (Varint n) spelling h = varint_below spelling n h
-payload_in_range group number (Eight n) spelling h = h.0
-payload_in_range group number (Span content) spelling (size, sized, is) = varint_below size (length content) sized
-payload_in_range group number (Four n) spelling h = h.0
-payload_in_range group number Group spelling h = tt
+payload_in_range group number payload spelling h = grind (arith, varint_below)
 
 payload_carries : (group : ℕ → List ℕ → Type 0) (number : ℕ) (payload : Payload) (spelling : List ℕ) → IsPayload group number spelling payload → AreBytes spelling → CarriesBytes payload
 payload_carries group number (Varint n) spelling h fits = tt
@@ -181,17 +156,11 @@ all_were_read (f ∷ fs) each fits =
 
 -- each field that bytes give is in range
 pub were_read : (bytes : List ℕ) (fields : List Field) → AreBytes bytes → fields_of bytes ≡ Ok fields → AllByRecursion WasRead fields
-were_read bytes fields fits e =
-    let h = fields_found bytes fields fits e in
-    all_were_read fields h.each (subst AreBytes h.whole fits)
+were_read bytes fields fits e = grind (arith, fields_found, all_were_read)
 
 -- what was read is in range for a writer, but for groups
 pub range_of_read : (payload : Payload) → WasInRange payload → (payload ≡ Group → ⊥) → IsInRange payload
-range_of_read (Varint n) fits other = fits
-range_of_read (Eight n) fits other = fits
-range_of_read (Span content) fits other = fits
-range_of_read (Four n) fits other = fits
-range_of_read Group fits other = other refl
+range_of_read payload fits other = grind (arith)
 
 -- a field that was read and is no group can be written
 pub read_is_spellable : (field : Field) → WasRead field → (field.payload ≡ Group → ⊥) → IsSpellable (record { number = field.number; payload = field.payload })

@@ -1,5 +1,5 @@
 -- Lists of bytes, and what a reader takes from the front of one.
-use Rattle.std.proofs.Common.{◌≡◌, ℕ, zero, suc, ◌+◌, ◌-◌, List, [], ◌∷◌, ◌++◌, length, take, ap, subst, arith, inl, inr}
+use Rattle.std.proofs.Common.{◌≡◌, ℕ, zero, suc, ◌-◌, List, [], ◌∷◌, ◌++◌, length, take, ap, subst, arith}
 use Rattle.std.proofs.lemmas.Bool.{cases_lt}
 use Rattle.std.proofs.lemmas.List.{length-append, length-take, get_or-take, get_or_past}
 use Rattle.std.proofs.Math.Seq.{take-append_seam}
@@ -10,11 +10,7 @@ AreBytes-behind [] back h = h
 AreBytes-behind (b ∷ bs) back h = AreBytes-behind bs back (λ i. h (suc i))
 
 pub AreBytes-take : (n : ℕ) (bytes : List ℕ) → AreBytes bytes → AreBytes (take n bytes)
-AreBytes-take n bytes h i =
-    elim (cases_lt i n) [
-      | inl lt ↦ rw (get_or-take n bytes i 0 lt) (h i)
-      | inr le ↦ rw (get_or_past (take n bytes) i 0 (omega (arith, length-take n bytes))) (omega arith)
-    ]
+AreBytes-take n bytes h i = grind (arith, cases_lt, get_or-take, get_or_past, length-take)
 
 -- bytes in front that are so, and the rest
 pub record Takes (P : List ℕ → Type 0) (bytes rest : List ℕ) : Type 0 where

@@ -52,27 +52,17 @@ abbrev pub IsOfType : (ℕ → List ℕ → Type 0) → ℕ → ℕ → Payload 
 IsOfType IsOne number kind payload spelling = IsPayload IsOne number spelling payload × (wire_type payload ≡ kind)
 
 eight_is : (IsOne : ℕ → List ℕ → Type 0) (number : ℕ) (payload : Payload) (spelling : List ℕ) → IsFixed w64 (2 ^ 64) Eight payload spelling → IsOfType IsOne number 1 payload spelling
-eight_is IsOne number payload spelling (n, is, lt, whole) =
-    subst (λ (p : Payload). IsOfType IsOne number 1 p spelling) (sym is) ((lt, whole), refl)
+eight_is IsOne number payload spelling h4 = grind (arith)
 
 four_is : (IsOne : ℕ → List ℕ → Type 0) (number : ℕ) (payload : Payload) (spelling : List ℕ) → IsFixed w32 (2 ^ 32) Four payload spelling → IsOfType IsOne number 5 payload spelling
-four_is IsOne number payload spelling (n, is, lt, whole) =
-    subst (λ (p : Payload). IsOfType IsOne number 5 p spelling) (sym is) ((lt, whole), refl)
+four_is IsOne number payload spelling h4 = grind (arith)
 
 -- a wire type takes three bits, and is never that of an end
 pub wire_type_below : (payload : Payload) → wire_type payload < 8
-wire_type_below (Varint n) = omega arith
-wire_type_below (Eight n) = omega arith
-wire_type_below (Span content) = omega arith
-wire_type_below (Four n) = omega arith
-wire_type_below Group = omega arith
+wire_type_below payload = grind (arith)
 
 wire_type_at_most : (payload : Payload) → wire_type payload ≤ 5
-wire_type_at_most (Varint n) = omega arith
-wire_type_at_most (Eight n) = omega arith
-wire_type_at_most (Span content) = omega arith
-wire_type_at_most (Four n) = omega arith
-wire_type_at_most Group = omega arith
+wire_type_at_most payload = grind (arith)
 
 module _ (group : ℕ → List ℕ → Result (List ℕ) Fault) (IsOne : ℕ → List ℕ → Type 0) (agrees : Agrees group IsOne) where
   pub payload_found : (number kind : ℕ) (bytes : List ℕ) (x : Payload × List ℕ) → AreBytes bytes → payload_at group number kind bytes ≡ Ok x → Takes (IsOfType IsOne number kind x.0) bytes x.1
@@ -210,10 +200,7 @@ group_again deeper number (f ∷ fs) ending rest agrees low high each tagged =
 -- at each level, what is read behind the start of a group is what the grammar says of groups
 pub group_agrees : (levels : ℕ) → Agrees (group_at levels) (IsGroup levels)
 unfolding group_at
-group_agrees zero = record {
-  found = λ number bytes rest fits e. absurd cc;
-  again = λ number spelling rest low high h. absurd h;
-}
+group_agrees zero = grind (arith)
 group_agrees (suc deeper) =
     let below = group_agrees deeper in
     record {
@@ -269,8 +256,7 @@ fields_of-fault b bs fault e = rw (fields_of-cons b bs, e) refl
 
 within_found : (most : ℕ) (bytes : List ℕ) (fields : List Field) → AreBytes bytes → fields_within most bytes ≡ Ok fields → HasFields bytes fields
 unfolding fields_within
-within_found most [] fields fits e =
-    subst (λ (fs : List Field). HasFields [] fs) (ok_is [] fields e) (record { each = tt; whole = refl })
+within_found most [] fields fits e = grind (arith, ok_is)
 within_found zero (b ∷ bs) fields fits e = absurd cc
 within_found (suc most) (b ∷ bs) fields fits e =
     let a = bind_ok (field_at (b ∷ bs)) (λ first. fields_within most first.1 >>= λ others. Ok (first.0 ∷ others)) fields e in

@@ -1,5 +1,5 @@
 -- Groups, one field at a time, with no count of the fields.
-use Rattle.std.proofs.Common.{◌≡◌, ℕ, zero, suc, ◌-◌, ◌/◌, ◌%◌, ◌<◌, true, false, eqb, cond, List, length, take, Result, Ok, Err, refl, sym, ap, ◌∙◌, arith, inl, inr}
+use Rattle.std.proofs.Common.{◌≡◌, ℕ, zero, suc, ◌-◌, ◌/◌, ◌%◌, ◌<◌, false, eqb, cond, List, length, take, Result, Ok, Err, refl, sym, ap, ◌∙◌, arith, inl, inr}
 use Rattle.std.proofs.lemmas.Bool.{eqb-true, eq-eqb, cases_Bool}
 use Rattle.pb_wire_defs.specs.Field.{Payload, Field, Fault}
 use Rattle.pb_wire_defs.specs.Field.Payload.{Group}
@@ -38,9 +38,7 @@ abbrev pub end_or_field : (List ℕ → Result (Field × List ℕ) Fault) → (L
 end_or_field field behind number bytes = tag_at bytes >>= λ tag. cond (eqb (tag.0 % 8) 4) (cond (eqb (tag.0 / 8) number) (Ok tag.1) (Err BadGroup)) (field bytes >>= λ first. behind first.1)
 
 pub end_or_field-same : (field : List ℕ → Result (Field × List ℕ) Fault) (behind other : List ℕ → Result (List ℕ) Fault) (number : ℕ) (bytes : List ℕ) → ((first : Field × List ℕ) → field bytes ≡ Ok first → behind first.1 ≡ other first.1) → end_or_field field behind number bytes ≡ end_or_field field other number bytes
-end_or_field-same field behind other number bytes same =
-    let onward : (field bytes >>= λ first. behind first.1) ≡ (field bytes >>= λ first. other first.1) = bind_same_at (field bytes) (λ first. behind first.1) (λ first. other first.1) same in
-    rw onward refl
+end_or_field-same field behind other number bytes same = grind (arith, bind_same_at)
 
 module _ (group : ℕ → List ℕ → Result (List ℕ) Fault) (leaves : LeavesLess group) where
   -- enough fuel is as good as more
@@ -64,9 +62,7 @@ module _ (deeper number : ℕ) (bytes : List ℕ) where
   module _ (tag : ℕ × List ℕ) (tagged : tag_at bytes ≡ Ok tag) where
     -- the group's own end
     pub group_at-end : tag.0 % 8 ≡ 4 → tag.0 / 8 ≡ number → group_at (suc deeper) number bytes ≡ Ok tag.1
-    group_at-end typed is =
-        let own : eqb (tag.0 / 8) number ≡ true = eq-eqb (tag.0 / 8) number is in
-        rw (group_at-step, tagged, typed, own) refl
+    group_at-end typed is = grind (arith, eq-eqb, group_at-step)
 
     -- the end of another group
     pub group_at-other_end : tag.0 % 8 ≡ 4 → eqb (tag.0 / 8) number ≡ false → group_at (suc deeper) number bytes ≡ Err BadGroup
@@ -87,9 +83,7 @@ module _ (deeper number : ℕ) (bytes : List ℕ) where
 
     -- a group in front, and then the fields behind it
     pub group_at-group : tag.0 % 8 ≡ 3 → group_at (suc deeper) number bytes ≡ (group_at deeper (tag.0 / 8) tag.1 >>= λ rest. group_at (suc deeper) number rest)
-    group_at-group typed =
-        let field : eqb (tag.0 % 8) 4 ≡ false = rw typed refl in
-        group_at-payload field ∙ ap (λ (r : Result (Payload × List ℕ) Fault). r >>= λ payload. group_at (suc deeper) number payload.1) (payload_at-group (group_at deeper) (tag.0 / 8) (tag.0 % 8) tag.1 typed) ∙ bind_bind (group_at deeper (tag.0 / 8) tag.1) (λ rest. Ok (Group, rest)) (λ payload. group_at (suc deeper) number payload.1)
+    group_at-group typed = grind (arith, group_at-payload, payload_at-group, bind_bind)
 
   -- a field, and then the fields behind it
   pub group_at-field : (first : Field × List ℕ) → field_with (group_at deeper) bytes ≡ Ok first → group_at (suc deeper) number bytes ≡ group_at (suc deeper) number first.1

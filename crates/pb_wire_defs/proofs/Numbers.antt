@@ -19,8 +19,7 @@ abbrev pub IsShort : ℕ → ℕ → List ℕ → Type 0
 IsShort most value spelling = IsGroups spelling value × (length spelling ≤ most)
 
 more_groups : (b high : ℕ) (spelling : List ℕ) → IsGroups spelling high → 128 ≤ b → b < 256 → IsGroups (b ∷ spelling) (b % 128 + 128 * high)
-more_groups b high [] h le lt = absurd h
-more_groups b high (c ∷ cs) h le lt = (le, lt, high, omega arith, h)
+more_groups b high spelling h le lt = grind (arith)
 
 pub groups_found : (most : ℕ) (bytes : List ℕ) (x : ℕ × List ℕ) → AreBytes bytes → groups_at most bytes ≡ Ok x → Takes (IsShort most x.0) bytes x.1
 unfolding groups_at
@@ -42,9 +41,7 @@ groups_again most [] rest value h short = absurd h
 groups_again zero (b ∷ bs) rest value h short = absurd (omega arith)
 groups_again (suc most) (b ∷ []) rest value h short = rw (lt-ltb b 128 h.0, h.1) refl
 groups_again (suc most) (b ∷ c ∷ bs) rest value (le, lt, high, sum, spelled) short =
-    let again : groups_at most (c ∷ (bs ++ rest)) ≡ Ok (high, rest) = groups_again most (c ∷ bs) rest high spelled (omega arith) in
-    let n : b % 128 + 128 * high ≡ value = omega arith in
-    rw (le-ltb b 128 le, again, n) refl
+    grind (arith, le-ltb, groups_again most (c ∷ bs) rest high spelled (omega arith))
 
 -- ---- varints
 
@@ -57,8 +54,7 @@ varint_found bytes x fits e =
 
 pub varint_again : (spelling rest : List ℕ) (value : ℕ) → IsVarint spelling value → varint_at (spelling ++ rest) ≡ Ok (value, rest)
 unfolding varint_at
-varint_again spelling rest value h =
-    rw (groups_again 10 spelling rest h.sum h.groups h.short, h.modulo) refl
+varint_again spelling rest value h = grind (arith, groups_again)
 
 -- a varint takes a byte at least
 pub varint_long : (spelling : List ℕ) (value : ℕ) → IsVarint spelling value → 1 ≤ length spelling

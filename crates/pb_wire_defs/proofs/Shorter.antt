@@ -1,10 +1,10 @@
 -- What a reader leaves is shorter than what it was given, whatever the numbers are.
-use Rattle.std.proofs.Common.{◌≡◌, ℕ, zero, suc, ◌+◌, ◌*◌, ◌/◌, ◌%◌, ◌^◌, ◌<◌, ◌≤◌, ltb, eqb, List, [], ◌∷◌, length, take, drop, Result, Ok, Err, sym, ap, subst, cond, arith, inl, inr}
-use Rattle.std.specs.Int.{Width, w32, w64, byte_len, from_le_bytes}
+use Rattle.std.proofs.Common.{◌≡◌, ℕ, zero, suc, ◌+◌, ◌*◌, ◌/◌, ◌%◌, ◌<◌, ◌≤◌, ltb, eqb, List, [], ◌∷◌, length, Result, Ok, Err, sym, ap, subst, cond, arith, inl, inr}
+use Rattle.std.specs.Int.{Width, w32, w64}
 use Rattle.std.proofs.lemmas.List.{length-drop}
 use Rattle.pb_wire_defs.specs.Field.{Payload, Field, Fault, deepest_group}
 use Rattle.pb_wire_defs.specs.Field.Payload.{Varint, Eight, Span, Four, Group}
-use Rattle.pb_wire_defs.specs.Field.Fault.{Cut, BadGroup}
+use Rattle.pb_wire_defs.specs.Field.Fault.{BadGroup}
 use Rattle.answer_defs.specs.Steps.{◌>>=◌}
 use Rattle.pb_wire_defs.specs.Reading.{groups_at, varint_at, fixed_at, span_at, tag_at, payload_at, field_with, behind_end, group_at, field_at}
 use Rattle.answer_defs.proofs.Steps.{ok_is, bind_ok, chosen, guard_ok}
@@ -25,24 +25,14 @@ groups_shorter (suc most) (b ∷ bs) x e =
 
 pub varint_shorter : (bytes : List ℕ) (x : ℕ × List ℕ) → varint_at bytes ≡ Ok x → length x.1 < length bytes
 unfolding varint_at
-varint_shorter bytes x e =
-    let a = bind_ok (groups_at 10 bytes) (λ found. Ok (found.0 % 2 ^ 64, found.1)) x e in
-    subst (λ (y : ℕ × List ℕ). length y.1 < length bytes) (ok_is (a.0.0 % 2 ^ 64, a.0.1) x a.2) (groups_shorter 10 bytes a.0 a.1)
+varint_shorter bytes x e = grind (arith, bind_ok, ok_is, groups_shorter)
 
 pub fixed_shorter : (w : Width) (carry : ℕ → Payload) (bytes : List ℕ) (x : Payload × List ℕ) → fixed_at w carry bytes ≡ Ok x → length x.1 ≤ length bytes
-fixed_shorter w carry bytes x e =
-    let made : Payload × List ℕ = (carry (from_le_bytes w (take (byte_len w) bytes)), drop (byte_len w) bytes) in
-    let g = guard_ok (ltb (length bytes) (byte_len w)) Cut (Ok made) x e in
-    subst (λ (y : Payload × List ℕ). length y.1 ≤ length bytes) (ok_is made x g.1) (omega (arith, length-drop (byte_len w) bytes))
+fixed_shorter w carry bytes x e = grind (arith, guard_ok, ok_is, length-drop)
 
 pub span_shorter : (bytes : List ℕ) (x : List ℕ × List ℕ) → span_at bytes ≡ Ok x → length x.1 ≤ length bytes
 unfolding span_at
-span_shorter bytes x e =
-    let a = bind_ok (varint_at bytes) (λ size. cond (ltb (length size.1) size.0) (Err Cut) (Ok (take size.0 size.1, drop size.0 size.1))) x e in
-    let size = a.0 in
-    let g = guard_ok (ltb (length size.1) size.0) Cut (Ok (take size.0 size.1, drop size.0 size.1)) x a.2 in
-    let t : length size.1 < length bytes = varint_shorter bytes size a.1 in
-    subst (λ (y : List ℕ × List ℕ). length y.1 ≤ length bytes) (ok_is (take size.0 size.1, drop size.0 size.1) x g.1) (omega (arith, length-drop size.0 size.1))
+span_shorter bytes x e = grind (arith, bind_ok, guard_ok, varint_shorter, ok_is, length-drop)
 
 pub tag_shorter : (bytes : List ℕ) (tag : ℕ × List ℕ) → tag_at bytes ≡ Ok tag → length tag.1 < length bytes
 tag_shorter bytes tag e = varint_shorter bytes tag (tag_found bytes tag e).read

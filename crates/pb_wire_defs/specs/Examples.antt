@@ -9,7 +9,8 @@ use Rattle.pb_wire_defs.specs.Writing.{groups, varint, payload_bytes, field_byte
 -- field 1 with the value 150 is 08 96 01
 pub field_150 : fields_of (0x08 ∷ 0x96 ∷ 0x01 ∷ [])
     ≡ Ok (record { number = 1; payload = Varint 150; raw = 0x08 ∷ 0x96 ∷ 0x01 ∷ [] } ∷ [])
-unfolding fields_of fields_within field_at field_with group_at behind_end payload_at tag_at span_at varint_at groups_at
+unfolding fields_of fields_within field_at field_with group_at behind_end payload_at tag_at span_at
+    varint_at groups_at
 field_150 = refl
 
 pub written_150 : field_bytes (record { number = 1; payload = Varint 150 }) ≡ 0x08 ∷ 0x96 ∷ 0x01
@@ -25,17 +26,20 @@ pub field_testing : fields_of (0x12 ∷ 0x07 ∷ 0x74 ∷ 0x65 ∷ 0x73 ∷ 0x74
           ∷ []);
       raw = 0x12 ∷ 0x07 ∷ 0x74 ∷ 0x65 ∷ 0x73 ∷ 0x74 ∷ 0x69 ∷ 0x6e ∷ 0x67 ∷ [];
     } ∷ [])
-unfolding fields_of fields_within field_at field_with group_at behind_end payload_at tag_at span_at varint_at groups_at
+unfolding fields_of fields_within field_at field_with group_at behind_end payload_at tag_at span_at
+    varint_at groups_at
 field_testing = refl
 
 -- a length that runs past the end
 pub cut_span : fields_of (0x12 ∷ 0x07 ∷ 0x74 ∷ []) ≡ Err Cut
-unfolding fields_of fields_within field_at field_with group_at behind_end payload_at tag_at span_at varint_at groups_at
+unfolding fields_of fields_within field_at field_with group_at behind_end payload_at tag_at span_at
+    varint_at groups_at
 cut_span = refl
 
 -- the number 0 names no field
 pub zero_tag : fields_of (0x00 ∷ 0x01 ∷ []) ≡ Err BadTag
-unfolding fields_of fields_within field_at field_with group_at behind_end payload_at tag_at span_at varint_at groups_at
+unfolding fields_of fields_within field_at field_with group_at behind_end payload_at tag_at span_at
+    varint_at groups_at
 zero_tag = refl
 
 -- eleven bytes are no varint
@@ -47,29 +51,35 @@ overlong = refl
 -- a group of the number 9 with a varint in it
 pub group_of_one : fields_of (0x4b ∷ 0x08 ∷ 0x01 ∷ 0x4c ∷ [])
     ≡ Ok (record { number = 9; payload = Group; raw = 0x4b ∷ 0x08 ∷ 0x01 ∷ 0x4c ∷ [] } ∷ [])
-unfolding fields_of fields_within field_at field_with group_at behind_end payload_at tag_at span_at varint_at groups_at
+unfolding fields_of fields_within field_at field_with group_at behind_end payload_at tag_at span_at
+    varint_at groups_at
 group_of_one = refl
 
 -- a group whose end has another number, an end without a start, and a group without an end
 pub wrong_end : fields_of (0x4b ∷ 0x54 ∷ []) ≡ Err BadGroup
-unfolding fields_of fields_within field_at field_with group_at behind_end payload_at tag_at span_at varint_at groups_at
+unfolding fields_of fields_within field_at field_with group_at behind_end payload_at tag_at span_at
+    varint_at groups_at
 wrong_end = refl
 
 pub lone_end : fields_of (0x4c ∷ []) ≡ Err BadGroup
-unfolding fields_of fields_within field_at field_with group_at behind_end payload_at tag_at span_at varint_at groups_at
+unfolding fields_of fields_within field_at field_with group_at behind_end payload_at tag_at span_at
+    varint_at groups_at
 lone_end = refl
 
 pub no_end : fields_of (0x4b ∷ 0x08 ∷ 0x01 ∷ []) ≡ Err Cut
-unfolding fields_of fields_within field_at field_with group_at behind_end payload_at tag_at span_at varint_at groups_at
+unfolding fields_of fields_within field_at field_with group_at behind_end payload_at tag_at span_at
+    varint_at groups_at
 no_end = refl
 
 -- the wire types 6 and 7 name no field, and the number 0 none where it would end a group too
 pub sixth_type : fields_of (0x0e ∷ 0x01 ∷ []) ≡ Err BadTag
-unfolding fields_of fields_within field_at field_with group_at behind_end payload_at tag_at span_at varint_at groups_at
+unfolding fields_of fields_within field_at field_with group_at behind_end payload_at tag_at span_at
+    varint_at groups_at
 sixth_type = refl
 
 pub end_of_zero : fields_of (0x4b ∷ 0x04 ∷ []) ≡ Err BadTag
-unfolding fields_of fields_within field_at field_with group_at behind_end payload_at tag_at span_at varint_at groups_at
+unfolding fields_of fields_within field_at field_with group_at behind_end payload_at tag_at span_at
+    varint_at groups_at
 end_of_zero = refl
 
 -- groups 64 deep, and a group at depth 65
@@ -86,9 +96,11 @@ is_read (Ok fields) = true
 is_read (Err w) = false
 
 pub deepest : is_read (fields_of (starts 64 (ends 64))) ≡ true
-unfolding fields_of fields_within field_at field_with group_at behind_end payload_at tag_at span_at varint_at groups_at
+unfolding fields_of fields_within field_at field_with group_at behind_end payload_at tag_at span_at
+    varint_at groups_at
 deepest = refl
 
 pub too_deep : fields_of (starts 65 (ends 65)) ≡ Err BadGroup
-unfolding fields_of fields_within field_at field_with group_at behind_end payload_at tag_at span_at varint_at groups_at
+unfolding fields_of fields_within field_at field_with group_at behind_end payload_at tag_at span_at
+    varint_at groups_at
 too_deep = refl

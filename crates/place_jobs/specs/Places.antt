@@ -1,7 +1,8 @@
 -- Three lists whose items change place by place.
 use Rattle.std.specs.Prelude.{ℕ, ◌+◌, List, [], ◌∷◌, ⊤}
 
--- of one length, and the three items of each place are told of; the places are counted from `first` on
+-- of one length, and the three items of each place are told of; the places are counted from `first`
+-- on
 abbrev pub ArePlaces : {A B C : Type 0} → (ℕ → A → B → C → Type 0) → ℕ → List A → List B → List C
     → Type 0
 ArePlaces accepts first [] [] [] = ⊤

@@ -1,5 +1,5 @@
--- What the head of a reply tells of the message behind it (RFC 9110, sections 5.1 and 8.6; RFC 9112,
--- section 6).
+-- What the head of a reply tells of the message behind it (RFC 9110, sections 5.1 and 8.6; RFC
+-- 9112, section 6).
 use Rattle.std.specs.Prelude.{ℕ, Bool, ◌==◌, if◌then◌else◌, List, [], ◌∷◌, map, codes, Option, Some, None}
 use Rattle.std.specs.List.{filter, list_any}
 use Rattle.std.specs.Option.{option_map}

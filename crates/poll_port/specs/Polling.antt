@@ -10,9 +10,9 @@ use Rattle.poll_port.specs.declared.messages.Reply.{Reply}
 use Rattle.poll_port.specs.declared.messages.Reply.TheVariants.{Message, TooLong, Unfit, Failed}
 use Rattle.poll_port.specs.Hearing.{hears}
 
--- the request of each poll; how many links may still be taken, where that has an end; how many polls
--- in a row may fail in one call; the faults of the port's own, which are those of links and of
--- replies; and whether a source or a sink of a link failed
+-- the request of each poll; how many links may still be taken, where that has an end; how many
+-- polls in a row may fail in one call; the faults of the port's own, which are those of links and
+-- of replies; and whether a source or a sink of a link failed
 pub record PollingState : Type 0 where
   pub request : List ℕ
   pub polls : Option ℕ

@@ -13,8 +13,8 @@ use Rattle.poll_port.specs.declared.messages.Reply.TheVariants.{Message, TooLong
 use Rattle.poll_port.specs.Polling.{PollingState, has_polls, after_link, after_reply, heard_after}
 use Rattle.poll_port.specs.Reading.{ReadsReply}
 
--- what contracts see of the two ends of a link: the bytes that a source has left and its faults, the
--- bytes that a sink took and its faults
+-- what contracts see of the two ends of a link: the bytes that a source has left and its faults,
+-- the bytes that a sink took and its faults
 pub record Ends (I O : Type 0) : Type 0 where
   pub left : I → Option (List ℕ)
   pub faults : I → ℕ
@@ -78,8 +78,8 @@ pub record Exchanges
   pub cause : HasLinkCause reply (seen.faults link.input) (seen.faults link.input_left)
       (seen.write_faults link.output) (seen.write_faults link.output_left)
 
--- One poll with a link: where a further link might be taken, the door handed it out, the request was
--- written to it and the reply read from it, it was given back, and a fault was heard of.
+-- One poll with a link: where a further link might be taken, the door handed it out, the request
+-- was written to it and the reply read from it, it was given back, and a fault was heard of.
 pub record PollsLink
     {I O : Type 0} (seen : Ends I O) (before after : PortState I O) (reply : Reply)
     (held : List ℕ) : Type 0 where
@@ -123,7 +123,8 @@ FailPolls {I} {O} (suc n) seen before after =
     (mid : PortState I O) × FailPolls n seen before mid × FailsPoll seen mid after
 
 -- fewer polls than the tries failed, one after another, and then this was so
-abbrev pub AfterFewer : {I O : Type 0} → Ends I O → PortState I O → (PortState I O → Type 0) → Type 0
+abbrev pub AfterFewer : {I O : Type 0} → Ends I O → PortState I O → (PortState I O → Type 0)
+    → Type 0
 AfterFewer {I} {O} seen before P =
     (n : ℕ) × (n < before.polling.tries)
     × (mid : PortState I O) × FailPolls n seen before mid × P mid

@@ -45,7 +45,8 @@ ahead_at seen polls links =
 -- the messages that a port has ahead; none are told once an end of a link failed
 abbrev pub poll_ahead : {I O : Type 0} → Ends I O → PortState I O → Option (List (List ℕ))
 poll_ahead seen port =
-    if port.polling.lost then None else option_and_then (ahead_at seen port.polling.polls) port.links
+    if port.polling.lost then None
+    else option_and_then (ahead_at seen port.polling.polls) port.links
 
 -- the faults of a port: its door's and its own, up to the last value of a count
 abbrev pub poll_faults : {I O : Type 0} → PortState I O → ℕ

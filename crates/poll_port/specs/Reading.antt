@@ -32,7 +32,8 @@ JudgesExtent (Ok extent) head = Some extent ≡ extent_behind head
 JudgesExtent (Err fault) head = (None ≡ extent_behind head) × (fault ≡ head_fault head)
 
 -- the bytes begin with a head that is not too long, whose parts stand at the spans
-pub record StandsAt (bytes : List ℕ) (headers : List HeaderSpan) (spans : ResponseSpans) : Type 0 where
+pub record StandsAt (bytes : List ℕ) (headers : List HeaderSpan)
+    (spans : ResponseSpans) : Type 0 where
   pub head : ResponseHead
   pub at : IsResponseAt bytes headers spans head
   pub short : length (print_response head) ≤ head_limit
@@ -44,8 +45,8 @@ FoundIs bytes headers (FoundHead spans) = StandsAt bytes headers spans
 FoundIs bytes headers More = HasNoResponse bytes × (length bytes < head_limit)
 FoundIs bytes headers Never = (more : List ℕ) → NoHead (bytes ++ more)
 
--- what bytes are that begin with a head: those of a good reply, which ends at a place of them, or no
--- good reply whatever follows, for this reason
+-- what bytes are that begin with a head: those of a good reply, which ends at a place of them, or
+-- no good reply whatever follows, for this reason
 abbrev pub JudgesHead : HeadRead → List ℕ → Type 0
 JudgesHead (Good extent start filled) bytes =
     (filled ≡ length bytes) × (start ≤ filled) × IsGood bytes extent (drop start bytes)
@@ -106,8 +107,8 @@ ReadsMessage (Unfit fault) extent front left held =
     (fault ≡ Cut) × IfSome left (λ bytes. message_in extent (front ++ bytes) ≡ None)
 ReadsMessage Failed extent front left held = Unit {0}
 
--- what reading a reply came to, by the bytes that its source has: its message, a longer one, no good
--- reply for this reason, or a fault
+-- what reading a reply came to, by the bytes that its source has: its message, a longer one, no
+-- good reply for this reason, or a fault
 abbrev pub ReadsReply : Reply → Option (List ℕ) → List ℕ → Type 0
 ReadsReply Message left held =
     (length held ≤ longest_message) × IfSome left (λ bytes. IsReply bytes held)

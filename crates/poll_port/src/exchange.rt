@@ -11,8 +11,8 @@ use crate::messages::{Reply, read_message};
 use httparse::spans::HeaderSpan;
 use hub_outside::{Buf, Sink, Source, write_all};
 
-/// Writes the request to a link and reads its reply. The buffer gets the message; the head goes to a
-/// buffer of its own.
+/// Writes the request to a link and reads its reply. The buffer gets the message; the head goes to
+/// a buffer of its own.
 pub(crate) fn exchange<I: Source, O: Sink>(
     request: &[u8],
     head: &mut [u8],

@@ -30,7 +30,8 @@ pub enum PollFault {
     Link,
 }
 
-/// Who hears of each poll that fails, as it does. A door that fails is not heard of: it knows why itself.
+/// Who hears of each poll that fails, as it does. A door that fails is not heard of: it knows why
+/// itself.
 pub trait PollEar {
     // The faults that were heard of so far, in their order, where these are told.
     ghost heard: { Self → Option (List PollFault) };

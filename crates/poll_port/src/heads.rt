@@ -36,8 +36,8 @@ pub(crate) enum Found {
 /// What reading the head of a reply came to.
 #[derive(Clone, Copy)]
 pub(crate) enum HeadRead {
-    /// The head of a good reply: how far its message goes, where it begins in the buffer, and how many
-    /// bytes of the buffer were read.
+    /// The head of a good reply: how far its message goes, where it begins in the buffer, and how
+    /// many bytes of the buffer were read.
     Good(Extent, usize, usize),
     /// What came is no head of a good reply.
     Unfit(ReplyFault),

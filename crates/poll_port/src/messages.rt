@@ -29,8 +29,8 @@ pub(crate) enum Filled {
 pub(crate) enum Reply {
     /// The buffer holds the message of a good reply.
     Message,
-    /// The message of a good reply is longer than the longest one: it has so many bytes, as far as they
-    /// are known.
+    /// The message of a good reply is longer than the longest one: it has so many bytes, as far as
+    /// they are known.
     TooLong(u64),
     /// This is no good reply.
     Unfit(ReplyFault),

@@ -17,8 +17,8 @@ use feed_port::{FeedPort, PortAnswer};
 use hub_outside::{Buf, Door, DoorAnswer};
 use std::alloc::Global;
 
-/// A port over the replies to a request that is made again and again, of each link of a door once. An ear hears
-/// why polls fail.
+/// A port over the replies to a request that is made again and again, of each link of a door once.
+/// An ear hears why polls fail.
 #[derive(Drop)]
 pub struct PollPort<D, H> {
     door: D,
@@ -27,10 +27,10 @@ pub struct PollPort<D, H> {
 }
 
 impl<D: Door + Drop, H: PollEar + Drop> PollPort<D, H> {
-    /// The port of a door, which asks for this path of this host: printable ASCII without blanks, the
-    /// path from its `/` on. It takes up to `polls` links, of which 0 sets no end, and a call fails once
-    /// `tries` polls failed, one after another; `ear` hears of each that does. It takes 96 kB, or answers
-    /// want of memory.
+    /// The port of a door, which asks for this path of this host: printable ASCII without blanks,
+    /// the path from its `/` on. It takes up to `polls` links, of which 0 sets no end, and a call
+    /// fails once `tries` polls failed, one after another; `ear` hears of each that does. It takes
+    /// 96 kB, or answers want of memory.
     pub fn new(
         alloc: Global,
         door: D,
@@ -94,8 +94,8 @@ impl<D: Door + Send + Drop, H: PollEar + Send + Drop> FeedPort for PollPort<D, H
     ghost faults = { λ port. poll_faults (port_state (D.links (door_of port))
         (D.faults (door_of port)) (polling_of port) (H.heard (ear_of port))) };
 
-    /// Polls until a good reply comes, the polls are over, or as many of them failed, one after another,
-    /// as there are tries.
+    /// Polls until a good reply comes, the polls are over, or as many of them failed, one after
+    /// another, as there are tries.
     fn next(&mut self, into: &mut Buf) -> PortAnswer
         requires room { longest_message ≤ room_of into.old }
         ensures room { longest_message ≤ room_of into.new }

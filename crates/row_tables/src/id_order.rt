@@ -31,8 +31,8 @@ fn values(alloc: Global, places: &BTreeMap<&str, u32>) -> Result<Vec<u32>, Alloc
     Ok(values)
 }
 
-/// The places of the rows by rising ids, or the first row that refers to nothing or has the id of an
-/// earlier one.
+/// The places of the rows by rising ids, or the first row that refers to nothing or has the id of
+/// an earlier one.
 pub fn order_of<R: IdRow, J: Judge<R>>(
     alloc: Global,
     rows: &[R],

@@ -1,11 +1,13 @@
 //! The enums of GTFS Realtime 2.0, with the values that the reference names.
 
-/// Whether a message is the whole data set of its feed or a change to it (FeedHeader, `incrementality`).
+/// Whether a message is the whole data set of its feed or a change to it (FeedHeader,
+/// `incrementality`).
 #[derive(Clone, Copy, PartialEq, Eq, Debug)]
 pub enum Incrementality {
     /// All that the feed has to say; what it said before is void.
     FullDataset,
-    /// A change to what the feed said before. The reference leaves it open; here each entity takes the place of the one with its id.
+    /// A change to what the feed said before. The reference leaves it open; here each entity takes
+    /// the place of the one with its id.
     Differential,
 }
 

@@ -1,11 +1,13 @@
 //! The values of GTFS Realtime messages.
 //!
-//! Each message of the reference is a struct with an `Option` for each optional field, a list type for
-//! each repeated one, and the bytes of the fields that this profile does not know. A contract sees a
-//! `Text` and `Bytes` as a list of bytes and a list type as a list, so it compares messages by what they
-//! say. `Copied::copy` gives an equal value. `Kind` and `What` name a message and what may be wrong in it.
+//! Each message of the reference is a struct with an `Option` for each optional field, a list type
+//! for each repeated one, and the bytes of the fields that this profile does not know. A contract
+//! sees a `Text` and `Bytes` as a list of bytes and a list type as a list, so it compares messages
+//! by what they say. `Copied::copy` gives an equal value. `Kind` and `What` name a message and what
+//! may be wrong in it.
 //!
-//! The crate stands on `copying` and `texts`; the definitions of the crates above speak of its types.
+//! The crate stands on `copying` and `texts`; the definitions of the crates above speak of its
+//! types.
 #![tactic(auto)]
 
 mod alert;

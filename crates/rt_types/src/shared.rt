@@ -8,8 +8,8 @@ use std::alloc::Global;
 use std::marker::Model;
 use std::sync::Arc;
 
-/// A value that stands in an allocation of its own, which its copies share: a copy takes no memory, and the struct that
-/// may hold it stays small.
+/// A value that stands in an allocation of its own, which its copies share: a copy takes no memory,
+/// and the struct that may hold it stays small.
 #[derive(Drop)]
 pub struct Shared<T> {
     inner: Arc<T>,

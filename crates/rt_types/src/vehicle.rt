@@ -52,8 +52,8 @@ pub struct VehicleRef {
     pub unknown: Bytes,
 }
 
-/// Degrees of the WGS 84 system, north or east where positive: the bits of a 32-bit float (IEEE 754), which are
-/// carried as they came and never computed with.
+/// Degrees of the WGS 84 system, north or east where positive: the bits of a 32-bit float (IEEE
+/// 754), which are carried as they came and never computed with.
 #[derive(Clone, Copy, PartialEq, Eq, Debug)]
 pub struct Degrees {
     /// The four bytes of the float as a number, the lowest byte first.

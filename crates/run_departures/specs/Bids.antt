@@ -31,7 +31,8 @@ pub record Bid : Type 0 where
   pub number : ℕ
   pub id : List ℕ
 
--- as updates count: the later one more, then that of the lower feed number, then that of the greater id
+-- as updates count: the later one more, then that of the lower feed number, then that of the
+-- greater id
 abbrev pub bid_cmp : Bid → Bid → Ordering
 bid_cmp a b =
     ordering_then (nat_cmp a.stamp b.stamp)

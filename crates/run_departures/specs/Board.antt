@@ -13,8 +13,8 @@ use Rattle.run_departures.specs.Departures.{departure_cmp}
 use Rattle.run_departures.specs.Merge.{joined}
 use Rattle.run_departures.specs.Sources.{sources_at}
 
--- The stop and those that name it as their parent_station (GTFS Schedule, stops.txt), each once, also where it names
--- itself.
+-- The stop and those that name it as their parent_station (GTFS Schedule, stops.txt), each once,
+-- also where it names itself.
 abbrev pub stops_of : Timetable → ℕ → List ℕ
 stops_of t asked = asked ∷ filter (λ stop. not (stop == asked)) (children_of t.stops asked)
 

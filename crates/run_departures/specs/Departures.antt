@@ -32,8 +32,8 @@ pub record IsThere (t : Timetable) (d : Departure) : Type 0 where
   pub day : d.run.day < length t.bases
   pub stop : d.stop < length t.stops
 
--- Departures go by the expected instant, the trip, the day and the place, as their rows do: numbers of trips and of
--- days stand for the texts of their ids and dates.
+-- Departures go by the expected instant, the trip, the day and the place, as their rows do: numbers
+-- of trips and of days stand for the texts of their ids and dates.
 abbrev pub departure_cmp : Departure → Departure → Ordering
 departure_cmp a b =
     ordering_then (int_cmp a.expected b.expected)

@@ -20,8 +20,8 @@ module _ {X : Type 0} (cmp : X → X → Ordering) where
   sooner (Some best) place (Some head) =
       if is_gt (cmp best.1 head) then Some (place, head) else Some best
 
-  -- of lists that are numbered from a place on, and of the best head before them, the first head that no other goes
-  -- before
+  -- of lists that are numbered from a place on, and of the best head before them, the first head
+  -- that no other goes before
   abbrev pub first_from : ℕ → Option (Headed X) → List (List X) → Option (Headed X)
   first_from place best [] = best
   first_from place best (list ∷ lists) =

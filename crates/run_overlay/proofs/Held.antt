@@ -31,10 +31,14 @@ at_hand : (es : List EntityChange) (held : List (Bor Stored)) → AllByRecursion
 at_hand es [] all = tt
 at_hand es (stored ∷ held) all = (all.0, at_hand es held all.1)
 
+-- what was gone over, where nothing is left, is all
+pub all_gone_over : {X Y : Type 0} (f : X → Y) (over : List X) (left all whole : List Y) → left ≡ [] → all ≡ whole → map f over ++ left ≡ all → map f over ≡ whole
+all_gone_over f over left all whole none are so_far = sym (append-nil (map f over)) ∙ ap (λ xs. map f over ++ xs) (sym none) ∙ so_far ∙ are
+
 pub table_held : (es : List EntityChange) → IsTable es → (held : List (Bor Stored)) (left all : List Stored) → left ≡ [] → all ≡ map (λ e. e.1) es
     → map (λ stored. stored.now) held ++ left ≡ all → AreHeld es held
 table_held es table held left all none are so_far =
-    let now = sym (append-nil (map (λ stored. stored.now) held)) ∙ ap (λ xs. map (λ stored. stored.now) held ++ xs) (sym none) ∙ so_far ∙ are in
+    let now = all_gone_over (λ stored. stored.now) held left all (map (λ e. e.1) es) none are so_far in
     at_hand es held (subst (AllByRecursion (IsHeld es)) (sym now) (all_held es table))
 
 -- something that is held, under an id that is its own

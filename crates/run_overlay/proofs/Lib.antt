@@ -15,3 +15,4 @@ pub mod Read
 pub mod CityOverlay
 pub mod FirstRows
 pub mod Held
+pub mod Collected

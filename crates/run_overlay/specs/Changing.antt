@@ -47,8 +47,8 @@ id_change_new t stored =
 abbrev pub mention_now : IdChange → Option Mention
 mention_now one = mention_in one.after
 
--- These are the changes of some ids by which a table becomes another, where the overlay is that of the former: under any
--- other id both hold the same.
+-- These are the changes of some ids by which a table becomes another, where the overlay is that of
+-- the former: under any other id both hold the same.
 pub record AreIdChanges (t : Timetable) (overlay : FeedOverlay) (table : List EntityChange)
     (changes : List IdChange) : Type 0 where
   pub old : List EntityChange

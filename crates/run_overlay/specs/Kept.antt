@@ -44,8 +44,8 @@ if_added about.Nothing stored = None
 abbrev pub added_of : Timetable → Change → Option Stored
 added_of t change = if_added (about_stored t change.1) change.1
 
--- updates about runs by their ids; the same by their runs, those of one run as they count, the one that counts
--- first; and the entities with updates of added trips, by their ids
+-- updates about runs by their ids; the same by their runs, those of one run as they count, the one
+-- that counts first; and the entities with updates of added trips, by their ids
 pub record Mentions : Type 0 where
   pub links : List (List ℕ × Link)
   pub candidates : List (CandidateKey × Candidate)
@@ -60,7 +60,8 @@ mentions_of t entities = record {
 
 -- ---- what they come to
 
--- a run with the update that counts for it, by the id of its entity and its stamp, and its departures
+-- a run with the update that counts for it, by the id of its entity and its stamp, and its
+-- departures
 abbrev pub run_by : Timetable → Run → Update → LiveRun
 run_by t run u =
     record { run = run; id = u.id; stamp = u.stamp; rows = rows_by t run (Some u) }

@@ -29,8 +29,8 @@ run_cmp a b = ordering_then (nat_cmp a.trip b.trip) (nat_cmp a.day b.day)
 abbrev pub live_run_key : LiveRun → Run
 live_run_key live = live.run
 
--- Updates about runs go by the run, and those of one run as they count, the one that counts most first: by the later
--- stamp, and then by the greater id. A run without an update goes before them.
+-- Updates about runs go by the run, and those of one run as they count, the one that counts most
+-- first: by the later stamp, and then by the greater id. A run without an update goes before them.
 abbrev pub CandidateKey : Type 0
 CandidateKey = Run × Option (ℕ × List ℕ)
 

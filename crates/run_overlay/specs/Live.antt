@@ -1,4 +1,5 @@
--- The departures of runs with an update that counts, of one feed: at which stop, when, and what is known of them.
+-- The departures of runs with an update that counts, of one feed: at which stop, when, and what is
+-- known of them.
 use Rattle.std.specs.Prelude.{ℕ, Bool, ◌&&◌, ◌==◌, if◌then◌else◌, Option, Some, None, unwrap_or, List, [], map, filter, ℤ, pos, ◌+ℤ◌, int_le, int_lt}
 use Rattle.std.specs.List.{filter_map, flat_map}
 use Rattle.std.specs.Option.{option_map}
@@ -21,7 +22,8 @@ use Rattle.run_overlay.specs.declared.slot.SlotState.TheVariants as told
 
 -- ---- a place
 
--- What a board shows of a place, as a departure has it. No place of a run is shown as one of an added trip.
+-- What a board shows of a place, as a departure has it. No place of a run is shown as one of an
+-- added trip.
 abbrev pub slot_state : RowState → SlotState
 slot_state state.Scheduled = told.Scheduled
 slot_state state.Live = told.Live
@@ -33,9 +35,10 @@ abbrev pub sign_of : Shown → Sign
 sign_of shown =
     record { state = slot_state shown.state; delay = shown.delay; stop = shown.stop }
 
--- The departure from a numbered place. It is at the stop to which the place is moved, and else at that of the
--- timetable (GTFS Realtime, StopTimeProperties, assigned_stop_id), and is expected at the scheduled instant, or as
--- much later as the delay is, where that is known (StopTimeEvent, delay).
+-- The departure from a numbered place. It is at the stop to which the place is moved, and else at
+-- that of the timetable (GTFS Realtime, StopTimeProperties, assigned_stop_id), and is expected at
+-- the scheduled instant, or as much later as the delay is, where that is known (StopTimeEvent,
+-- delay).
 abbrev pub live_row : Timetable → Run → ℕ × Place → Sign → LiveRow
 live_row t run (i, place) sign = record {
   stop = unwrap_or sign.stop place.stop;

@@ -8,8 +8,8 @@ use Rattle.run_overlay.specs.declared.link.Link.{Link}
 use Rattle.run_overlay.specs.Changing.{id_before}
 use Rattle.run_overlay.specs.Kept.{FeedOverlay, IsTable, overlay_of}
 
--- How many entities it has; and, where it is no whole data set, their ids, with the runs that the updates under them
--- were about before it.
+-- How many entities it has; and, where it is no whole data set, their ids, with the runs that the
+-- updates under them were about before it.
 pub record NamedIds : Type 0 where
   pub count : ℕ
   pub ids : Option (List IdBefore)
@@ -26,7 +26,8 @@ ids_named links message = record {
 abbrev pub named_by : FeedOverlay → FeedMessage → NamedIds
 named_by overlay message = ids_named overlay.mentions.links message
 
--- The table is the one after a message, the overlay is that of the table before it, and the message names these ids.
+-- The table is the one after a message, the overlay is that of the table before it, and the message
+-- names these ids.
 pub record IsAfter (t : Timetable) (overlay : FeedOverlay) (table : List Change)
     (named : NamedIds) : Type 0 where
   pub old : List Change

@@ -95,7 +95,8 @@ same_delay (Some a) None = false
 
 abbrev pub same_slot : LiveSlot → LiveSlot → Bool
 same_slot a b =
-    int_eq a.at b.at && ((a.run.trip == b.run.trip) && (a.run.day == b.run.day)) && (a.place == b.place)
+    int_eq a.at b.at && ((a.run.trip == b.run.trip) && (a.run.day == b.run.day))
+    && (a.place == b.place)
     && same_state a.state b.state && same_delay a.delay b.delay
 
 abbrev pub same_row : LiveRow → LiveRow → Bool
@@ -106,10 +107,12 @@ abbrev pub row_changes : List (Run × LiveRun) → Turn → List (Change LiveRow
 row_changes runs turn =
     turned same_row row_key (rows_kept (find run_cmp turn.run runs)) (rows_kept turn.now)
 
+-- what turns make of what was kept
+abbrev pub live_turned : List Turn → LiveKept → LiveKept
+live_turned turns kept = record {
+  runs = changed run_cmp live_run_key kept.runs (map run_change turns);
+  rows = changed row_cmp row_key kept.rows (flat_map (row_changes kept.runs) turns);
+}
+
 abbrev pub live_after : Timetable → List Update → List Run → LiveKept → LiveKept
-live_after t updates runs kept =
-    let turns = map (turn_of t updates) runs in
-    record {
-      runs = changed run_cmp live_run_key kept.runs (map run_change turns);
-      rows = changed row_cmp row_key kept.rows (flat_map (row_changes kept.runs) turns);
-    }
+live_after t updates runs kept = live_turned (map (turn_of t updates) runs) kept

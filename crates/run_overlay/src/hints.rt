@@ -1,6 +1,6 @@
 //! Where the updates that count for runs may stand in a table.
 
-ghost use Rattle.std.specs.Prelude.{List, IfOk, IfSome};
+ghost use Rattle.std.specs.Prelude.{◌≡◌, List, map, IfOk, IfSome};
 ghost use Rattle.feed_defs.specs.History.{Change};
 ghost use Rattle.run_overlay.specs.Sought.{AreHeld, IsHeld};
 
@@ -21,8 +21,10 @@ pub(crate) struct Hints<'a> {
 }
 
 /// What a table holds, in order of the ids; or out of memory.
-fn held_in<'a>(alloc: Global, table: &'a Table) -> Result<Vec<&'a Stored>, NoMemory>
-    ensures { IfOk result (λ held. AreHeld table.entry.now held.items) }
+pub(crate) fn held_in<'a>(alloc: Global, table: &'a Table) -> Result<Vec<&'a Stored>, NoMemory>
+    ensures all { IfOk result (λ held. map (λ stored. stored.now) held.items
+        ≡ map (λ change. change.1) table.entry.now) }
+    ensures held { IfOk result (λ held. AreHeld table.entry.now held.items) }
 {
     let mut held = Vec::with_capacity(alloc, table.len())?;
     for stored in table.iter() {

@@ -83,7 +83,11 @@ pub(crate) fn changes_of_ids(
 
 /// What becomes of an id that had nothing; or out of memory. The trip is looked for near the given
 /// one first.
-fn change_of_stored(plan: &Plan, stored: &Stored, near: Option<u32>) -> Result<IdChange, NoMemory>
+pub(crate) fn change_of_stored(
+    plan: &Plan,
+    stored: &Stored,
+    near: Option<u32>,
+) -> Result<IdChange, NoMemory>
     ensures { IfOk result (λ one. one ≡ id_change_new plan.now stored.now) }
 {
     Ok(IdChange {

@@ -42,6 +42,7 @@ mod live_run;
 mod mention;
 mod mention_lists;
 mod message_ids;
+mod on_threads;
 mod overlay;
 mod places;
 mod row;

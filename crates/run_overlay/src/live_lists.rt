@@ -1,33 +1,27 @@
 //! The lists of runs for which an update counts, and of their departures.
 
-ghost use Rattle.std.specs.Prelude.{◌≡◌, ◌+◌, ◌≤◌, ◌++◌, drop, length, map, IfOk, OnOk};
+ghost use Rattle.std.specs.Prelude.{◌≡◌, ◌++◌, drop, map, IfOk, OnOk};
 ghost use Rattle.std.specs.List.{flat_map};
 ghost use Rattle.std.specs.Option.{option_copied};
 ghost use Rattle.shared_list.specs.declared.change.Change.TheVariants.{Put, Remove};
 ghost use Rattle.keyed_lists.specs.Keyed as keyed;
 ghost use Rattle.keyed_lists.specs.Keyed.{naming_keys};
 ghost use Rattle.run_overlay.specs.Keys.{row_cmp, row_key};
-ghost use Rattle.run_overlay.specs.Kept.{mentions_of, nothing_live};
-ghost use Rattle.run_overlay.specs.Sought.{AreHeld, row_at};
+ghost use Rattle.run_overlay.specs.Kept.{nothing_live};
+ghost use Rattle.run_overlay.specs.Sought.{row_at};
 ghost use Rattle.run_overlay.specs.Turning as rule;
-ghost use Rattle.run_overlay.specs.Turning.{live_after, rows_kept, same_row};
-ghost use Rattle.run_overlay.specs.Updates.{updates_of};
+ghost use Rattle.run_overlay.specs.Turning.{live_turned, same_row};
 
 use crate::NoMemory;
-use crate::candidate::Candidate;
 use crate::first_rows::first_rows;
-use crate::hints::Hints;
 use crate::live_run::{LiveRun, rows_of};
 use crate::row::{LiveRow, is_same};
-use crate::turns::{Turn, turns_of};
-use delay_rule::Steps;
-use entity_table::Table;
+use crate::turns::Turn;
 use keyed_lists::changed;
-use sched_types::{Plan, Run};
+use sched_types::Run;
 use shared_list::{Change, SharedList};
 use std::alloc::Global;
 use std::marker::Model;
-use std::sync::ledger::Ledger;
 
 /// The runs for which an update counts, and their departures. A contract sees it as `LiveKept`.
 #[derive(Drop)]
@@ -55,26 +49,11 @@ impl LiveLists {
         }
     }
 
-    /// The lists where those runs are as the table says, whose candidates and hints are given; or
-    /// out of memory. A run is walked at most once, and each list is changed once; these stay as
-    /// they are.
-    pub(crate) fn after<'a, L: Ledger>(
-        &self,
-        alloc: Global,
-        plan: &Plan,
-        table: &'a Table,
-        candidates: &SharedList<Candidate>,
-        runs: &[Run],
-        hints: &Hints<'a>,
-        steps: &mut Steps<L>,
-    ) -> Result<LiveLists, NoMemory>
-        requires candidates { candidates.now ≡ (mentions_of plan.now table.now).candidates }
-        requires hints { AreHeld table.now hints.now.held.items }
-        ensures lists { IfOk result (λ next. next
-            ≡ live_after plan.now (updates_of table.entry.now) runs.now self.now) }
-        ensures few { steps.new ≤ steps.old + length runs.now }
+    /// The lists after turns; or out of memory. Each list is changed once, and these stay as they
+    /// are.
+    pub(crate) fn after(&self, alloc: Global, turns: Vec<Turn>) -> Result<LiveLists, NoMemory>
+        ensures { IfOk result (λ next. next ≡ live_turned turns.items self.now) }
     {
-        let turns = turns_of(alloc, plan, table, candidates, runs, hints, steps)?;
         let rows = rows_after(alloc, &self.runs, &self.rows, turns.as_slice())?;
         let runs = changed(&self.runs, run_changes(alloc, turns)?)?;
         Ok(LiveLists { runs, rows })

@@ -134,7 +134,8 @@ fn push_going<'a>(
     out: &mut Vec<Change<Candidate, CandidateAt<'a>>>,
 ) -> Result<(), NoMemory>
     ensures { OnOk result (naming_keys candidate_at out.new.items
-        ≡ naming_keys candidate_at out.old.items ++ rule.going one.entry.now.id one.entry.now.before) }
+        ≡ naming_keys candidate_at out.old.items
+        ++ rule.going one.entry.now.id one.entry.now.before) }
 {
     if let Some(mention) = one.before {
         let id = one.id.as_str();

@@ -19,8 +19,9 @@ use crate::id_changes::{IdChange, changes_of_ids, changes_of_table};
 use crate::live_lists::LiveLists;
 use crate::mention_lists::MentionLists;
 use crate::message_ids::MessageIds;
+use crate::on_threads::{changes_on, turns_on};
 use crate::row::RowKey;
-use crate::turns::touched_runs;
+use crate::turns::{touched_runs, turns_of};
 use delay_rule::Steps;
 use entity_table::{SharedStored, Table};
 use rt_types::{FeedMessage, Text};
@@ -29,6 +30,7 @@ use shared_list::Iter;
 use std::alloc::Global;
 use std::marker::Model;
 use std::sync::ledger::Ledger;
+use std::thread::Threads;
 
 /// The update that counts for a run.
 #[derive(Clone, Copy)]
@@ -82,6 +84,29 @@ impl Overlay {
         let ids = changes_of_table(alloc, plan, table)?;
         let none = Overlay::empty(alloc);
         none.after(alloc, plan, table, ids.as_slice(), steps)
+    }
+
+    /// The overlay of a table; or out of memory. It is what [`Overlay::build`] makes, but updates
+    /// are matched and runs are walked on as many threads as the machine has processors. It is
+    /// worth the threads for tables of some thousand entities.
+    pub fn build_on(
+        rt: &(impl Threads + Sync),
+        alloc: Global,
+        plan: &Plan,
+        table: &Table,
+    ) -> Result<Overlay, NoMemory>
+        ensures { IfOk result (λ overlay. overlay ≡ overlay_of plan.now table.now) }
+    {
+        let _all = table.iter();
+        let none = Overlay::empty(alloc);
+        let changes = changes_on(rt, alloc, plan, table)?;
+        let ids = changes.as_slice();
+        let mentions = none.mentions.after(alloc, table, ids)?;
+        let runs = touched_runs(alloc, ids)?;
+        let candidates = mentions.candidates();
+        let turns = turns_on(rt, alloc, plan, table, candidates, runs.as_slice())?;
+        let live = none.live.after(alloc, turns)?;
+        Ok(Overlay { mentions, live })
     }
 
     /// The overlay after a message, which is that of the table after it: what [`Overlay::build`]
@@ -153,7 +178,7 @@ impl Overlay {
         let runs = touched_runs(alloc, ids)?;
         let hints = Hints::of(alloc, table, ids, runs.as_slice())?;
         let candidates = mentions.candidates();
-        let live = self.live.after(
+        let turns = turns_of(
             alloc,
             plan,
             table,
@@ -162,6 +187,7 @@ impl Overlay {
             &hints,
             steps,
         )?;
+        let live = self.live.after(alloc, turns)?;
         Ok(Overlay { mentions, live })
     }
 
@@ -170,7 +196,8 @@ impl Overlay {
     /// it. It takes no memory.
     pub fn chosen<'a>(&'a self, run: Run) -> Option<Chosen<'a>>
         ensures kept { option_map told result ≡ chosen_in self.entry.now run }
-        ensures said { (t : Timetable) (entities : List Change) → self.entry.now ≡ overlay_of t entities
+        ensures said { (t : Timetable) (entities : List Change)
+            → self.entry.now ≡ overlay_of t entities
             → option_map told result ≡ option_map told_update (chosen t (updates_of entities) run) }
     {
         match self.live.runs().get(run) {
@@ -188,7 +215,8 @@ impl Overlay {
     /// memory.
     pub fn at_stop<'a>(&'a self, stop: u32, start: i64, end: i64) -> AtStop<'a>
         ensures kept { result ≡ slots_in self.entry.now stop start end }
-        ensures said { (t : Timetable) (entities : List Change) → self.entry.now ≡ overlay_of t entities
+        ensures said { (t : Timetable) (entities : List Change)
+            → self.entry.now ≡ overlay_of t entities
             → result ≡ live_between t (updates_of entities) stop start end }
     {
         let first = RowKey {

@@ -104,7 +104,8 @@ fn place_rows(
     requires many { 1 < length (places_of plan.now run.trip) }
     requires near { All IsNearState states.now }
     ensures { IfOk result (λ rows. rows.items
-        ≡ filter_map (place_by plan.now run relation states.now) (departures_of plan.now run.trip)) }
+        ≡ filter_map (place_by plan.now run relation states.now)
+        (departures_of plan.now run.trip)) }
 {
     let places = plan.stop_times(run.trip);
     let places = &places[..places.len() - 1];

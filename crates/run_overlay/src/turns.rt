@@ -1,6 +1,6 @@
 //! What becomes of the runs that a message touches.
 
-ghost use Rattle.std.specs.Prelude.{◌≡◌, ◌+◌, ◌≤◌, ◌++◌, length, map, IfOk, IfSome, OnOk};
+ghost use Rattle.std.specs.Prelude.{◌≡◌, ◌+◌, ◌<◌, ◌≤◌, ◌++◌, length, map, IfOk, IfSome, OnOk};
 ghost use Rattle.std.specs.List.{list_any};
 ghost use Rattle.sched_types.specs.declared.rows.Run.{Run};
 ghost use Rattle.run_overlay.specs.Changing as changing;
@@ -24,7 +24,8 @@ use rt_types::{Items, Shared};
 use sched_types::{Plan, Run};
 use shared_list::SharedList;
 use std::alloc::Global;
-use std::sync::ledger::Ledger;
+use std::marker::Brand;
+use std::sync::ledger::{Blank, Ledger};
 
 /// A run, and what it is now, if an update counts for it.
 #[derive(Drop)]
@@ -100,6 +101,44 @@ fn run_now<'a, L: Ledger>(
         stamp: candidate.mention.stamp,
         rows: Shared::new(alloc, Items::new(rows))?,
     }))
+}
+
+/// What becomes of a run, which is walked at most once, where nobody counts the walks; or out of
+/// memory. The candidates are those of the table.
+pub(crate) fn turn_of(
+    alloc: Global,
+    plan: &Plan,
+    table: &Table,
+    candidates: &SharedList<Candidate>,
+    run: Run,
+) -> Result<Turn, NoMemory>
+    requires { candidates.now ≡ (mentions_of plan.now table.now).candidates }
+    ensures { IfOk result (λ turn. turn ≡ rule.turn_of plan.now (updates_of table.entry.now) run) }
+{
+    uncounted::<Brand>(alloc, plan, table, candidates, run, Blank::new(1))
+}
+
+/// The same, by a count of walks that nobody reads.
+fn uncounted<L: Ledger>(
+    alloc: Global,
+    plan: &Plan,
+    table: &Table,
+    candidates: &SharedList<Candidate>,
+    run: Run,
+    blank: Blank,
+) -> Result<Turn, NoMemory>
+    requires candidates { candidates.now ≡ (mentions_of plan.now table.now).candidates }
+    requires name { blank.name ≡ L.name }
+    requires parts { blank.parts ≡ L.parts }
+    requires some { 0 < blank.parts }
+    ensures { IfOk result (λ turn. turn ≡ rule.turn_of plan.now (updates_of table.entry.now) run) }
+{
+    let mut steps = Steps::<L>::new(blank);
+    let mut room = Vec::new(alloc);
+    let now = run_now(
+        alloc, plan, table, candidates, None, run, &mut room, &mut steps,
+    )?;
+    Ok(Turn { run, now })
 }
 
 /// What becomes of runs, each of which is walked at most once; or out of memory. The candidates and

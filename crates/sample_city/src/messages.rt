@@ -1,6 +1,7 @@
 //! Messages of the feeds, a request for a board, and the responses to it.
 
 ghost use Rattle.std.specs.Prelude.{◌≡◌, [], codes, Some, IfOk};
+ghost use Rattle.rt_types.specs.declared.enums.Incrementality.TheVariants.{FullDataset};
 
 use crate::NoMemory;
 use rt_types::{Bytes, Entities, Entity, FeedMessage, Header, Incrementality, Text};
@@ -48,6 +49,7 @@ pub fn no_bytes(alloc: Global) -> Bytes {
 pub fn dataset_of(alloc: Global, stamp: u64, entities: Vec<Entity>) -> Result<FeedMessage, NoMemory>
     ensures stamp { IfOk result (λ message. message.header.timestamp ≡ Some stamp) }
     ensures version { IfOk result (λ message. message.header.version ≡ codes "2.0") }
+    ensures whole { IfOk result (λ message. message.header.incrementality ≡ Some FullDataset) }
     ensures entities { IfOk result (λ message. message.entity ≡ entities.items) }
 {
     Ok(FeedMessage {

@@ -9,8 +9,8 @@ use Rattle.sched_load_defs.specs.declared.fault.File.{File}
 use Rattle.sched_load_defs.specs.declared.fault.LoadFault.{LoadFault}
 use Rattle.sched_load_defs.specs.declared.fault.LoadFault.TheVariants as fault
 
--- a fault is the one that is told; want of memory may come in place of anything, and a file that could not be
--- read says nothing
+-- a fault is the one that is told; want of memory may come in place of anything, and a file that
+-- could not be read says nothing
 abbrev pub Refuses : {A : Type 0} → Result A LoadFault → LoadFault → Type 0
 Refuses told fault.BadZone = told ≡ Err fault.BadZone
 Refuses told (fault.MissingFile name) = told ≡ Err (fault.MissingFile name)
@@ -27,7 +27,8 @@ abbrev pub Loads : {A : Type 0} → Result A LoadFault → Result A LoadFault �
 Loads told (Ok x) = told ≡ Ok x
 Loads told (Err e) = Refuses told e
 
--- a fault whose cause is not in the files' contents: a file that could not be read raised the count of faults
+-- a fault whose cause is not in the files' contents: a file that could not be read raised the count
+-- of faults
 abbrev pub HasFaultCause : LoadFault → ℕ → ℕ → Type 0
 HasFaultCause fault.BadZone before after = ⊤
 HasFaultCause (fault.MissingFile name) before after = ⊤
@@ -64,7 +65,8 @@ abbrev pub IsPlainAnswer : {A : Type 0} → Result A LoadFault → Type 0
 IsPlainAnswer (Ok x) = ⊤
 IsPlainAnswer (Err e) = IsPlain e
 
--- The answer of a step that reads files is what is told of them, where they are told; it has a cause, and is plain.
+-- The answer of a step that reads files is what is told of them, where they are told; it has a
+-- cause, and is plain.
 pub record AnswersFromFiles {A : Type 0} (contents : Option (List (List ℕ × List ℕ)))
     (told : List (List ℕ × List ℕ) → Result A LoadFault) (before after : ℕ)
     (answer : Result A LoadFault) : Type 0 where

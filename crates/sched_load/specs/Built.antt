@@ -29,13 +29,14 @@ abbrev pub TimesAre : Dataset → Result (Unit {0}) LoadFault → Type 0
 TimesAre d (Ok _) = with_times d ≡ Ok d
 TimesAre d (Err e) = RefusesAlone (with_times d) e
 
--- the timetable of rows whose times are in order, for a window of days from a first one on; or the fault of the
--- trips that frequencies.txt gives
+-- the timetable of rows whose times are in order, for a window of days from a first one on; or the
+-- fault of the trips that frequencies.txt gives
 abbrev pub plan_told : TzText → ℕ → ℕ → Dataset → Result Timetable LoadFault
 plan_told rule first days d =
     load_answer_of (with_frequencies d.frequencies (timetable_of rule first days d))
 
--- a plan is the timetable that is told, or the fault is the one that is told; memory may run out in place of both
+-- a plan is the timetable that is told, or the fault is the one that is told; memory may run out in
+-- place of both
 abbrev pub IsBuilt : Result Timetable LoadFault → Result Timetable LoadFault → Type 0
 IsBuilt told (Ok plan) = told ≡ Ok plan
 IsBuilt told (Err e) = (e ≡ fault.NoMemory) ⊎ RefusesAlone told e

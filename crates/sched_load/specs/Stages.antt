@@ -1,5 +1,5 @@
--- The eight files in four stages: the four on which stop times rest, stop_times.txt, the two of days, and
--- frequencies.txt.
+-- The eight files in four stages: the four on which stop times rest, stop_times.txt, the two of
+-- days, and frequencies.txt.
 use Rattle.std.specs.Prelude.{◌≡◌, ℕ, true, false, List, Option, Result, Ok, Err}
 use Rattle.answer_defs.specs.Steps.{◌>>=◌}
 use Rattle.gtfs_rows.specs.Tables.{agency, stops, routes, trips, calendar, exceptions}

@@ -28,8 +28,8 @@ StopsWith (Err e) P = AtFileFault e P
 abbrev pub StopsFile : Option (List ℕ) → List ℕ → File → Type 0
 StopsFile place folder name = IfSome place (λ path. path ≡ path_of folder name)
 
--- The path is that of a file of the folder, which is none of the first so many, and where it can't be read
--- this is the first fault of a part of the files.
+-- The path is that of a file of the folder, which is none of the first so many, and where it can't
+-- be read this is the first fault of a part of the files.
 pub record PartStops {A : Type 0}
     (part : (File → Result (Option (List ℕ)) LoadFault) → Result A LoadFault) (before : ℕ)
     (files : List (List ℕ × List ℕ)) (folder path : List ℕ) : Type 0 where

@@ -80,7 +80,8 @@ fn stops_of(alloc: Global, stops: &Table<StopRow>) -> Result<Vec<Stop>, AllocErr
     Ok(list)
 }
 
-/// The number of a route's agency. An empty agency_id is the only agency's, where there is one agency.
+/// The number of a route's agency. An empty agency_id is the only agency's, where there is one
+/// agency.
 fn agency_number(agencies: &Table<AgencyRow>, id: &str) -> Option<u32>
     requires { length (by_id (λ row. row.agency_id) agencies.now) ≤ most_rows }
     ensures { result ≡ agency_in agencies.now id.now }
@@ -196,7 +197,8 @@ fn places_lists(
     Ok(lists)
 }
 
-/// The lists of the plan as if there were no frequencies.txt, for a window of days from a first one on.
+/// The lists of the plan as if there were no frequencies.txt, for a window of days from a first one
+/// on.
 fn parts_of(
     alloc: Global,
     zone: &Zone,
@@ -257,8 +259,8 @@ fn load_fault(fault: DeriveFault) -> LoadFault
     }
 }
 
-/// The plan of the rows, for a window of days from a first one on, with the trips of frequencies.txt; or the first
-/// fault of these.
+/// The plan of the rows, for a window of days from a first one on, with the trips of
+/// frequencies.txt; or the first fault of these.
 pub(crate) fn build_plan(
     alloc: Global,
     zone: &Zone,

@@ -44,8 +44,8 @@ fn rows_fault(file: File, fault: RowFault) -> LoadFault
     }
 }
 
-/// The rows of the file in the folder, or the fault that it has by itself. Its bytes are let go before the
-/// answer.
+/// The rows of the file in the folder, or the fault that it has by itself. Its bytes are let go
+/// before the answer.
 pub(crate) fn read_rows<F: Files, R: FileRow>(
     alloc: Global,
     files: &mut F,
@@ -75,8 +75,8 @@ pub(crate) fn read_rows<F: Files, R: FileRow>(
     }
 }
 
-/// The visits of stop_times.txt in the folder, up to the first row that refers to nothing, or the fault that
-/// the file has by itself. Its bytes are let go before the answer.
+/// The visits of stop_times.txt in the folder, up to the first row that refers to nothing, or the
+/// fault that the file has by itself. Its bytes are let go before the answer.
 pub(crate) fn read_visits<F: Files>(
     alloc: Global,
     files: &mut F,

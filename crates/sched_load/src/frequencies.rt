@@ -46,7 +46,8 @@ fn check_trips(trips: &Table<TripRow>, rows: &[FrequencyRow]) -> Result<(), Load
     Ok(())
 }
 
-/// The rows of frequencies.txt, or its first fault. They are compared with the trips, and not with one another.
+/// The rows of frequencies.txt, or its first fault. They are compared with the trips, and not with
+/// one another.
 pub(crate) fn read_frequencies<F: Files>(
     alloc: Global,
     files: &mut F,

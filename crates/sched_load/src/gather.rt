@@ -30,7 +30,8 @@ fn stay_of(arrival: Option<u32>, departure: Option<u32>) -> Option<Stay>
     }
 }
 
-/// The visit of a row, or its first column that refers to nothing. The trip is looked for first at a number.
+/// The visit of a row, or its first column that refers to nothing. The trip is looked for first at
+/// a number.
 fn visit_of(
     trips: &Table<TripRow>,
     stops: &Table<StopRow>,
@@ -70,8 +71,8 @@ fn skip(alloc: Global, rows: &mut StopTimes<'_>) -> Result<(), RowFault>
     }
 }
 
-/// Gathers the visits of the rows to come, up to the first that refers to nothing, and passes over those
-/// behind it.
+/// Gathers the visits of the rows to come, up to the first that refers to nothing, and passes over
+/// those behind it.
 fn gather(
     alloc: Global,
     rows: &mut StopTimes<'_>,
@@ -110,8 +111,8 @@ fn gather(
     }
 }
 
-/// The visits of the rows of stop_times.txt with these bytes, up to the first row that refers to nothing; or
-/// the fault that the file has by itself.
+/// The visits of the rows of stop_times.txt with these bytes, up to the first row that refers to
+/// nothing; or the fault that the file has by itself.
 pub(crate) fn gather_bytes(
     alloc: Global,
     bytes: &[u8],

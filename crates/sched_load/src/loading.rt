@@ -30,13 +30,14 @@ fn zone_of(rule: &str) -> Result<Zone, LoadFault>
     }
 }
 
-/// The timetable of the files in the folder, for the zone and the window of days of the configuration, or
-/// the first fault: of the zone; then file by file (agency.txt, stops.txt, routes.txt, trips.txt,
-/// stop_times.txt, calendar.txt, calendar_dates.txt, frequencies.txt), of each file by itself before it is
-/// compared with itself and with the files before it; then of the trips' times, by row of trips.txt (GTFS
-/// Schedule Reference); then of the trips that frequencies.txt gives, by its rows: more than 4,000,000 places
-/// of theirs in all (`Rows` with `TooMany`), or an id that is there already (`Duplicate`). `FileFault` says that
-/// a file could not be read, with no fault before it in this order, and `NoMemory`, that memory ran out.
+/// The timetable of the files in the folder, for the zone and the window of days of the
+/// configuration, or the first fault: of the zone; then file by file (agency.txt, stops.txt,
+/// routes.txt, trips.txt, stop_times.txt, calendar.txt, calendar_dates.txt, frequencies.txt), of
+/// each file by itself before it is compared with itself and with the files before it; then of the
+/// trips' times, by row of trips.txt (GTFS Schedule Reference); then of the trips that
+/// frequencies.txt gives, by its rows: more than 4,000,000 places of theirs in all (`Rows` with
+/// `TooMany`), or an id that is there already (`Duplicate`). `FileFault` says that a file could not
+/// be read, with no fault before it in this order, and `NoMemory`, that memory ran out.
 ///
 /// The paths are the folder's, a slash and the file's name.
 pub fn load<F: Files>(

@@ -106,8 +106,8 @@ pub(crate) fn service_number(services: &[PlanName], id: &str) -> Option<usize>
     }
 }
 
-/// The exceptions of the services by rising dates, or the first row that has the service and the date of
-/// an earlier one.
+/// The exceptions of the services by rising dates, or the first row that has the service and the
+/// date of an earlier one.
 pub(crate) fn group_exceptions(
     alloc: Global,
     rows: &[ExceptionRow],

@@ -141,7 +141,8 @@ fn arranged_visits<F: Files>(
         (λ fs. and_next
         (file_rows true file.StopTimes stop_times
         (file_at fs (path_of folder.now file.StopTimes)))
-        (consistent_stop_times trips.now stops.now)) (F.faults files.old) (F.faults files.new) result }
+        (consistent_stop_times trips.now stops.now)) (F.faults files.old)
+        (F.faults files.new) result }
     ensures same { F.contents files.new ≡ F.contents files.old }
     ensures stops { StopsWith result
         (StopsFile (F.last_fault files.new) folder.now file.StopTimes) }
@@ -203,8 +204,8 @@ struct DayTables {
     active: Vec<BTreeMap<u32, Exception>>,
 }
 
-/// The rows of calendar.txt and calendar_dates.txt with the services that any file names, or the first fault,
-/// file by file.
+/// The rows of calendar.txt and calendar_dates.txt with the services that any file names, or the
+/// first fault, file by file.
 fn read_days<F: Files>(
     alloc: Global,
     files: &mut F,

@@ -34,7 +34,8 @@ pub(crate) struct Course {
     ahead: Option<Option<Ahead>>,
 }
 
-/// Whether no place is left before it is reached, nor reached before the timed place in front of it is left.
+/// Whether no place is left before it is reached, nor reached before the timed place in front of it
+/// is left.
 fn are_in_order(visits: &[Visit]) -> bool
     ensures { result
         ≡ (list_all is_stay (known_times (given_of visits.now))

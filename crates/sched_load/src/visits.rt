@@ -90,7 +90,8 @@ fn rises(alloc: Global, visits: &[Visit], trips: usize) -> Result<bool, AllocErr
     Ok(true)
 }
 
-/// A function of its own, so that its proof is found: where its branches join, what is known of the twin.
+/// A function of its own, so that its proof is found: where its branches join, what is known of the
+/// twin.
 fn twin_of(alloc: Global, visits: &[Visit], is_rising: bool) -> Result<Option<usize>, AllocError>
     requires { OnTrue is_rising (RisesByTrip visits.now) }
     ensures value { IfOk result (FirstTwin visits.now) }
@@ -116,7 +117,8 @@ fn by_trip(visits: &mut Vec<Visit>) -> Result<(), AllocError>
     Ok(())
 }
 
-/// A function of its own, so that its proof is found: where its branches join, what the visits are then.
+/// A function of its own, so that its proof is found: where its branches join, what the visits are
+/// then.
 fn sort_unless(visits: &mut Vec<Visit>, is_rising: bool) -> Result<(), AllocError>
     ensures { OnOk result (IsSortedUnless is_rising visits.old.items visits.new.items) }
 {
@@ -137,8 +139,8 @@ fn sort(visits: &mut Vec<Visit>, is_rising: bool) -> Result<(), AllocError>
     Ok(())
 }
 
-/// The visits trip by trip, those of a trip by rising stop_sequence; or the first row that refers to nothing
-/// or has the trip and the stop_sequence of an earlier one.
+/// The visits trip by trip, those of a trip by rising stop_sequence; or the first row that refers
+/// to nothing or has the trip and the stop_sequence of an earlier one.
 pub(crate) fn arrange(
     alloc: Global,
     gathered: Gathered,

@@ -1,5 +1,5 @@
--- The files of the timetable `city` of `sched_types`, as an example, and the parts of which changed copies
--- are made.
+-- The files of the timetable `city` of `sched_types`, as an example, and the parts of which changed
+-- copies are made.
 use Rattle.std.specs.Prelude.{ℕ, List, [], ◌∷◌, ◌++◌, codes}
 use Rattle.sched_load_defs.specs.Files.{path_of}
 use Rattle.sched_load_defs.specs.declared.conf.PlanConf.{PlanConf}

@@ -1,7 +1,8 @@
--- What frequencies.txt makes of a timetable in which each trip of trips.txt is one trip (GTFS Schedule,
--- frequencies.txt). A trip that any row names is a pattern, and none of the trips any more. In its place come the
--- trips that exact rows derive of it, with its route, service, headsign, direction, stops, stop_sequences and
--- pickup types; that the other rows add no trips is a rule of this project.
+-- What frequencies.txt makes of a timetable in which each trip of trips.txt is one trip (GTFS
+-- Schedule, frequencies.txt). A trip that any row names is a pattern, and none of the trips any
+-- more. In its place come the trips that exact rows derive of it, with its route, service,
+-- headsign, direction, stops, stop_sequences and pickup types; that the other rows add no trips is
+-- a rule of this project.
 use Rattle.std.specs.Prelude.{ℕ, Bool, false, not, ◌==◌, List, [], ◌∷◌, ◌++◌, length, map, filter, zip, Option, Some, None, Result, Ok, Err, slice_get}
 use Rattle.std.specs.List.{enumerate_from, flat_map}
 use Rattle.std.specs.Ordering.{nat_cmp, ordering_then}
@@ -130,7 +131,8 @@ abbrev pub with_derived_or : List FrequencyRow → Timetable → Result (List De
 with_derived_or rows t (Ok derived) = Ok (with_derived rows t derived)
 with_derived_or rows t (Err e) = Err e
 
--- the timetable with the trips that the rows derive in place of those that they name, or their first fault
+-- the timetable with the trips that the rows derive in place of those that they name, or their
+-- first fault
 unfoldable pub with_frequencies : List FrequencyRow → Timetable → Result Timetable DeriveFault
 with_frequencies rows t = with_derived_or rows t (derived_of rows t)
 

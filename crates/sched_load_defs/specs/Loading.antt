@@ -21,8 +21,8 @@ use Rattle.sched_load_defs.specs.Frequencies.{with_frequencies, load_answer_of}
 abbrev pub zone_of : List ℕ → Result TzText LoadFault
 zone_of text = ok_or (rule_of text) fault.BadZone
 
--- The rows of the eight files, by what is told of each of them: its bytes, that it isn't there, or why
--- it can't be read. Or the first fault in this order: file by file, each by itself before it is
+-- The rows of the eight files, by what is told of each of them: its bytes, that it isn't there, or
+-- why it can't be read. Or the first fault in this order: file by file, each by itself before it is
 -- compared with itself and with the files before it.
 unfoldable pub dataset_where : (File → Result (Option (List ℕ)) LoadFault)
     → Result Dataset LoadFault
@@ -61,14 +61,14 @@ times_fault dataset (place, row) =
     if are_times (given_times (stop_times_of dataset.stop_times row.trip_id)) then None
     else Some (fault.TripTimes (row_at place))
 
--- the same rows where the times of all trips are in order, or else the fault of the first trip of trips.txt
--- whose times are not
+-- the same rows where the times of all trips are in order, or else the fault of the first trip of
+-- trips.txt whose times are not
 unfoldable pub with_times : Dataset → Result Dataset LoadFault
 with_times dataset =
     unless (first_fault (times_fault dataset) (enumerate_from 0 dataset.trips)) dataset
 
--- The timetable by what is told of each of the eight files, or the first fault: of the zone, then of
--- the files, then of the trips' times, then of the trips that frequencies.txt gives.
+-- The timetable by what is told of each of the eight files, or the first fault: of the zone, then
+-- of the files, then of the trips' times, then of the trips that frequencies.txt gives.
 unfoldable pub timetable_where : (File → Result (Option (List ℕ)) LoadFault) → PlanConf
     → Result Timetable LoadFault
 timetable_where told conf = do

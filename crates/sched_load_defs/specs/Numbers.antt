@@ -1,5 +1,5 @@
--- The timetable of a dataset's rows: they are listed by rising bytes of their ids, and refer to one another
--- by their places in these lists.
+-- The timetable of a dataset's rows: they are listed by rising bytes of their ids, and refer to one
+-- another by their places in these lists.
 use Rattle.std.specs.Prelude.{ℕ, ◌==◌, bytes_eq, if◌then◌else◌, List, [], ◌∷◌, ◌++◌, length, map, filter, zip, Option, Some, None, unwrap_or}
 use Rattle.std.specs.Cmp.Lexicographic.{slice_cmp}
 use Rattle.std.specs.FinMap.Entries.{put}
@@ -80,7 +80,8 @@ stop_of dataset row = record {
   parent = number_of (λ stop. stop.stop_id) (stop_rows dataset) row.parent_station;
 }
 
--- the agency of a route with that agency_id: an empty one is the only agency's, where there is one agency
+-- the agency of a route with that agency_id: an empty one is the only agency's, where there is one
+-- agency
 abbrev pub agency_of : Dataset → List ℕ → Option ℕ
 agency_of dataset id =
     if bytes_eq id [] then (if length dataset.agencies == 1 then Some 0 else None)
@@ -128,8 +129,8 @@ place_of dataset (row, times) = record {
 abbrev pub places_with : Dataset → List StopTimeRow → List Place
 places_with dataset rows = map (place_of dataset) (zip rows (all_times (given_times rows)))
 
--- The timetable of rows that are consistent, in a zone, for a window of days from a first one on, in which each
--- trip of trips.txt is one trip: as if there were no frequencies.txt.
+-- The timetable of rows that are consistent, in a zone, for a window of days from a first one on,
+-- in which each trip of trips.txt is one trip: as if there were no frequencies.txt.
 unfoldable pub timetable_of : TzText → ℕ → ℕ → Dataset → Timetable
 timetable_of rule first days dataset = record {
   agencies = agency_ids dataset;

@@ -1,5 +1,6 @@
--- Which rows of a file refer to rows that aren't there, and which have the id of an earlier row. A file is
--- judged by this once all its rows could be read (GTFS Schedule, "Field Types", Foreign ID and Unique ID).
+-- Which rows of a file refer to rows that aren't there, and which have the id of an earlier row. A
+-- file is judged by this once all its rows could be read (GTFS Schedule, "Field Types", Foreign ID
+-- and Unique ID).
 use Rattle.std.specs.Prelude.{ℕ, ◌+◌, Bool, false, ◌&&◌, ◌||◌, ◌==◌, bytes_eq, if◌then◌else◌, List, [], ◌∷◌, take, Option, Some, None, option_map, Result}
 use Rattle.std.specs.List.{list_any, enumerate_from}
 use Rattle.answer_defs.specs.Steps.{◌>>=◌, unless}
@@ -32,8 +33,8 @@ row_at place = place + 2
 abbrev pub is_twin : {R : Type 0} → (R → R → Bool) → List R → ℕ → R → Bool
 is_twin same rows place row = list_any (λ earlier. same earlier row) (take place rows)
 
--- what is wrong with a row first: a reference to no row, in the order of the columns, or an earlier row
--- that is the same one
+-- what is wrong with a row first: a reference to no row, in the order of the columns, or an earlier
+-- row that is the same one
 abbrev pub row_fault : {R : Type 0} → File → (R → Option Column) → (R → R → Bool) → List R → ℕ × R
     → Option LoadFault
 row_fault name unknown same rows (place, row) =
@@ -70,8 +71,8 @@ parent_fault rows (place, row) =
     then None
     else Some (fault.UnknownRef file.Stops (row_at place) column.ParentStation)
 
--- the stops whose parent_station, if they have one, is a stop of the file, or the fault of the first row
--- that is at fault
+-- the stops whose parent_station, if they have one, is a stop of the file, or the fault of the
+-- first row that is at fault
 abbrev pub with_parents : List StopRow → Result (List StopRow) LoadFault
 with_parents rows = unless (first_fault (parent_fault rows) (enumerate_from 0 rows)) rows
 

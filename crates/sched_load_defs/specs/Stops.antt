@@ -6,8 +6,8 @@ use Rattle.sched_load_defs.specs.declared.fault.LoadFault.TheVariants as fault
 use Rattle.sched_load_defs.specs.Files.{path_of, unreadable}
 use Rattle.sched_load_defs.specs.Loading.{dataset_where, timetable_where}
 
--- The path is that of a file of the folder, and where that file can't be read this is the first fault
--- of the eight files: file by file, what comes before it has none.
+-- The path is that of a file of the folder, and where that file can't be read this is the first
+-- fault of the eight files: file by file, what comes before it has none.
 pub record DatasetStops (files : List (List ℕ × List ℕ)) (folder path : List ℕ) : Type 0 where
   pub broken : File
   pub place : path ≡ path_of folder broken

@@ -1,5 +1,5 @@
--- The times of a trip's places (GTFS Schedule, stop_times.txt): which a place has, whether they are in
--- order, and those of the places between.
+-- The times of a trip's places (GTFS Schedule, stop_times.txt): which a place has, whether they are
+-- in order, and those of the places between.
 use Rattle.std.specs.Prelude.{ℕ, ◌+◌, ◌-◌, ◌*◌, ◌/◌, Bool, true, false, ◌&&◌, ◌||◌, nat_le, nat_lt, List, [], ◌∷◌, length, slice_get, Option, Some, None, filter_map}
 use Rattle.std.specs.List.{list_all}
 
@@ -36,23 +36,25 @@ are_moves (a ∷ b ∷ rest) = nat_le a.departure b.arrival && are_moves (b ∷ 
 abbrev pub known_times : List (Option Times) → List Times
 known_times places = filter_map (λ place. place) places
 
--- the times of a trip's places, in order of stop_sequence, are in order: its first and last place are
--- timed, and its timed places follow one another. A trip with fewer than two places may have any times
+-- the times of a trip's places, in order of stop_sequence, are in order: its first and last place
+-- are timed, and its timed places follow one another. A trip with fewer than two places may have
+-- any times
 abbrev pub are_times : List (Option Times) → Bool
 are_times places =
     nat_lt (length places) 2
     || (is_timed (slice_get places 0) && is_timed (slice_get places (length places - 1))
     && list_all is_stay (known_times places) && are_moves (known_times places))
 
--- the next timed place at or behind a number of steps: how many steps away it is, and when it is reached
+-- the next timed place at or behind a number of steps: how many steps away it is, and when it is
+-- reached
 abbrev pub next_timed : ℕ → List (Option Times) → Option (ℕ × ℕ)
 next_timed steps [] = None
 next_timed steps (Some times ∷ places) = Some (steps, times.arrival)
 next_timed steps (None ∷ places) = next_timed (steps + 1) places
 
--- when a place is reached and left that lies some steps behind a timed place, of which the departure is
--- given, and before the next one: by its share of the steps between them, rounded down; 0 with no place
--- behind it. In order, a departure isn't after the arrival that follows it
+-- when a place is reached and left that lies some steps behind a timed place, of which the
+-- departure is given, and before the next one: by its share of the steps between them, rounded
+-- down; 0 with no place behind it. In order, a departure isn't after the arrival that follows it
 abbrev pub share_between : ℕ → ℕ → Option (ℕ × ℕ) → ℕ
 share_between departure behind None = 0
 share_between departure behind (Some (ahead, arrival)) =
@@ -62,8 +64,8 @@ share_between departure behind (Some (ahead, arrival)) =
 abbrev pub times_at : ℕ → Times
 times_at time = record { arrival = time; departure = time }
 
--- the times of all places: those that they have, and of an untimed one those between. The first of them
--- lies some steps behind a timed place, of which the departure is given
+-- the times of all places: those that they have, and of an untimed one those between. The first of
+-- them lies some steps behind a timed place, of which the departure is given
 unfoldable pub times_behind : ℕ → ℕ → List (Option Times) → List Times
 times_behind departure behind [] = []
 times_behind departure behind (Some times ∷ places) = times ∷ times_behind times.departure 1 places
@@ -71,7 +73,7 @@ times_behind departure behind (None ∷ places) =
     times_at (share_between departure behind (next_timed 1 places))
     ∷ times_behind departure (behind + 1) places
 
--- the times of all places of a trip, untimed places between timed ones lying evenly by their number; the
--- one untimed place of a trip has 0
+-- the times of all places of a trip, untimed places between timed ones lying evenly by their
+-- number; the one untimed place of a trip has 0
 abbrev pub all_times : List (Option Times) → List Times
 all_times places = times_behind 0 0 places

@@ -57,7 +57,8 @@ impl fmt::Display for File {
 
 /// The first fault of a timetable, or what hindered its loading.
 ///
-/// A row is a number of records of its file: the header is row 1, and the first row of data is row 2.
+/// A row is a number of records of its file: the header is row 1, and the first row of data is row
+/// 2.
 #[derive(Clone, Copy, PartialEq, Eq, Debug, Error)]
 pub enum LoadFault {
     /// The zone isn't a rule of the POSIX variable TZ.
@@ -80,15 +81,15 @@ pub enum LoadFault {
         row: u32,
         column: Column,
     },
-    /// An earlier row of the file has the same id; of frequencies.txt, a trip that the row derives has the id
-    /// of another trip.
+    /// An earlier row of the file has the same id; of frequencies.txt, a trip that the row derives
+    /// has the id of another trip.
     #[error("row {row} of {file} is there twice")]
     Duplicate {
         file: File,
         row: u32,
     },
-    /// The stop times of the trip in this row of trips.txt are out of order, or its first or last place
-    /// has no time.
+    /// The stop times of the trip in this row of trips.txt are out of order, or its first or last
+    /// place has no time.
     #[error("the trip in row {row} has bad times")]
     TripTimes {
         row: u32,

@@ -1,5 +1,5 @@
--- A small timetable, as an example: a market square with two platforms, a harbour and a hill, and one bus route
--- with three trips on three days of 2025, of which one begins after midnight.
+-- A small timetable, as an example: a market square with two platforms, a harbour and a hill, and
+-- one bus route with three trips on three days of 2025, of which one begins after midnight.
 use Rattle.std.specs.Prelude.{ℕ, Some, None, List, [], ◌∷◌, pos, codes}
 use Rattle.sched_types.specs.declared.rows.Stop.{Stop}
 use Rattle.sched_types.specs.declared.rows.Route.{Route}

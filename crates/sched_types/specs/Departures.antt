@@ -1,5 +1,5 @@
--- Trips that are found by their route, direction and first departure, without their ids (GTFS Realtime,
--- TripDescriptor: route_id, direction_id and start_time).
+-- Trips that are found by their route, direction and first departure, without their ids (GTFS
+-- Realtime, TripDescriptor: route_id, direction_id and start_time).
 use Rattle.std.specs.Prelude.{◌≡◌, ℕ, Bool, false, ◌&&◌, ◌==◌, Option, Some, None, option_and_then, unwrap_or, List, [], length, filter, slice_get}
 use Rattle.std.specs.List.{range_with_len}
 use Rattle.std.specs.List.Sorted.{IsSortedByKey}

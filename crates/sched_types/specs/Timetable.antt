@@ -1,4 +1,5 @@
--- Timetables: the lists of a GTFS Schedule feed whose rows are numbered from 0, and what is true of them.
+-- Timetables: the lists of a GTFS Schedule feed whose rows are numbered from 0, and what is true of
+-- them.
 use Rattle.std.specs.Prelude.{◌≡◌, ℕ, ◌+◌, ◌-◌, ◌^◌, ◌<◌, ◌≤◌, ◌⊎◌, Bool, false, ◌&&◌, ◌==◌, nat_lt, Option, Some, None, unwrap_or, List, [], length, map, filter, position, sum_by, slice_get, IsTrue, ℤ, pos, negsuc, ◌+ℤ◌, ◌≤ℤ◌}
 use Rattle.std.specs.Cmp.Lexicographic.{slice_cmp}
 use Rattle.std.specs.List.{find, list_any, range_with_len}
@@ -16,11 +17,12 @@ use Rattle.sched_types.specs.declared.rows.PlanPattern.{PlanPattern}
 use Rattle.sched_types.specs.declared.rows.PlanDerived.{PlanDerived}
 use Rattle.sched_types.specs.declared.rows.Counts.{Counts}
 
--- The rows of the files, numbered by their places in these lists: the ids of the agencies, the stops, the
--- routes and the trips; for each trip its places, and for each service the days of the window on which it
--- is active; the date of the window's first day, and for each of its days the instant from which times are
--- counted (GTFS Schedule, "Field Types", Time). A trip that frequencies.txt names is a pattern and none of the
--- trips, but the trips that it gives are, each named by its pattern, its start and its number.
+-- The rows of the files, numbered by their places in these lists: the ids of the agencies, the
+-- stops, the routes and the trips; for each trip its places, and for each service the days of the
+-- window on which it is active; the date of the window's first day, and for each of its days the
+-- instant from which times are counted (GTFS Schedule, "Field Types", Time). A trip that
+-- frequencies.txt names is a pattern and none of the trips, but the trips that it gives are, each
+-- named by its pattern, its start and its number.
 pub record Timetable : Type 0 where
   pub agencies : List (List ℕ)
   pub stops : List Stop
@@ -50,8 +52,9 @@ abbrev pub days_of_trip : Timetable → Option Trip → List ℕ
 days_of_trip t None = []
 days_of_trip t (Some trip) = days_of t trip.service
 
--- A run is a trip on a day of the window on which its service is active (GTFS Realtime, TripDescriptor: an
--- instance of a trip). That a trip with fewer than two places has none is a rule of this project.
+-- A run is a trip on a day of the window on which its service is active (GTFS Realtime,
+-- TripDescriptor: an instance of a trip). That a trip with fewer than two places has none is a rule
+-- of this project.
 abbrev pub is_run : Timetable → Run → Bool
 is_run t run =
     nat_lt run.day (length t.bases)
@@ -85,7 +88,8 @@ day_with_date t date = position (λ d. d == date) (dates_of t)
 abbrev pub base_of : Timetable → ℕ → ℤ
 base_of t day = unwrap_or (slice_get t.bases day) (pos 0)
 
--- the scheduled instants at a place of a run: the day's base plus the time; none past the last place
+-- the scheduled instants at a place of a run: the day's base plus the time; none past the last
+-- place
 abbrev pub arrival_at : Timetable → Run → ℕ → Option ℤ
 arrival_at t run i = at (slice_get (places_of t run.trip) i) where
   at : Option Place → Option ℤ
@@ -131,8 +135,8 @@ derived_places t = places_derived t.places t.derived
 abbrev pub pattern_places : Timetable → ℕ
 pattern_places t = sum_by (λ pattern. pattern.places) t.patterns
 
--- how many data rows the files have, and how many days the window has: patterns are rows, and derived
--- trips aren't
+-- how many data rows the files have, and how many days the window has: patterns are rows, and
+-- derived trips aren't
 abbrev pub counts_of : Timetable → Counts
 counts_of t = record {
   agencies = length t.agencies;
@@ -218,7 +222,8 @@ pub record IsTimetable (t : Timetable) : Type 0 where
       → place.arrival < 2 ^ 32
   pub departure_small : (trip i : ℕ) (place : Place) → slice_get (places_of t trip) i ≡ Some place
       → place.departure < 2 ^ 32
-  -- the places of a trip have rising stop_sequence, and where there are two or more, their times are in order
+  -- the places of a trip have rising stop_sequence, and where there are two or more, their times
+  -- are in order
   pub sequences_rise : (trip i j : ℕ) (p q : Place) → i < j → slice_get (places_of t trip) i
       ≡ Some p → slice_get (places_of t trip) j ≡ Some q → p.sequence < q.sequence
   pub stays : (trip i : ℕ) (place : Place) → 1 < length (places_of t trip)

@@ -41,8 +41,8 @@ pub struct Plan {
     dates: Vec<u32>,
     /// The numbers of the trips by their departures.
     departures: Vec<u32>,
-    /// For each service, by its number, whether it is active, by the days of the window. It takes a byte
-    /// for each day of each service.
+    /// For each service, by its number, whether it is active, by the days of the window. It takes a
+    /// byte for each day of each service.
     running: Vec<Vec<bool>>,
 }
 
@@ -180,7 +180,8 @@ impl Plan {
         number_by_id(self.trips.as_slice(), id)
     }
 
-    /// The number of the trip of frequencies.txt with that id, in byte order of their ids. It takes no memory.
+    /// The number of the trip of frequencies.txt with that id, in byte order of their ids. It takes
+    /// no memory.
     pub fn pattern_of(&self, id: &str) -> Option<u32>
         ensures value { result ≡ pattern_with self.now id.now }
         ensures within { IfSome result (λ pattern. pattern < length self.now.patterns) }
@@ -188,7 +189,8 @@ impl Plan {
         number_by_id(self.patterns.as_slice(), id)
     }
 
-    /// The number of the trip that a pattern gives at a start, in seconds of the service day. It takes no memory.
+    /// The number of the trip that a pattern gives at a start, in seconds of the service day. It
+    /// takes no memory.
     pub fn derived(&self, pattern: u32, start: u32) -> Option<u32>
         requires { pattern < length self.now.patterns }
         ensures value { result ≡ derived_trip self.now pattern start }
@@ -259,8 +261,8 @@ impl Plan {
         }
     }
 
-    /// The trips of that route and direction whose first place is left at that time, in seconds, by rising
-    /// numbers.
+    /// The trips of that route and direction whose first place is left at that time, in seconds, by
+    /// rising numbers.
     pub fn departing(&self, route: u32, direction: u32, departure: u32) -> &[u32]
         ensures { result.now
             ≡ filter (departs_so self.now route direction departure)
@@ -335,7 +337,8 @@ impl Plan {
         self.dates[day as usize]
     }
 
-    /// The instant from which the times of a day of the window are counted, in seconds of the Unix epoch.
+    /// The instant from which the times of a day of the window are counted, in seconds of the Unix
+    /// epoch.
     pub fn base(&self, day: u32) -> i64
         requires { day < length self.now.bases }
         ensures value { slice_get self.now.bases day ≡ Some result }

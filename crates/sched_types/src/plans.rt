@@ -25,12 +25,13 @@ pub struct NamedFeed {
     pub name: PlanName,
     /// The number of its timetable, from 0 in the order in which they were given.
     pub plan: u32,
-    /// How many seconds after its stamp an update or an alert of the feed still counts, 0 to 31622400; 0 for no end.
+    /// How many seconds after its stamp an update or an alert of the feed still counts, 0 to
+    /// 31622400; 0 for no end.
     pub max_age: u64,
 }
 
-/// The timetables and the feeds of one hub. They are numbered from 0 in the order in which they were
-/// given.
+/// The timetables and the feeds of one hub. They are numbered from 0 in the order in which they
+/// were given.
 #[derive(Drop)]
 pub struct Plans {
     plans: Vec<NamedPlan>,
@@ -49,8 +50,8 @@ impl Model for Plans {
 }
 
 impl Plans {
-    /// Those timetables and feeds: up to 8 and up to 64, with distinct names of 1 to 32 of a to z, 0 to
-    /// 9 and `_`, and each feed with the number of a timetable.
+    /// Those timetables and feeds: up to 8 and up to 64, with distinct names of 1 to 32 of a to z,
+    /// 0 to 9 and `_`, and each feed with the number of a timetable.
     pub fn new(plans: Vec<NamedPlan>, feeds: Vec<NamedFeed>) -> Plans
         requires { AreSchedules (record { plans = plans.items; feeds = feeds.items }) }
         ensures { result ≡ record { plans = plans.items; feeds = feeds.items } }
@@ -72,10 +73,12 @@ impl Plans {
         self.feeds.as_slice()
     }
 
-    /// How many seconds after its stamp an update or an alert of the feed of that number still counts; 0 for no end.
+    /// How many seconds after its stamp an update or an alert of the feed of that number still
+    /// counts; 0 for no end.
     pub fn max_age(&self, feed: u32) -> u64
         requires { feed < length self.now.feeds }
-        ensures { option_map (λ named. named.max_age) (slice_get self.now.feeds feed) ≡ Some result }
+        ensures { option_map (λ named. named.max_age) (slice_get self.now.feeds feed)
+            ≡ Some result }
     {
         self.feeds()[feed as usize].max_age
     }

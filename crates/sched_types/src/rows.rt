@@ -42,8 +42,8 @@ pub struct Trip {
     pub direction: Option<u32>,
 }
 
-/// A row of stop_times.txt: a place of a trip. Times are seconds since noon less twelve hours of the
-/// service day, and may pass 24 hours (GTFS Schedule, "Field Types", Time).
+/// A row of stop_times.txt: a place of a trip. Times are seconds since noon less twelve hours of
+/// the service day, and may pass 24 hours (GTFS Schedule, "Field Types", Time).
 #[derive(Clone, Copy, Debug, PartialEq, Eq)]
 pub struct Place {
     /// The number of its stop.
@@ -107,7 +107,8 @@ pub struct PlanParts {
     /// For each day of the window the instant from which its times are counted, in seconds of the
     /// Unix epoch.
     pub bases: Vec<i64>,
-    /// The trips that frequencies.txt names, in byte order of their ids. They aren't among the trips.
+    /// The trips that frequencies.txt names, in byte order of their ids. They aren't among the
+    /// trips.
     pub patterns: Vec<PlanPattern>,
     /// The trips that it derives of them, by the number of the pattern and then by the start.
     pub derived: Vec<PlanDerived>,
@@ -124,7 +125,8 @@ pub struct Counts {
     pub routes: u32,
     /// The rows of trips.txt, patterns among them and derived trips not.
     pub trips: u32,
-    /// The rows of stop_times.txt, of which those of patterns count and those of derived trips don't.
+    /// The rows of stop_times.txt, of which those of patterns count and those of derived trips
+    /// don't.
     pub times: u32,
     /// The days of the window.
     pub days: u32,

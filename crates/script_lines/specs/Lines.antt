@@ -42,8 +42,8 @@ abbrev pub Lacks : {A : Type 0} → Option A → LineFault → Type 0
 Lacks defined NotALine = defined ≡ None
 Lacks defined NoMemory = ⊤
 
--- what a line asks may be asked: of a board or of alerts the moment, the span and the number of rows are in
--- range, and of a connection the moment
+-- what a line asks may be asked: of a board or of alerts the moment, the span and the number of
+-- rows are in range, and of a connection the moment
 abbrev pub MayAsk : ScriptHead → Type 0
 MayAsk (AskLine question) = IsAsked question
 MayAsk (FeedLine name) = ⊤

@@ -1,9 +1,9 @@
 //! The lines of a script of `hub replay`: what comes in, and the lines that answer a message.
 //!
 //! A [`Window`] holds the bytes of a script that were read and not yet used, whatever pieces the
-//! input comes in. [`line_end`] finds the line in front of some bytes, and [`parse_line`] says which
-//! record it is, by the definitions of `hub_replay_defs`. [`reply_line`] is the line that says how
-//! an offered message was taken.
+//! input comes in. [`line_end`] finds the line in front of some bytes, and [`parse_line`] says
+//! which record it is, by the definitions of `hub_replay_defs`. [`reply_line`] is the line that
+//! says how an offered message was taken.
 //!
 //! What the layer above may rely on:
 //! - a line is told exactly as defined, with its numbers in range, or it is no record;

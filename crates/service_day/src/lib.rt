@@ -1,5 +1,5 @@
-//! Service days: on which days a service of a timetable runs, and the instant from which the times of
-//! such a day are counted in the agency's time zone.
+//! Service days: on which days a service of a timetable runs, and the instant from which the times
+//! of such a day are counted in the agency's time zone.
 //!
 //! It promises to the layer above that `active` and `base` are functions that its contracts name
 //! (`specs/Service.antt` and `specs/Zone.antt`): the words of GTFS Schedule over the Gregorian

@@ -10,7 +10,8 @@ use texts::weekday;
 pub struct Exception {
     /// The day, as the number of its eight digits YYYYMMDD.
     pub date: u32,
-    /// The exception_type: 1 adds the service on that day, and 2 removes it, as any other number does.
+    /// The exception_type: 1 adds the service on that day, and 2 removes it, as any other number
+    /// does.
     pub kind: u8,
 }
 

@@ -61,8 +61,8 @@ pub fn read_zone(text: &str) -> Result<Zone, ZoneFault>
 /// 12:00:00 on that date in the zone less twelve hours (GTFS Schedule, "Field Types", Time). Where
 /// the clock skips noon or shows it twice, the offset before the change counts.
 ///
-/// The date is a valid day up to the year 3001. It takes no memory, so it always succeeds. The instant is
-/// less than a trillion seconds before 1970 and at most as many behind it.
+/// The date is a valid day up to the year 3001. It takes no memory, so it always succeeds. The
+/// instant is less than a trillion seconds before 1970 and at most as many behind it.
 #[tactic(auto, unfolding(text_defs::specs::Dates::is_day))]
 pub fn base(zone: &Zone, date: u32) -> Result<i64, NoMemory>
     requires valid { IsTrue (is_day date) }

@@ -23,12 +23,6 @@ pub record IsCut {X : Type 0} (all left : List X) (pieces : List (Vec X Global))
   pub whole : left ++ pieces_items (reverse pieces) ≡ all
   pub filled : AreFilled (reverse pieces)
 
-pub cut_begins : {X : Type 0} (all left : List X) (pieces : List (Vec X Global)) → left ≡ all → pieces ≡ [] → IsCut all left pieces
-cut_begins all left pieces same none = record {
-  whole = ap (λ ps. left ++ pieces_items (reverse ps)) none ∙ append-nil left ∙ same;
-  filled = subst (λ ps. AreFilled (reverse ps)) (sym none) tt;
-}
-
 pub cut_goes_on : {X : Type 0} (all left kept : List X) (at : ℕ) (piece : Vec X Global) (pieces more : List (Vec X Global)) → IsCut all left pieces → at < length left → kept ≡ take at left → piece.items ≡ drop at left → more ≡ pieces ++ piece ∷ [] → IsCut all kept more
 cut_goes_on all left kept at piece pieces more so_far less front back pushed = record {
   whole =
@@ -47,9 +41,6 @@ cut_goes_on all left kept at piece pieces more so_far less front back pushed = r
 
     some : 0 < length piece.items
     some = let long = ap length back ∙ length-drop at left in omega (arith, long, less)
-
-pub cut_ends : {X : Type 0} (all left : List X) (pieces turned : List (Vec X Global)) → IsCut all left pieces → left ≡ [] → turned ≡ reverse pieces → pieces_items turned ≡ all
-cut_ends all left pieces turned so_far none is = ap pieces_items is ∙ ap (λ xs. xs ++ pieces_items (reverse pieces)) (sym none) ∙ so_far.whole
 
 -- ---- parts that are made of pieces, one of each
 

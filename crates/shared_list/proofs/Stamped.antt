@@ -1,14 +1,12 @@
 -- Stamps of items after a change, and what is newer than a stamp.
 use Rattle.std.proofs.Common.{◌≡◌, ℕ, zero, suc, ◌+◌, ◌<◌, ◌≤◌, List, [], ◌∷◌, ◌++◌, Bool, true, false, cond, not, length, take, get_or, refl, sym, ap, ◌∙◌, subst, arith}
-use Rattle.std.specs.Prelude.{ltb}
 use Rattle.std.specs.List.{AllByRecursion}
 use Rattle.std.specs.Ordering.{eq_by_cmp}
 use Rattle.std.specs.declared.cmp.Ordering.{Ordering}
 use Rattle.std.specs.FinMap.{put}
 use Rattle.std.specs.FinMap.Entries.{by_order}
 use Rattle.std.proofs.Common.{Less, Equal, Greater}
-use Rattle.std.proofs.lemmas.Bool.{lt-ltb, le-ltb}
-use Rattle.std.proofs.lemmas.List.Elements.{filter-append}
+use Rattle.std.proofs.lemmas.Bool.{le-ltb}
 use Rattle.std.specs.declared.sync.Arc.{Arc}
 use Rattle.std.specs.declared.alloc.Global.{Global}
 use Rattle.shared_list.specs.Order.{entries, without}
@@ -85,9 +83,6 @@ module _ {X : Type 0} (stamp : X → ℕ) where
 
   -- ---- what is newer than a stamp
 
-  pub newer_first : (than : ℕ) (x : X) (xs : List X) → than < stamp x → newer stamp than (x ∷ xs) ≡ x ∷ newer stamp than xs
-  newer_first than x xs above = ap (λ b. cond b (x ∷ newer stamp than xs) (newer stamp than xs)) (lt-ltb than (stamp x) above)
-
   pub newer_passed : (than : ℕ) (x : X) (xs : List X) → stamp x ≤ than → newer stamp than (x ∷ xs) ≡ newer stamp than xs
   newer_passed than x xs below = ap (λ b. cond b (x ∷ newer stamp than xs) (newer stamp than xs)) (le-ltb than (stamp x) below)
 
@@ -96,31 +91,7 @@ module _ {X : Type 0} (stamp : X → ℕ) where
   none_newer n than [] none less = refl
   none_newer n than (x ∷ xs) none less = newer_passed than x xs (omega (arith, none.0)) ∙ none_newer n than xs none.1 less
 
-  -- what stands in front has none, or the first
-  pub newer_behind : (than : ℕ) (front back : List X) → newer stamp than front ≡ [] → newer stamp than (front ++ back) ≡ newer stamp than back
-  newer_behind than front back none =
-      filter-append (λ x. ltb than (stamp x)) front back ∙ ap (λ xs. xs ++ newer stamp than back) none
-
-  pub newer_in_front : (than : ℕ) (front back rest : List X) (x : X) → newer stamp than front ≡ x ∷ newer stamp than rest → newer stamp than (front ++ back) ≡ x ∷ newer stamp than (rest ++ back)
-  newer_in_front than front back rest x first =
-      filter-append (λ y. ltb than (stamp y)) front back
-      ∙ ap (λ xs. xs ++ newer stamp than back) first
-      ∙ ap (λ xs. x ∷ xs) (sym (filter-append (λ y. ltb than (stamp y)) rest back))
-
   -- what is newer in parts is in those that are left, which are sound
   pub record NewerLeft {P : Type 0} (items : P → List X) (sound : P → Type 0) (than : ℕ) (left all : List (Arc P Global)) : Type 0 where
     pub same : newer stamp than (items_in items left) ≡ newer stamp than (items_in items all)
     pub sound_left : AreSound items sound left
-
-  module _ {P : Type 0} (items : P → List X) (sound : P → Type 0) (than : ℕ) where
-    pub part_passed : (left rest all : List (Arc P Global)) (part : Arc P Global) → NewerLeft items sound than left all → left ≡ part ∷ rest → newer stamp than (items part.value) ≡ [] → NewerLeft items sound than rest all
-    part_passed left rest all part so_far first none = record {
-      same = sym (ap (λ parts. newer stamp than (items_in items parts)) first ∙ newer_behind than (items part.value) (items_in items rest) none) ∙ so_far.same;
-      sound_left = (subst (λ parts. AreSound items sound parts) first so_far.sound_left).1;
-    }
-
-    pub part_has : (left rest all : List (Arc P Global)) (part : Arc P Global) (x : X) (xs : List X) → NewerLeft items sound than left all → left ≡ part ∷ rest → newer stamp than (items part.value) ≡ x ∷ newer stamp than xs → newer stamp than (items_in items all) ≡ x ∷ newer stamp than (xs ++ items_in items rest)
-    part_has left rest all part x xs so_far first found =
-        sym so_far.same
-        ∙ ap (λ parts. newer stamp than (items_in items parts)) first
-        ∙ newer_in_front than (items part.value) (items_in items rest) xs x found

@@ -38,7 +38,8 @@ pub first_leads : {P X : Type 0} (items : P → List X) (sound : P → Type 0) (
     → Ordering) (item_order : X → Ordering) → ((part : P) → sound part
     → part_order part ≡ at_first item_order (items part)) → (shares : List (Arc P Global))
     → AreSound items sound shares
-    → at_first (λ share. part_order share.value) shares ≡ at_first item_order (items_in items shares)
+    → at_first (λ share. part_order share.value) shares
+    ≡ at_first item_order (items_in items shares)
 first_leads items sound part_order item_order leads [] are = refl
 first_leads {P} {X} items sound part_order item_order leads (share ∷ shares) are =
     leads share.value are.0.0 ∙ before (items share.value) (items_in items shares) are.0.1

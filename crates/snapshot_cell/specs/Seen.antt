@@ -11,8 +11,8 @@ use Rattle.snapshot_cell.specs.declared.shown.View.{View}
 use Rattle.snapshot_cell.specs.declared.glance.Glance.{Glance}
 use Rattle.snapshot_cell.specs.declared.glance.Glance.TheVariants.{Found, Behind, NoMemory}
 
--- a pass: what it knows of the history, how often it looked, the view that it shows, and whether that
--- is one that a look found
+-- a pass: what it knows of the history, how often it looked, the view that it shows, and whether
+-- that is one that a look found
 pub record PassSeen : Type 0 where
   pub line : Told
   pub reads : ℕ
@@ -52,8 +52,8 @@ pub record Publishes (shown : Shown) (line : Told) : Type 0 where
 
 -- ---- looks
 
--- what a look at the copies finds: a history that goes on from the line, with a view that stands for
--- it; or one that is behind the line; or no memory
+-- what a look at the copies finds: a history that goes on from the line, with a view that stands
+-- for it; or one that is behind the line; or no memory
 abbrev pub Glances : View → View → Told → Glance → Type 0
 Glances v w line (Found found view) =
     (w ≡ record v { reads = v.reads + 1 }) × IsPrefix line.log found.log × AreOne found line

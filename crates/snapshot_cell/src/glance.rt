@@ -29,7 +29,8 @@ pub(crate) enum Glance {
 
 /// Looks once, on from what is known.
 pub(crate) fn look_once(reader: SnapReader, line: &Line) -> (SnapReader, Glance)
-    requires { (client_view reader.place).knows ≡ true × AreOne (client_view reader.place).line line.now }
+    requires { (client_view reader.place).knows ≡ true
+        × AreOne (client_view reader.place).line line.now }
     ensures { Glances (client_view reader.place) (client_view result.0.place) line.now result.1 }
 {
     match enter::<Brand>(reader, line) {
@@ -74,7 +75,8 @@ fn found_in(shown: &Shown, line: &Line) -> Glance
 /// Looks until what is found is not behind what is known. The first look does: whoever knows of a
 /// message learned it behind the step that showed it.
 pub(crate) fn look_on(reader: SnapReader, line: &Line) -> (SnapReader, Glance)
-    requires { (client_view reader.place).knows ≡ true × AreOne (client_view reader.place).line line.now }
+    requires { (client_view reader.place).knows ≡ true
+        × AreOne (client_view reader.place).line line.now }
     ensures { Glances (client_view reader.place) (client_view result.0.place) line.now result.1 }
 {
     let mut place = reader;

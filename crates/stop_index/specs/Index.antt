@@ -10,7 +10,8 @@ use Rattle.stop_index.specs.declared.trip_departure.TripDeparture.{TripDeparture
 use Rattle.sched_types.specs.Runs.{departures_of}
 use Rattle.stop_index.specs.Slots.{is_at}
 
--- for each stop its departures, on whatever day, and whether no day begins later than the day after it
+-- for each stop its departures, on whatever day, and whether no day begins later than the day after
+-- it
 pub record Index : Type 0 where
   pub departures : List (List TripDeparture)
   pub days_rise : Bool

@@ -14,8 +14,9 @@ use Rattle.stop_index.specs.declared.slot.Slot.{Slot}
 abbrev pub is_at : ℕ → ℕ × Place → Bool
 is_at stop numbered = numbered.1.stop == stop
 
--- The departure of a run from a numbered place: at the instant from which the times of its day are counted,
--- plus the time of departure (GTFS Schedule, stop_times.txt, departure_time; "Field Types", Time).
+-- The departure of a run from a numbered place: at the instant from which the times of its day are
+-- counted, plus the time of departure (GTFS Schedule, stop_times.txt, departure_time; "Field
+-- Types", Time).
 abbrev pub slot_of : Timetable → Run → ℕ × Place → Slot
 slot_of t run numbered = record {
   at = base_of t run.day +ℤ pos numbered.1.departure;

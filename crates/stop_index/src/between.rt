@@ -12,8 +12,8 @@ use crate::trip_departure::TripDeparture;
 use sched_types::Plan;
 use std::marker::Model;
 
-/// Departures at a stop, in order of the instant, the trip, the day and the place. A contract sees the list of
-/// those that are left.
+/// Departures at a stop, in order of the instant, the trip, the day and the place. A contract sees
+/// the list of those that are left.
 #[derive(Drop)]
 pub struct Between<'a> {
     plan: &'a Plan,
@@ -53,7 +53,8 @@ impl<'a> Between<'a> {
     ) -> Between<'a>
         requires are { AreDepartures departures.now }
         requires rise { days_rise ≡ days_are_rising plan.now }
-        ensures { result ≡ slots_left plan.entry.now departures.entry.now (Reached.Instant start) end }
+        ensures { result ≡ slots_left plan.entry.now departures.entry.now
+            (Reached.Instant start) end }
     {
         let reached = Reached::Instant(start);
         let stand = stand_at(plan, departures, days_rise, 0, plan.days(), reached, end);

@@ -61,7 +61,8 @@ fn days_before(plan: &Plan, longest: u32, instant: i64) -> u32
     low
 }
 
-/// A day before which no departure is to come: the given one, or a later one where that one is over.
+/// A day before which no departure is to come: the given one, or a later one where that one is
+/// over.
 pub(crate) fn first_day_left(
     plan: &Plan,
     departures: &[TripDeparture],

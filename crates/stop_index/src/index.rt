@@ -13,7 +13,8 @@ use sched_types::Plan;
 use std::alloc::Global;
 use std::marker::Model;
 
-/// The departures of a timetable by their stops. A contract sees what it keeps (`Index`), which is all of it.
+/// The departures of a timetable by their stops. A contract sees what it keeps (`Index`), which is
+/// all of it.
 #[derive(Drop)]
 pub struct StopIndex {
     lists: FlatLists,
@@ -40,9 +41,10 @@ impl StopIndex {
         })
     }
 
-    /// The departures of the timetable's runs at that very stop from `start` on, and before `end`, both in
-    /// seconds of the Unix epoch: each once, by the instant, the trip, the day and the place. There is none at
-    /// a stop past the last. It takes no memory. The index must be that of this timetable.
+    /// The departures of the timetable's runs at that very stop from `start` on, and before `end`,
+    /// both in seconds of the Unix epoch: each once, by the instant, the trip, the day and the
+    /// place. There is none at a stop past the last. It takes no memory. The index must be that of
+    /// this timetable.
     pub fn between<'a>(&'a self, plan: &'a Plan, stop: u32, start: i64, end: i64) -> Between<'a>
         requires { self.now ≡ index_of plan.now }
         ensures { result ≡ slots_between plan.entry.now stop start end }

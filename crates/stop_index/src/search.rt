@@ -31,7 +31,8 @@ pub(crate) fn ahead_on<'a>(
     &departures[first..]
 }
 
-/// The first departure of a run of the day, and those after it; none if it doesn't leave before `end`.
+/// The first departure of a run of the day, and those after it; none if it doesn't leave before
+/// `end`.
 pub(crate) fn first_run<'a>(
     plan: &Plan,
     departures: &'a [TripDeparture],
@@ -41,7 +42,8 @@ pub(crate) fn first_run<'a>(
 ) -> Option<(Slot, &'a [TripDeparture])>
     requires sorted { IsSorted departure_cmp departures.now }
     requires small { IsSmall base }
-    ensures first { option_map (λ found. found.0) result ≡ soonest plan.now base day end departures.now }
+    ensures first { option_map (λ found. found.0) result
+        ≡ soonest plan.now base day end departures.now }
     ensures rest { IfSome result (λ found. slots_from plan.now base day departures.now
         ≡ found.0 ∷ slots_from plan.now base day found.1.now) }
     ensures in_order { IfSome result (λ found. IsSorted departure_cmp found.1.now) }
@@ -91,7 +93,8 @@ fn first_on_other(
     requires sorted { IsSorted departure_cmp departures.now }
     requires day { day < length plan.now.bases }
     ensures { result
-        ≡ slice_get (filter (is_left reached.now end) (others_on plan.now departures.now apart day)) 0 }
+        ≡ slice_get (filter (is_left reached.now end)
+        (others_on plan.now departures.now apart day)) 0 }
 {
     if day == apart {
         None
@@ -117,8 +120,8 @@ fn earlier(best: Option<Slot>, found: Option<Slot>) -> Option<Slot>
     }
 }
 
-/// Before which instant a departure has to leave to be the first of all: one that leaves after the best so
-/// far is none.
+/// Before which instant a departure has to leave to be the first of all: one that leaves after the
+/// best so far is none.
 pub(crate) fn until(best: &Option<Slot>, end: i64) -> i64
     requires { IfSome best.now (λ slot. slot.at <ℤ end) }
     ensures { result ≡ until_of best.now end }

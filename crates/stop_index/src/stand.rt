@@ -31,7 +31,8 @@ pub(crate) struct Stand<'a> {
     pub(crate) other: Option<Slot>,
 }
 
-/// The departures that are still to come on a day, and from when its times are counted; none past the last day.
+/// The departures that are still to come on a day, and from when its times are counted; none past
+/// the last day.
 fn day_ahead<'a>(
     plan: &Plan,
     departures: &'a [TripDeparture],
@@ -88,8 +89,8 @@ fn is_earlier(slot: &Slot, other: &Option<Slot>) -> bool
     }
 }
 
-/// The first departure of the day at which an iterator stands, and those after it, where it goes before those of all
-/// other days.
+/// The first departure of the day at which an iterator stands, and those after it, where it goes
+/// before those of all other days.
 pub(crate) fn first_here<'a>(
     plan: &Plan,
     stand: &Stand<'a>,

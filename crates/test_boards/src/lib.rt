@@ -28,3 +28,5 @@ mod feeds;
 mod lists;
 #[cfg(test)]
 mod states;
+#[cfg(test)]
+mod whole;

@@ -1,4 +1,5 @@
-//! What a listener tells of connections that can't be accepted, over the loopback, at given moments.
+//! What a listener tells of connections that can't be accepted, over the loopback, at given
+//! moments.
 
 use crate::system::{errors_beside, told};
 use hub_outside::{Door, DoorAnswer, TcpDoor};
@@ -12,7 +13,8 @@ use std::test::Fail;
 use std::time::Duration;
 use std::{io, rt};
 
-/// A clock that shows these moments, one a reading, and then the start. Who has it may wait where `R` may.
+/// A clock that shows these moments, one a reading, and then the start. Who has it may wait where
+/// `R` may.
 #[derive(Drop)]
 struct Moments<R> {
     system: R,
@@ -58,8 +60,8 @@ impl OpenListener for Flaky {
     }
 }
 
-/// Whether the next call of a door hands out a link, over a listener of which the first calls fail so, at these moments,
-/// where a client waits; and what is told of it.
+/// Whether the next call of a door hands out a link, over a listener of which the first calls fail
+/// so, at these moments, where a client waits; and what is told of it.
 fn told_by_door<R>(
     rt: &R,
     alloc: Global,
@@ -95,7 +97,8 @@ where
     Ok((is_linked, told(alloc, errors)?))
 }
 
-/// The first is told at once, and those of a minute by one line, with how many they are and the cause of the last.
+/// The first is told at once, and those of a minute by one line, with how many they are and the
+/// cause of the last.
 #[test]
 fn what_passes_is_told_and_waited_for(rt: HostRuntime) -> Result<(), Fail> {
     let alloc = rt.alloc();

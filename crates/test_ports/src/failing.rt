@@ -21,8 +21,8 @@ fn bytes_of(line: &Option<Vec<u8>>) -> &[u8] {
     }
 }
 
-/// The first is told at once, and those of a minute by one line, with the cause of the last; that the
-/// listener itself has failed is told whatever was told before.
+/// The first is told at once, and those of a minute by one line, with the cause of the last; that
+/// the listener itself has failed is told whatever was told before.
 #[test]
 fn connections_that_are_not_accepted_are_told(rt: HostRuntime) -> Result<(), Fail> {
     let alloc = rt.alloc();

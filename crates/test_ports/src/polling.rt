@@ -174,8 +174,8 @@ fn what_is_wrong_with_a_reply_is_heard(rt: HostRuntime) -> Result<(), Fail> {
     Ok(())
 }
 
-/// What is heard by one call of a port over a 404, a link whose source fails, and one that ends at once, of which it
-/// may try each.
+/// What is heard by one call of a port over a 404, a link whose source fails, and one that ends at
+/// once, of which it may try each.
 fn three_faults(alloc: Global) -> Result<Noted, NoMemory> {
     let first = link(alloc, b"HTTP/1.0 404 Not Found\r\n\r\n")?;
     let second = MemoryLink {

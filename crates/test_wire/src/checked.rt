@@ -1,4 +1,5 @@
-//! A whole message with its bytes, with ample memory. Refused ones are offered by scripts, in `test_program`.
+//! A whole message with its bytes, with ample memory. Refused ones are offered by scripts, in
+//! `test_program`.
 
 use hub_core::{Refusal, check};
 

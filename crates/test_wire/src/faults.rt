@@ -1,4 +1,5 @@
-//! Messages and faults from outside: bytes written by hand after the encoding guide of Protocol Buffers.
+//! Messages and faults from outside: bytes written by hand after the encoding guide of Protocol
+//! Buffers.
 
 use feed_read::{NoMemory, ReadFault, read_message};
 use pb_wire::write_field;
@@ -9,7 +10,8 @@ use std::test::Fail;
 /// A header with the version 2.0, FULL_DATASET and the stamp 5, as a field of a message.
 const HEADER: &[u8] = &[0x0a, 9, 0x0a, 3, 0x32, 0x2e, 0x30, 0x10, 0, 0x18, 5];
 
-/// The way to a message from outside to inside: the number of each field on it, and what stands before that field.
+/// The way to a message from outside to inside: the number of each field on it, and what stands
+/// before that field.
 type Path = &'static [(u32, &'static [u8])];
 
 const TRIP_UPDATE: Path = &[(2, HEADER), (3, b"\x0a\x01a")];
@@ -94,7 +96,8 @@ fn merges_headers(rt: HostRuntime) -> Result<(), Fail> {
     Ok(())
 }
 
-/// The version's first occurrence isn't UTF-8, but its last one is; the enum's number names no value.
+/// The version's first occurrence isn't UTF-8, but its last one is; the enum's number names no
+/// value.
 #[test]
 fn keeps_what_it_does_not_know(rt: HostRuntime) -> Result<(), Fail> {
     let message = read_message(
@@ -143,8 +146,8 @@ fn reads_negative_numbers(rt: HostRuntime) -> Result<(), Fail> {
 #[test]
 fn tells_faults_of_the_wire(rt: HostRuntime) -> Result<(), Fail> {
     let cases: [(&[u8], What); 11] = [
-        // A varint without its last byte, a run past the end, four bytes of which one is missing, a group
-        // without its end, and one that is cut inside.
+        // A varint without its last byte, a run past the end, four bytes of which one is missing, a
+        // group without its end, and one that is cut inside.
         (&[8], What::Cut),
         (&[0x22, 2, 0x61], What::Cut),
         (&[0x25, 1, 2, 3], What::Cut),
@@ -154,7 +157,8 @@ fn tells_faults_of_the_wire(rt: HostRuntime) -> Result<(), Fail> {
         (&[0, 1], What::Tag),
         (&[0x0e], What::Tag),
         (&[0x80, 0x80, 0x80, 0x80, 0x10], What::Tag),
-        // Ten bytes with the high bit, the end of a group that isn't open, and of another than is open.
+        // Ten bytes with the high bit, the end of a group that isn't open, and of another than is
+        // open.
         (&[0xff; 10], What::Varint),
         (&[0x4c], What::Group),
         (&[0x4b, 0x54], What::Group),
@@ -189,7 +193,8 @@ fn tells_wire_faults_first(rt: HostRuntime) -> Result<(), Fail> {
     Ok(())
 }
 
-/// The fields are judged by rising number, wherever they stand; of a text its last occurrence alone.
+/// The fields are judged by rising number, wherever they stand; of a text its last occurrence
+/// alone.
 #[test]
 fn tells_texts_by_number(rt: HostRuntime) -> Result<(), Fail> {
     let cases: [(Path, &[u8], Option<(Kind, u32)>); 4] = [
@@ -265,7 +270,8 @@ fn tells_missing_fields_last(rt: HostRuntime) -> Result<(), Fail> {
     Ok(())
 }
 
-/// A header that is missing comes after the entities' faults. A field 2 that is a number is no entity.
+/// A header that is missing comes after the entities' faults. A field 2 that is a number is no
+/// entity.
 #[test]
 fn tells_faults_of_entities(rt: HostRuntime) {
     let cases: [(&[u8], Fault); 4] = [

@@ -1,5 +1,5 @@
--- Days of the Gregorian calendar as GTFS Schedule writes them, "Field Types", Date: the number of eight
--- digits YYYYMMDD. The calendar is carried back to the year 0, as ISO 8601 does.
+-- Days of the Gregorian calendar as GTFS Schedule writes them, "Field Types", Date: the number of
+-- eight digits YYYYMMDD. The calendar is carried back to the year 0, as ISO 8601 does.
 use Rattle.std.specs.Prelude.{ℕ, zero, suc, ◌+◌, ◌-◌, ◌*◌, ◌/◌, ◌%◌, Bool, not, ◌&&◌, ◌||◌, ◌==◌, nat_le, nat_lt, List, [], ◌∷◌, if◌then◌else◌, slice_index, ℤ, pos, ◌-ℤ◌, Option, Some, None}
 use Rattle.std.specs.Option.{option_and_then}
 use Rattle.text_defs.specs.Numbers.{digits}
@@ -24,7 +24,8 @@ date_of year month day = year * 10_000 + month * 100 + day
 abbrev pub is_leap_year : ℕ → Bool
 is_leap_year year = (year % 4 == 0) && (not (year % 100 == 0) || (year % 400 == 0))
 
--- thirty days have September, April, June and November, February has 28 or 29, and the others have 31
+-- thirty days have September, April, June and November, February has 28 or 29, and the others have
+-- 31
 abbrev pub days_in_month : ℕ → ℕ → ℕ
 days_in_month year month =
     if month == 2 then (if is_leap_year year then 29 else 28)

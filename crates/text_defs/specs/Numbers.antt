@@ -3,7 +3,8 @@ use Rattle.std.specs.Prelude.{ℕ, ◌+◌, ◌-◌, ◌*◌, ◌&&◌, nat_le, 
 use Rattle.std.specs.Char.{is_ascii_digit}
 use Rattle.std.specs.Option.{option_and_then}
 
--- the number that decimal digits write behind those of the number `value`; none where a byte is no digit
+-- the number that decimal digits write behind those of the number `value`; none where a byte is no
+-- digit
 abbrev pub digits_after : ℕ → List ℕ → Option ℕ
 digits_after value [] = Some value
 digits_after value (b ∷ bytes) =

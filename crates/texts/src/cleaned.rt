@@ -5,8 +5,8 @@ ghost use Rattle.text_defs.specs.Cleaned.{cleaned_text};
 
 use std::alloc::AllocError;
 
-/// Appends the text with a space in place of each control character (bytes below 32, and 127), or as many
-/// bytes of it as memory allows.
+/// Appends the text with a space in place of each control character (bytes below 32, and 127), or
+/// as many bytes of it as memory allows.
 pub fn push_cleaned(text: &[u8], line: &mut Vec<u8>) -> Result<(), AllocError>
     ensures { OnOk result (line.new.items ≡ line.old.items ++ cleaned_text text.now) }
 {

@@ -119,8 +119,8 @@ pub fn date_plus(first: u32, days: u32) -> u32
     date
 }
 
-/// The date that eight digits YYYYMMDD write, where it is a day of the Gregorian calendar of the years 0 to
-/// 9999 (GTFS Schedule, "Field Types", Date).
+/// The date that eight digits YYYYMMDD write, where it is a day of the Gregorian calendar of the
+/// years 0 to 9999 (GTFS Schedule, "Field Types", Date).
 #[tactic(auto, unfolding(text_defs::specs::Dates::date_in))]
 pub fn read_date(bytes: &[u8]) -> Option<u32>
     ensures value { result ≡ calendar.date_in bytes.now }

@@ -1,8 +1,9 @@
-//! Short texts: numbers, dates, times and names read, foreign texts cleaned, and texts kept in place.
+//! Short texts: numbers, dates, times and names read, foreign texts cleaned, and texts kept in
+//! place.
 //!
-//! Each call answers what `text_defs` says of its bytes, and none but those that append or keep a text takes
-//! memory. `ShortText` is seen by contracts as its list of bytes; ids, names and cells of timetables and the
-//! texts of messages are such texts.
+//! Each call answers what `text_defs` says of its bytes, and none but those that append or keep a
+//! text takes memory. `ShortText` is seen by contracts as its list of bytes; ids, names and cells
+//! of timetables and the texts of messages are such texts.
 //!
 //! It stands on `text_defs` and on `copying`, and on the crate `smallvec`.
 #![tactic(auto)]

@@ -5,7 +5,8 @@ ghost use Rattle.text_defs.specs.Moments.{is_stamp, is_instant};
 
 use crate::LAST_MOMENT;
 
-/// Whether a stamp is a moment, in seconds since 1970: from the first second on, up to the end of the year 9999.
+/// Whether a stamp is a moment, in seconds since 1970: from the first second on, up to the end of
+/// the year 9999.
 pub fn is_stamp(stamp: u64) -> bool
     ensures { result ≡ is_stamp stamp }
 {

@@ -46,8 +46,8 @@ fn read_clock(hours: &[u8], behind: &[u8]) -> Option<u32>
     Some(hours * 3600 + minutes * 60 + seconds)
 }
 
-/// A time H:MM:SS, HH:MM:SS or HHH:MM:SS in seconds, of which the hours may pass a day (GTFS Schedule,
-/// "Field Types", Time).
+/// A time H:MM:SS, HH:MM:SS or HHH:MM:SS in seconds, of which the hours may pass a day (GTFS
+/// Schedule, "Field Types", Time).
 #[tactic(auto, unfolding(text_defs::specs::Times::time_in))]
 pub fn read_time(bytes: &[u8]) -> Option<u32>
     ensures { result ≡ time_in bytes.now }

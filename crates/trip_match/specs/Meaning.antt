@@ -1,4 +1,5 @@
--- What looking up the trip that a trip_id means tells of the rule of patterns and of the two after it.
+-- What looking up the trip that a trip_id means tells of the rule of patterns and of the two after
+-- it.
 use Rattle.std.specs.Prelude.{◌≡◌, ℕ, ℤ, Option, Some, None, List, Result, Ok, Err}
 use Rattle.sched_types.specs.Timetable.{Timetable}
 use Rattle.trip_match_defs.specs.declared.found.Found.{Found}

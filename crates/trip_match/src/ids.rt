@@ -50,8 +50,9 @@ fn started(plan: &Plan, pattern: u32, time: &Option<Text>) -> Result<u32, Why>
     }
 }
 
-/// The trip that a trip_id means: where it names a pattern, the one that starts at the start_time, and else the
-/// one with that id, which is looked for near the given trip first; or why none is meant.
+/// The trip that a trip_id means: where it names a pattern, the one that starts at the start_time,
+/// and else the one with that id, which is looked for near the given trip first; or why none is
+/// meant.
 fn trip_meant(plan: &Plan, id: &str, time: &Option<Text>, near: Option<u32>) -> Result<u32, Why>
     ensures meant { IsMeant plan.now id.now (text_given time.now) result }
     ensures within { IfOk result (λ trip. trip < length plan.now.trips) }
@@ -62,8 +63,8 @@ fn trip_meant(plan: &Plan, id: &str, time: &Option<Text>, near: Option<u32>) -> 
     }
 }
 
-/// The run of the trip that the id and the time mean on that date, or without a date on the nearest day. The trip is looked
-/// for near the given one first.
+/// The run of the trip that the id and the time mean on that date, or without a date on the nearest
+/// day. The trip is looked for near the given one first.
 pub(crate) fn by_id(
     plan: &Plan,
     id: &str,

@@ -73,16 +73,16 @@ fn scheduled(plan: &Plan, trip: &TripRef, date: Option<u32>, stamp: u64, near: O
     }
 }
 
-/// What a trip descriptor is about at an instant, in seconds since 1970: that of the update or message in which
-/// it stands (GTFS Realtime, TripDescriptor).
+/// What a trip descriptor is about at an instant, in seconds since 1970: that of the update or
+/// message in which it stands (GTFS Realtime, TripDescriptor).
 pub fn find(plan: &Plan, trip: &TripRef, stamp: u64) -> Found
     ensures { result ≡ match_of plan.now trip.now stamp }
 {
     find_near(plan, trip, stamp, None)
 }
 
-/// What [`find`] gives. The trip that a trip_id means is looked for among the few from the given one on first, whatever
-/// number that is.
+/// What [`find`] gives. The trip that a trip_id means is looked for among the few from the given
+/// one on first, whatever number that is.
 #[tactic(auto, unfolding(trip_match_defs::specs::Matching::match_of))]
 pub fn find_near(plan: &Plan, trip: &TripRef, stamp: u64, near: Option<u32>) -> Found
     ensures { result ≡ match_of plan.now trip.now stamp }

@@ -44,7 +44,8 @@ fn departing_on(plan: &Plan, route: &str, direction: u32, date: u32, departure: 
     }
 }
 
-/// The run of that route and direction that first departs on that date at the time that the text writes.
+/// The run of that route and direction that first departs on that date at the time that the text
+/// writes.
 fn departing_at(plan: &Plan, route: &str, direction: u32, date: u32, time: &str) -> Found
     ensures { result ≡ at_time plan.now route.now direction date (time_in time.now) }
 {

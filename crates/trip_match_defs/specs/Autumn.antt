@@ -1,5 +1,6 @@
--- A timetable on the days around the change to winter time of 26 October 2025, as an example: the stops, the
--- route and the trips of the small city, two of which leave at one time. They run on the first two days.
+-- A timetable on the days around the change to winter time of 26 October 2025, as an example: the
+-- stops, the route and the trips of the small city, two of which leave at one time. They run on the
+-- first two days.
 use Rattle.std.specs.Prelude.{List, [], ◌∷◌, pos}
 use Rattle.sched_types.specs.declared.rows.Place.{Place}
 use Rattle.sched_types.specs.Timetable.{Timetable}

@@ -1,5 +1,5 @@
--- A timetable with patterns, as an example, on the days of the autumn's: T2 leaves at eight and at half past
--- eight by frequencies.txt, which gives no trip of T3.
+-- A timetable with patterns, as an example, on the days of the autumn's: T2 leaves at eight and at
+-- half past eight by frequencies.txt, which gives no trip of T3.
 use Rattle.std.specs.Prelude.{List, [], ◌∷◌, codes}
 use Rattle.sched_types.specs.declared.rows.Trip.{Trip}
 use Rattle.sched_types.specs.declared.rows.Place.{Place}

@@ -1,6 +1,6 @@
--- Which run a TripDescriptor is about (GTFS Realtime, TripDescriptor), at an instant: that of the update in
--- which it stands. Of six rules, and one more between the third and the fourth, the first that applies decides;
--- that they come in this order is a rule of this project.
+-- Which run a TripDescriptor is about (GTFS Realtime, TripDescriptor), at an instant: that of the
+-- update in which it stands. Of six rules, and one more between the third and the fourth, the first
+-- that applies decides; that they come in this order is a rule of this project.
 use Rattle.std.specs.Prelude.{ℕ, ◌-◌, Bool, ◌&&◌, if◌then◌else◌, Option, Some, None, unwrap_or, option_and_then, List, [], ◌∷◌, length, map, filter, fold, ℤ, pos, ◌+ℤ◌, ◌-ℤ◌, int_lt, int_le}
 use Rattle.std.specs.List.{list_any, range_with_len}
 use Rattle.rt_types.specs.declared.enums.TripRelation.{TripRelation}
@@ -58,10 +58,11 @@ rule_3_added_trip relation.Replacement id = None
 rule_3_added_trip relation.Duplicated id = None
 rule_3_added_trip relation.Deleted id = None
 
--- Between the third and the fourth: a trip_id that frequencies.txt names is a pattern, and the start_time says
--- which of its trips is meant (GTFS Realtime, TripDescriptor, start_time: it must be given for trips of
--- frequencies.txt). A pattern without trips and a start at which it has none are no trip; an absent start_time
--- leaves several. That these are the answers is a rule of this project.
+-- Between the third and the fourth: a trip_id that frequencies.txt names is a pattern, and the
+-- start_time says which of its trips is meant (GTFS Realtime, TripDescriptor, start_time: it must
+-- be given for trips of frequencies.txt). A pattern without trips and a start at which it has none
+-- are no trip; an absent start_time leaves several. That these are the answers is a rule of this
+-- project.
 abbrev pub unless_derived : Option ℕ → Option Found
 unless_derived None = no_match why.NoTrip
 unless_derived (Some trip) = None
@@ -120,8 +121,8 @@ rule_4_trip_id t (Some id) time date = run_of_trip t (trip_meant t id time) date
 
 -- 5. Without a start_date it is the run on the near day whose span lies nearest to the instant.
 
--- A day is near an instant that lies less than a day and a half before its noon, or so long behind it: without
--- a clock change the day of the instant, the day before it and the day behind it.
+-- A day is near an instant that lies less than a day and a half before its noon, or so long behind
+-- it: without a clock change the day of the instant, the day before it and the day behind it.
 abbrev pub is_near_noon : ℤ → ℤ → Bool
 is_near_noon noon instant = int_le (noon -ℤ pos 129_600) instant
     && int_lt instant (noon +ℤ pos 129_600)
@@ -177,7 +178,8 @@ abbrev pub rule_5_nearest_day : Timetable → ℤ → Option (List ℕ) → Opti
 rule_5_nearest_day t instant None time = None
 rule_5_nearest_day t instant (Some id) time = run_near_instant t instant (trip_meant t id time)
 
--- 6. Without a trip_id it is the one run on that day of that route and direction that first departs at that time.
+-- 6. Without a trip_id it is the one run on that day of that route and direction that first departs
+--    at that time.
 abbrev pub only_trip : ℕ → List ℕ → Found
 only_trip day [] = found.NoMatch why.NoTrip
 only_trip day (trip ∷ []) = found.Run (record { trip = trip; day = day })

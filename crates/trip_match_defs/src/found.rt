@@ -24,7 +24,8 @@ pub enum Why {
     NotActive,
     /// Two trips or more fit.
     Several,
-    /// Its schedule_relationship has no place in a timetable: UNSCHEDULED, REPLACEMENT or DUPLICATED.
+    /// Its schedule_relationship has no place in a timetable: UNSCHEDULED, REPLACEMENT or
+    /// DUPLICATED.
     Relation,
     /// Its start_date is no date, or its start_time no time.
     BadText,
@@ -35,7 +36,7 @@ pub enum Why {
 pub struct Near {
     /// The number of the day in the window.
     pub day: u32,
-    /// How many seconds the instant lies before the trip's first departure or behind its last arrival; 0
-    /// between them.
+    /// How many seconds the instant lies before the trip's first departure or behind its last
+    /// arrival; 0 between them.
     pub gap: i64,
 }

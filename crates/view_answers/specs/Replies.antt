@@ -18,14 +18,16 @@ pub record Appends (answered : Option (List ℕ)) (old new : List ℕ) : Type 0 
   pub are : answered ≡ Some bytes
   pub appended : new ≡ old ++ bytes
 
--- The answer is appended, or there is none, or memory is wanting; in these two cases nothing is appended.
+-- The answer is appended, or there is none, or memory is wanting; in these two cases nothing is
+-- appended.
 abbrev pub Replies : Option (List ℕ) → List ℕ → List ℕ → Result Bool AllocError → Type 0
 Replies answered old new (Ok true) = Appends answered old new
 Replies answered old new (Ok false) = (answered ≡ None) × (new ≡ old)
 Replies answered old new (Err none) = new ≡ old
 
 -- the answer to a question, of what all feeds say
-abbrev pub Answers : Schedules → List FeedFold → Question → List ℕ → List ℕ → Result Bool AllocError → Type 0
+abbrev pub Answers : Schedules → List FeedFold → Question → List ℕ → List ℕ → Result Bool AllocError
+    → Type 0
 Answers schedules folds question = Replies (answer_to schedules folds question)
 
 -- the board of a query, as JSON or as text; none where its schedule has no such stop
@@ -45,7 +47,8 @@ status_in schedules folds = status_text schedules.feeds folds
 -- the answer to a question that is asked of the schedule of a number
 abbrev pub answer_in : Schedules → List FeedFold → Question → ℕ → Option (List ℕ)
 answer_in schedules folds (FeedOf schedule) plan = Some (combined_feed schedules plan folds)
-answer_in schedules folds (BoardOf asked) plan = board_in schedules folds (query_of asked plan) asked.json
+answer_in schedules folds (BoardOf asked) plan =
+    board_in schedules folds (query_of asked plan) asked.json
 answer_in schedules folds (AlertsOf asked) plan =
     alerts_in schedules folds (query_of asked plan) asked.json
 answer_in schedules folds (UnmatchedOf schedule) plan = Some (unmatched_bytes schedules folds plan)

@@ -36,7 +36,8 @@ pub fn answer(
     ensures answers { Answers view.now.plans (folds_of view.now) (question_seen question.now)
         out.old.items out.new.items result }
     ensures stands { (h : List Entry) → StandsFor h view.now
-        → Answers view.now.plans (fold_of (length view.now.plans.feeds) h) (question_seen question.now)
+        → Answers view.now.plans (fold_of (length view.now.plans.feeds) h)
+        (question_seen question.now)
         out.old.items out.new.items result }
 {
     if is_status(question) {
@@ -58,7 +59,8 @@ fn answer_of(
 ) -> Result<bool, NoMemory>
     requires plan { plan < length view.now.plans.plans }
     requires asked { IsAsked (question_seen question.now) }
-    ensures { Replies (answer_in view.now.plans (folds_of view.now) (question_seen question.now) plan)
+    ensures { Replies
+        (answer_in view.now.plans (folds_of view.now) (question_seen question.now) plan)
         out.old.items out.new.items result }
 {
     match *question {

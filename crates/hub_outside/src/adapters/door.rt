@@ -16,10 +16,10 @@ use std::{rt, thread};
 /// How many milliseconds pass before a door tries to accept a connection again.
 const PAUSE_MILLISECONDS: u64 = 100;
 
-/// A door over a listener of the system, which several doors may share. It ends after a given number
-/// of connections, and lets the listener go with the last of them. Each connection has times within
-/// which its client has to ask and to take what it is told; where they pass, its source or its sink has
-/// failed.
+/// A door over a listener of the system, which several doors may share. It ends after a given
+/// number of connections, and lets the listener go with the last of them. Each connection has times
+/// within which its client has to ask and to take what it is told; where they pass, its source or
+/// its sink has failed.
 #[derive(Drop)]
 pub struct TcpDoor<L, C> {
     alloc: Global,
@@ -103,9 +103,9 @@ impl<L: OpenListener<Stream = TcpStream> + Drop, C: rt::Clock + Copy> Door for T
         DoorAnswer::Link(input, output)
     }
 
-    /// Closes the connection so that what was written last still arrives (RFC 9112, section 9.6): no
-    /// more is sent, and what its client still sends is read and dropped for up to a second, up to
-    /// 64 KiB. Where the client has closed already, or an end has failed, it is closed at once.
+    /// Closes the connection so that what was written last still arrives (RFC 9112, section 9.6):
+    /// no more is sent, and what its client still sends is read and dropped for up to a second, up
+    /// to 64 KiB. Where the client has closed already, or an end has failed, it is closed at once.
     fn done(&mut self, input: TcpSource<C>, output: TcpSink<C>)
         ensures cause { tcp_faults self.old ≤ tcp_faults self.new }
         ensures same { self.new ≡ self.old }
@@ -134,7 +134,8 @@ fn accepted<L: OpenListener<Stream = TcpStream> + Drop, C: rt::Clock + Copy>(
 }
 
 /// Accepts a connection and gives its two ends. What passes is waited for: a connection that can't
-/// be accepted or made ready is let go, and the next one is tried, for as many tries as a u64 counts.
+/// be accepted or made ready is let go, and the next one is tried, for as many tries as a u64
+/// counts.
 fn accept<L: OpenListener<Stream = TcpStream>, C: rt::Clock + Copy>(
     alloc: Global,
     listener: &L,
@@ -158,8 +159,8 @@ fn accept<L: OpenListener<Stream = TcpStream>, C: rt::Clock + Copy>(
     None
 }
 
-/// Whether a connection that could not be accepted, for that cause, tells nothing of those that come
-/// next. Else the listener itself has failed.
+/// Whether a connection that could not be accepted, for that cause, tells nothing of those that
+/// come next. Else the listener itself has failed.
 pub fn is_passing(kind: ErrorKind) -> bool
     ensures { result ≡ is_passing kind }
 {

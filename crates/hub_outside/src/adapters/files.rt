@@ -153,7 +153,8 @@ fn end_at<F: Read>(file: &mut F, limit: u64) -> Result<FileAnswer, ErrorKind>
     }
 }
 
-/// A file with a byte behind the limit. Behind the last limit there is no number of bytes to answer.
+/// A file with a byte behind the limit. Behind the last limit there is no number of bytes to
+/// answer.
 fn too_long(limit: u64) -> Result<FileAnswer, ErrorKind>
     ensures { IfOk result (λ answer. answer ≡ FileAnswer.TooLong (limit + 1)) }
 {

@@ -36,17 +36,17 @@ const PIECE: usize = 1 << 12;
 #[derive(Drop)]
 struct Line {
     stream: TcpStream,
-    // Whether nothing was read since something was written, or at all: what is read next is of a new
-    // head, and what is written next goes on with a response.
+    // Whether nothing was read since something was written, or at all: what is read next is of a
+    // new head, and what is written next goes on with a response.
     is_answered: AtomicBool,
     // When the server began to wait for the last head, in milliseconds of a clock that never goes
     // back. Before the first it is the last moment of all, so that no time has passed since.
     since: AtomicU64,
 }
 
-/// Where the bytes of a connection come from. A head has ten seconds in all, from the end of the last
-/// response on, or from where the connection was accepted: once they have passed a read fails. What is
-/// read after something was written is of a new head.
+/// Where the bytes of a connection come from. A head has ten seconds in all, from the end of the
+/// last response on, or from where the connection was accepted: once they have passed a read fails.
+/// What is read after something was written is of a new head.
 #[derive(Drop)]
 pub struct TcpSource<C> {
     line: Arc<Line>,
@@ -57,8 +57,8 @@ pub struct TcpSource<C> {
 }
 
 /// Where the answers on a connection go. One that is written at once has sixty seconds. All that is
-/// written between two reads ends at most seventy seconds from where the server began to wait for what
-/// it answers: once they have passed a write fails.
+/// written between two reads ends at most seventy seconds from where the server began to wait for
+/// what it answers: once they have passed a write fails.
 #[derive(Drop)]
 pub struct TcpSink<C> {
     line: Arc<Line>,
@@ -181,9 +181,9 @@ fn write_in_time<C: rt::Clock>(
     }
 }
 
-/// Sets how long the next read may wait, where that isn't so already: for a new head the whole time,
-/// for a further piece of one what is left. None is left once the time has passed. `is_short` says
-/// whether less than the whole time is set.
+/// Sets how long the next read may wait, where that isn't so already: for a new head the whole
+/// time, for a further piece of one what is left. None is left once the time has passed. `is_short`
+/// says whether less than the whole time is set.
 fn limit_head<C: rt::Clock>(line: &Line, clock: &C, is_short: &mut bool) -> Option<()> {
     let now = moment(clock)?;
     let left = if line.is_answered.swap(false, Ordering::Relaxed) {
@@ -201,8 +201,9 @@ fn limit_head<C: rt::Clock>(line: &Line, clock: &C, is_short: &mut bool) -> Opti
     Some(())
 }
 
-/// Sets how long the next write may wait, where that isn't so already: the first after a read has the
-/// whole time of a response, a further one what is left of it where the head took all of its own.
+/// Sets how long the next write may wait, where that isn't so already: the first after a read has
+/// the whole time of a response, a further one what is left of it where the head took all of its
+/// own.
 fn limit_response<C: rt::Clock>(line: &Line, clock: &C, is_short: &mut bool) -> Option<()> {
     let left = if line.is_answered.swap(true, Ordering::Relaxed) {
         let whole = HEAD_MILLISECONDS + RESPONSE_MILLISECONDS;
@@ -223,8 +224,8 @@ fn limit_response<C: rt::Clock>(line: &Line, clock: &C, is_short: &mut bool) -> 
 
 /// Closes a connection so that what was written last still arrives (RFC 9112, section 9.6): no more
 /// is sent, and what the client still sends is read and dropped, for a second in all, up to 64 KiB.
-/// Bytes that nobody reads would have the system take the answer away by a reset. Where the client has
-/// closed already, or an end has failed, it is closed at once.
+/// Bytes that nobody reads would have the system take the answer away by a reset. Where the client
+/// has closed already, or an end has failed, it is closed at once.
 pub(crate) fn close<C: rt::Clock + Copy>(input: TcpSource<C>, output: TcpSink<C>) {
     if input.is_over || output.faults > 0 {
         return;

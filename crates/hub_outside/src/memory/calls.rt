@@ -5,8 +5,8 @@ ghost use Rattle.hub_outside.specs.Calls.{no_calls, is_failing, with_call, with_
 
 use std::marker::Model;
 
-/// The calls of a form in memory. A contract sees how many there were, how many of them were faults,
-/// and which fail.
+/// The calls of a form in memory. A contract sees how many there were, how many of them were
+/// faults, and which fail.
 #[derive(Drop)]
 pub struct Calls {
     failing: Vec<u64>,

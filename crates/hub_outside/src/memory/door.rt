@@ -61,8 +61,8 @@ impl Model for MemoryDoor {
 }
 
 impl MemoryDoor {
-    /// A door with these links ahead. The calls of `next` whose numbers, from 1 on, are in `failing`
-    /// fail. It takes memory for the links to come back, and for nothing later.
+    /// A door with these links ahead. The calls of `next` whose numbers, from 1 on, are in
+    /// `failing` fail. It takes memory for the links to come back, and for nothing later.
     pub fn new(
         alloc: Global,
         links: Vec<MemoryLink>,
@@ -96,8 +96,8 @@ impl Door for MemoryDoor {
 
     ghost faults = { door_faults };
 
-    /// Hands out the next link. Its answer, and what it leaves, follow from the door alone: it fails
-    /// exactly where its call is listed, and a call that fails leaves the links.
+    /// Hands out the next link. Its answer, and what it leaves, follow from the door alone: it
+    /// fails exactly where its call is listed, and a call that fails leaves the links.
     fn next(&mut self) -> DoorAnswer<MemorySource, MemorySink>
         ensures links { HandsOut result (Some (links_in self.old)) (Some (links_in self.new)) }
         ensures cause { HasDoorCause result (door_faults self.old) (door_faults self.new) }

@@ -32,8 +32,8 @@ impl Model for MemoryFile {
     ghost view = { λ file. (string_bytes file.path, file.bytes.items) };
 }
 
-/// Files in memory, of which the first of a path counts, with faults as they were told. They keep the
-/// path of the call that failed last, as far as there is memory for it.
+/// Files in memory, of which the first of a path counts, with faults as they were told. They keep
+/// the path of the call that failed last, as far as there is memory for it.
 #[derive(Drop)]
 pub struct MemoryFiles {
     files: Vec<MemoryFile>,
@@ -59,7 +59,11 @@ impl Model for MemoryFiles {
 impl MemoryFiles {
     /// These files. The calls whose numbers, from 1 on, are in `failing` fail. It takes no memory.
     pub fn new(files: Vec<MemoryFile>, failing: Vec<u64>) -> MemoryFiles
-        ensures { result ≡ record { files = files.items; calls = no_calls failing.items; fault = None } }
+        ensures { result ≡ record {
+          files = files.items;
+          calls = no_calls failing.items;
+          fault = None;
+        } }
     {
         MemoryFiles {
             files,

@@ -1,9 +1,12 @@
 -- The bytes are those of the difference, which brings a reader from the one combined feed to the other.
-use Rattle.std.proofs.Common.{sym, subst}
+use Rattle.std.proofs.Common.{◌≡◌, ◌<◌, ◌^◌, ◌++◌, length, length-append, sym, ap, subst, arith, rules}
 use Rattle.std.specs.List.{AllByRecursion}
 use Rattle.std.proofs.lemmas.Result.{on_ok_weaker}
 use Rattle.delta_defs.specs.OneHistory.{FeedHoldsSince}
 use Rattle.feed_out.proofs.Bytes.{prefix_is}
+use Rattle.board_defs.specs.Views.{folds_of}
+use Rattle.delta_defs.specs.Changes.{changes_bytes}
+use Rattle.delta_out.proofs.AgainLemmas.{reads_as}
 use Rattle.delta_out.proofs.LawLemmas.{brings_to}
 use Rattle.delta_out.proofs.MessageLemmas.{sent_are}
 use Rattle.delta_defs.proofs.OneHistory.{all_held_since}
@@ -28,3 +31,16 @@ returns-clause-brings c = λ g h were read then stands. on_ok_weaker c.push_feed
     (prefix_is c.args.view.now c.plans.result.now c.plans-2.result.now c.args.plan c.index-plans-plan.result c.as_str-prefix.result.now c.plans.ensures c.plans-2.ensures c.requires.plan c.as_str-prefix.ensures)
     c.is_text.ensures c.sound.ensures.plans c.feeds_of-2.ensures c.feeds.ensures each g h were read then stands)
     c.push_feeds.ensures.short
+
+pub returns-clause-reads : goal.returns-clause-reads
+returns-clause-reads c =
+    let told = changes_bytes c.args.view.now.plans c.args.plan c.args.old.now.folds (folds_of c.args.view.now) in
+    let low : c.newest_stamp-stamp.result < 2 ^ 64 = omega arith in
+    let fits : length c.push_feeds.new.out.items < 2 ^ 64 = search rules in
+    λ g h were read_h then stands. on_ok_weaker c.push_feeds.result
+    (λ (is : c.push_feeds.new.out.items ≡ c.args.out.now.items ++ told).
+    let small : length told < 2 ^ 64 = omega (arith, ap length is, length-append c.args.out.now.items told) in
+    reads_as c.args.view.now c.args.plan c.args.old.now.folds c.feeds_of.result c.newest_stamp-stamp.result c.as_str-prefix.result.now small
+    (prefix_is c.args.view.now c.plans.result.now c.plans-2.result.now c.args.plan c.index-plans-plan.result c.as_str-prefix.result.now c.plans.ensures c.plans-2.ensures c.requires.plan c.as_str-prefix.ensures)
+    c.is_text.ensures c.sound.ensures.plans c.feeds_of.ensures c.newest_stamp-stamp.ensures low g h were read_h then stands)
+    (returns-clause-sent c)

@@ -1,11 +1,12 @@
 -- Each part is what the changes of ids make of it, and both are those of the table.
 use Rattle.std.proofs.Common.{length, ap, ◌∙◌, arith}
+use Rattle.run_overlay.specs.Turning.{live_turned}
 use Rattle.run_overlay.proofs.After.{after_is, candidates_then}
 use Rattle.run_overlay.proofs.overlay.Overlay.after.Goals as goal
 
 -- the candidates are those of the table
-pub after-requires-2-clause-candidates : goal.after-requires-2-clause-candidates
-after-requires-2-clause-candidates g c =
+pub turns_of-requires-clause-candidates : goal.turns_of-requires-clause-candidates
+turns_of-requires-clause-candidates g c =
     c.candidates-candidates.ensures
     ∙ candidates_then c.args.plan.now c.args.self.now c.args.table.now c.args.ids.now c.in_ok-runs.runs.items c.requires.changes c.requires.table c.in_ok-runs.ensures.all
     c.in_ok-mentions.mentions (rw (← c.self.view_is) c.in_ok-mentions.ensures)
@@ -15,7 +16,7 @@ returns-clause-overlay g c =
     after_is c.args.plan.now c.args.self.now c.args.table.now c.args.ids.now c.as_slice-2.result.now c.requires.changes c.requires.table
     (rw c.as_slice-2.ensures.value c.in_ok-runs.ensures.all)
     c.in_ok-mentions.mentions c.in_ok-live.live
-    (rw (← c.self.view_is) c.in_ok-mentions.ensures) (rw (← c.self.view_is) c.in_ok-live.ensures.lists)
+    (rw (← c.self.view_is) c.in_ok-mentions.ensures) (rw (← c.self.view_is) c.in_ok-live.ensures ∙ ap (λ turns. live_turned turns c.args.self.now.live) c.in_ok-turns.ensures.turns)
 
 pub returns-clause-few : goal.returns-clause-few
-returns-clause-few g c = omega (arith, c.in_ok-live.ensures.few, c.in_ok-runs.ensures.few, ap length c.as_slice-2.ensures.value)
+returns-clause-few g c = omega (arith, c.in_ok-turns.ensures.few, c.in_ok-runs.ensures.few, ap length c.as_slice-2.ensures.value)
