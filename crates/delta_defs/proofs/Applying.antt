@@ -23,7 +23,7 @@ use Rattle.board_defs.specs.Feeds.{HubFeed, feeds_from, is_of_schedule, schedule
 use Rattle.board_defs.specs.Fold.{FeedFold}
 use Rattle.board_defs.specs.Views.{no_fold}
 use Rattle.delta_defs.specs.Applied.{BringsTo, combined_message}
-use Rattle.delta_defs.specs.Changes.{gone, is_same, combined_of, change_sent, held_under, feed_changes, held_before, changes}
+use Rattle.delta_defs.specs.Changes.{is_same, combined_of, change_sent, held_under, feed_changes, held_before, changes}
 use Rattle.delta_defs.proofs.IdOrder.{same_id, equal, find_below, or_else, found_alone, found_either}
 use Rattle.delta_defs.proofs.Told.{if_under, told, standing, or_else-none, told-append, got_one, got_two, got_same}
 

@@ -13,7 +13,7 @@ use Rattle.sched_types.specs.Schedules.{Schedules}
 use Rattle.board_defs.specs.Fold.{FeedFold}
 use Rattle.board_defs.specs.Views.{no_fold}
 use Rattle.board_defs.proofs.Parts.{trip_on, trip_update, entity_of}
-use Rattle.delta_defs.specs.Changes.{gone, changes, changes_bytes}
+use Rattle.delta_defs.specs.Changes.{changes, changes_bytes}
 use Rattle.delta_defs.specs.Applied.{BringsTo}
 use Rattle.delta_defs.specs.Kept.{KeptView, most_kept, views_with, folds_at}
 

@@ -7,7 +7,7 @@ use Rattle.feed_defs.specs.declared.history.Stored.{Stored}
 use Rattle.feed_defs.specs.Rows.{message_bytes}
 use Rattle.feed_defs.specs.Table.{entity}
 use Rattle.feed_write.specs.Entities.{entity_field}
-use Rattle.delta_defs.specs.Changes.{gone, is_same}
+use Rattle.delta_defs.specs.Changes.{is_same}
 use Rattle.delta_feed.specs.Pairs.{IdPair}
 
 -- an entity of the feed of that name, as the combined feed has it

@@ -7,6 +7,7 @@ use hub_shared::{FeedSeat, Hub, PortReport, ingest_port};
 use place_jobs::PlaceJob;
 use std::alloc::Global;
 use std::sync::Wait;
+use std::thread::Threads;
 
 /// Brings in the messages of each port.
 #[derive(Drop)]
@@ -17,7 +18,8 @@ pub(crate) struct Ingesting<'a, R, G> {
     pub(crate) gate: &'a G,
 }
 
-impl<'a, R: Wait, G: Gate, P: FeedPort> PlaceJob<P, FeedSeat, PortReport> for Ingesting<'a, R, G> {
+impl<'a, R: Threads + Wait + Sync, G: Gate, P: FeedPort> PlaceJob<P, FeedSeat, PortReport>
+    for Ingesting<'a, R, G> {
     ghost use Rattle.std.specs.Prelude.{◌≡◌};
     ghost use Rattle.hub_serve.specs.Feeds.{ingests_at};
     ghost use Rattle.hub_serve.specs.Words.{port_words};

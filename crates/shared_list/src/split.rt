@@ -19,7 +19,7 @@ pub(crate) struct Arrival<T> {
 pub(crate) const LEAF_MOST: usize = 16;
 
 /// The most parts of a node. A version of a list is a share of each node, so these are more.
-pub(crate) const NODE_MOST: usize = 32;
+pub(crate) const NODE_MOST: usize = 16;
 
 /// Takes the back of a part that has more than so many items off, by whether the newest is the
 /// last.
