@@ -5,6 +5,7 @@ use Rattle.rt_types.specs.declared.enums.Incrementality.TheVariants.{Differentia
 use Rattle.rt_types.specs.declared.message.Entity.{Entity}
 use Rattle.rt_types.specs.declared.message.FeedMessage.{FeedMessage}
 use Rattle.pb_wire_defs.specs.Writing.{groups, varint, payload_bytes, field_bytes}
+use Rattle.feed_defs.specs.Combined.{gone}
 use Rattle.feed_defs.specs.History.{Change, since_full, changes_by_id, entities_of}
 use Rattle.feed_defs.specs.Rows.{message_bytes}
 use Rattle.feed_defs.specs.Table.{write}

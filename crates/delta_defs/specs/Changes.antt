@@ -1,6 +1,6 @@
 -- What changed between two combined feeds of a schedule, as a differential message (GTFS Realtime
 -- 2.0, FeedHeader, `incrementality`; FeedEntity, `is_deleted`).
-use Rattle.std.specs.Prelude.{ℕ, Bool, true, List, [], ◌++◌, map, Option, Some, None, slice_index_or, if◌then◌else◌, codes}
+use Rattle.std.specs.Prelude.{ℕ, Bool, List, [], ◌++◌, map, Option, Some, None, slice_index_or, if◌then◌else◌, codes}
 use Rattle.std.specs.List.{flat_map, filter_map}
 use Rattle.std.specs.Str.{bytes_eq}
 use Rattle.std.specs.Ordering.{nat_cmp}

@@ -8,7 +8,7 @@ use Rattle.rt_types.specs.declared.enums.Incrementality.TheVariants.{Differentia
 use Rattle.rt_types.specs.declared.message.Entity.{Entity}
 use Rattle.feed_defs.specs.declared.history.Entry.{Entry}
 use Rattle.feed_defs.specs.declared.history.Stored.{Stored}
-use Rattle.feed_defs.specs.Combined.{entity_under_feed}
+use Rattle.feed_defs.specs.Combined.{entity_under_feed, gone}
 use Rattle.feed_defs.specs.History.{Change, WereRead}
 use Rattle.feed_defs.specs.Table.{read, write}
 use Rattle.feed_defs.proofs.DataSet.{ReadsAgain, WasSaid, gone_again, id_said, message_again}
