@@ -21,10 +21,12 @@ pub(crate) struct Ingesting<'a, R, G> {
 impl<'a, R: Threads + Wait + Sync, G: Gate, P: FeedPort> PlaceJob<P, FeedSeat, PortReport>
     for Ingesting<'a, R, G> {
     ghost use Rattle.std.specs.Prelude.{◌≡◌};
+    ghost use denote.Param.Send.{IsSync};
     ghost use Rattle.hub_serve.specs.Feeds.{ingests_at};
     ghost use Rattle.hub_serve.specs.Words.{port_words};
 
-    ghost accepts = { λ job place port seat report. seat.ties ≡ job.hub.now };
+    // That threads may share the runtime is no bound that a method is given, so it is told here.
+    ghost accepts = { λ job place port seat report. IsSync R.row × (seat.ties ≡ job.hub.now) };
 
     ghost does = { λ job. ingests_at (port_words P.ahead P.faults) };
 
