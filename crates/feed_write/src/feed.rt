@@ -7,7 +7,9 @@ ghost use Rattle.feed_write.specs.Entities.{renamed_message, content_bytes};
 ghost use Rattle.feed_write.specs.Puts.{StartsWith};
 
 use crate::NoMemory;
-use crate::fields::{put_items, put_message, put_scalar, put_shared, put_text, put_unknown};
+use crate::fields::{
+    put_items, put_long_shared, put_message, put_scalar, put_shared, put_text, put_unknown,
+};
 use crate::message::Message;
 use rt_types::{Entity, FeedMessage, Header};
 
@@ -45,7 +47,8 @@ pub(crate) fn put_content(entity: &Entity, prefix: &str, out: &mut Vec<u8>) -> R
     ensures begins { StartsWith out.old.items out.new.items }
 {
     put_scalar(2, entity.is_deleted, out)?;
-    put_shared(3, &entity.trip_update, prefix, out)?;
+    // Nearly every trip update foretells several stops, and takes more than 127 bytes.
+    put_long_shared(3, &entity.trip_update, prefix, out)?;
     put_shared(4, &entity.vehicle, prefix, out)?;
     put_shared(5, &entity.alert, prefix, out)?;
     put_unknown(&entity.unknown, out)

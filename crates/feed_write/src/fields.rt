@@ -1,6 +1,6 @@
 //! How each kind of field is written.
 
-ghost use Rattle.std.specs.Prelude.{◌≡◌, ◌≤◌, ◌++◌, map, IfOk, OnOk};
+ghost use Rattle.std.specs.Prelude.{◌≡◌, ◌≤◌, [], ◌∷◌, ◌++◌, map, IfOk, OnOk};
 ghost use Rattle.std.specs.List.{flat_map};
 ghost use Rattle.std.specs.Option.{option_map};
 ghost use Rattle.pb_wire_defs.specs.Field.Payload.{Span};
@@ -11,7 +11,9 @@ ghost use Rattle.feed_write.specs.Puts.{StartsWith, IsOpened};
 use crate::NoMemory;
 use crate::message::Message;
 use crate::scalar::Scalar;
-use pb_wire::{write_field, write_four, write_length, write_scalar, write_varint};
+use pb_wire::{
+    write_field, write_four, write_length, write_long_length, write_scalar, write_varint,
+};
 use rt_types::{Bytes, Degrees, Items, Shared, Text};
 
 /// Appends a number, where there is one.
@@ -96,15 +98,52 @@ pub(crate) fn put_message<M: Message>(
     write_length(place, out)
 }
 
+/// The same of a message that is seldom shorter than 128 bytes: it needn't move when its length
+/// becomes known.
+fn put_long_message<M: Message>(
+    number: u32,
+    message: &M,
+    prefix: &str,
+    out: &mut Vec<u8>,
+) -> Result<(), NoMemory>
+    requires first { 1 ≤ number }
+    requires last { number ≤ 536870911 }
+    ensures written { OnOk result (out.new.items
+        ≡ out.old.items
+        ++ field_bytes (record {
+          number = number;
+          payload = Span
+              (message_bytes M.table (M.renamed prefix.now message.now));
+        })) }
+    ensures begins { StartsWith out.old.items out.new.items }
+{
+    let place = open_long_message(number, out)?;
+    message.put(prefix, out)?;
+    write_long_length(place, out)
+}
+
 /// Appends the tag of a message, and a byte that is kept for its length, which is known only behind
 /// its content: it is enough for most. Gives the place of that byte.
 pub(crate) fn open_message(number: u32, out: &mut Vec<u8>) -> Result<usize, NoMemory>
     requires { number ≤ 536870911 }
-    ensures opened { IfOk result (λ place. IsOpened number place out.old.items out.new.items) }
+    ensures opened { IfOk result
+        (λ place. IsOpened number (0 ∷ []) place out.old.items out.new.items) }
     ensures begins { StartsWith out.old.items out.new.items }
 {
     write_varint(u64::from(number) * 8 + 2, out)?;
     let place = out.len();
+    out.push(0)?;
+    Ok(place)
+}
+
+/// The same with two bytes for its length, which are enough for nearly all that are longer.
+pub(crate) fn open_long_message(number: u32, out: &mut Vec<u8>) -> Result<usize, NoMemory>
+    requires { number ≤ 536870911 }
+    ensures opened { IfOk result
+        (λ place. IsOpened number (0 ∷ 0 ∷ []) place out.old.items out.new.items) }
+    ensures begins { StartsWith out.old.items out.new.items }
+{
+    let place = open_message(number, out)?;
     out.push(0)?;
     Ok(place)
 }
@@ -147,6 +186,27 @@ pub(crate) fn put_shared<M: Message>(
 {
     match message {
         Some(message) => put_message(number, message.get(), prefix, out),
+        None => Ok(()),
+    }
+}
+
+/// The same of a message that is seldom shorter than 128 bytes.
+pub(crate) fn put_long_shared<M: Message>(
+    number: u32,
+    message: &Option<Shared<M>>,
+    prefix: &str,
+    out: &mut Vec<u8>,
+) -> Result<(), NoMemory>
+    requires first { 1 ≤ number }
+    requires last { number ≤ 536870911 }
+    ensures written { OnOk result (out.new.items
+        ≡ out.old.items
+        ++ flat_map field_bytes (write_if number (λ x. Span
+        (message_bytes M.table x)) (option_map (M.renamed prefix.now) message.now))) }
+    ensures begins { StartsWith out.old.items out.new.items }
+{
+    match message {
+        Some(message) => put_long_message(number, message.get(), prefix, out),
         None => Ok(()),
     }
 }

@@ -3,7 +3,7 @@ use Rattle.feed_write.proofs.Spelling.{framed, framed_begins}
 use Rattle.feed_write.proofs.fields.put_message.Goals as goal
 
 pub returns-clause-written : goal.returns-clause-written
-returns-clause-written g c = framed c.write_length.result c.args.number _ _ _ _ _ _ c.in_ok-place.ensures.opened c.in_ok-put.ensures.written c.write_length.ensures.written
+returns-clause-written g c = framed c.write_length.result c.args.number _ _ _ _ _ _ _ c.in_ok-place.ensures.opened c.in_ok-put.ensures.written c.write_length.ensures.written
 
 pub returns-clause-begins : goal.returns-clause-begins
-returns-clause-begins g c = framed_begins c.args.number _ _ _ _ _ c.in_ok-place.ensures.opened c.in_ok-put.ensures.begins c.write_length.ensures.kept
+returns-clause-begins g c = framed_begins c.args.number _ _ _ _ _ _ c.in_ok-place.ensures.opened c.in_ok-put.ensures.begins c.write_length.ensures.kept
