@@ -156,11 +156,12 @@ fn varints(rt: HostRuntime) -> Result<(), Fail> {
 }
 
 /// A byte, so many that are kept for a length, and a run of so many bytes.
-fn run_behind(rt: &impl AllocGlobal, kept: usize, count: usize) -> Result<Vec<u8>, NoMemory> {
+fn run_behind(rt: &impl AllocGlobal, kept: u8, count: u16) -> Result<Vec<u8>, NoMemory> {
     let mut out = Vec::new(rt.alloc());
     out.push(7)?;
-    out.resize(1 + kept, 0)?;
-    out.resize(1 + kept + count, 9)?;
+    let behind = 1 + usize::from(kept);
+    out.resize(behind, 0)?;
+    out.resize(behind + usize::from(count), 9)?;
     Ok(out)
 }
 
@@ -174,7 +175,7 @@ fn says(out: &[u8], length: &[u8]) -> bool {
 
 /// Whether a run of so many bytes behind one that is kept gets this length.
 fn has_length(rt: &impl AllocGlobal, count: u16, length: &[u8]) -> Result<bool, NoMemory> {
-    let mut out = run_behind(rt, 1, usize::from(count))?;
+    let mut out = run_behind(rt, 1, count)?;
     if out.len() < 2 {
         return Ok(false);
     }
@@ -184,7 +185,7 @@ fn has_length(rt: &impl AllocGlobal, count: u16, length: &[u8]) -> Result<bool, 
 
 /// The same behind two bytes that are kept.
 fn has_long_length(rt: &impl AllocGlobal, count: u16, length: &[u8]) -> Result<bool, NoMemory> {
-    let mut out = run_behind(rt, 2, usize::from(count))?;
+    let mut out = run_behind(rt, 2, count)?;
     if out.len() < 3 {
         return Ok(false);
     }
