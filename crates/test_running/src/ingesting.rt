@@ -148,7 +148,9 @@ fn ingest_all<R: Threads + Wait + Sync>(
         rt,
         seats.as_mut_slice(),
         4,
-        &|_, seat| ingest_many(rt, alloc, hub, seat),
+        &|_, seat|
+            requires { IsSync R.row × (seat.old.ties ≡ hub.now) }
+        { ingest_many(rt, alloc, hub, seat) },
     );
     seats
 }

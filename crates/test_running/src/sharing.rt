@@ -47,7 +47,9 @@ fn send_beside<R: Threads + Wait + Sync>(
         rt,
         seats.as_mut_slice(),
         2,
-        &|_, seat| send_all(rt, alloc, hub, seat),
+        &|_, seat|
+            requires { IsSync R.row × (seat.old.ties ≡ hub.now) }
+        { send_all(rt, alloc, hub, seat) },
     );
     seats
 }
