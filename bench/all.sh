@@ -65,6 +65,7 @@ else
   run gen bench/gen.sh
   run serve bench/serve.sh
   run ingest bench/running.sh ingest
+  run whole bench/running.sh whole
   run load bench/running.sh load
   run cities bench/running.sh cities
   run memory bench/running.sh memory
@@ -261,6 +262,10 @@ rows("`running.sh ingest`",
       "; ".join(shown(first("ingest", rf"{part}.*: ([\d,]+)")[0]) for part in ("reading and judging", "making the view", "publishing it"))
       + " instructions"))
 still, moving, nginx = answers("readers: "), answers("come in: "), answers("bytes: ")
+rows("`running.sh whole`",
+     ("ms from the last byte of a whole data set of 2,047 updates to its being published, of 2,048, 3,000, 10,000 and 30,000",
+      joined(found("whole", r"([\d.]+) ms on all"), ".1f")),
+     ("times as long on one processor", joined(found("whole", r"one, ([\d.]+) times"), ".2f")))
 rows("`running.sh load`",
      ("answers a second, a board of five rows of a small city, of 1, 2 and 4 readers", still[0]),
      ("the same while 200 messages a second come in", moving[0]),

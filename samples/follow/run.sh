@@ -19,10 +19,15 @@ build_hub
 # it is due, however long this one took.
 change_scenes() {
   local scenes=("late" "late added" "late skipped" "calm" "late canceled unmatched" "skipped added") count=0
-  local begin=${EPOCHREALTIME/[.,]/} ahead
+  local begin=${EPOCHREALTIME/[.,]/} ahead silent pause
+  # Nothing ever comes of it: to read from it is to wait, without the process that `sleep` would be.
+  exec {silent}<> <(:)
   while true; do
     ahead=$((begin + count * 1000000 / rate - ${EPOCHREALTIME/[.,]/}))
-    [ "$ahead" -le 0 ] || sleep "$(printf '%d.%06d' "$((ahead / 1000000))" "$((ahead % 1000000))")"
+    if [ "$ahead" -gt 0 ]; then
+      printf -v pause '%d.%06d' "$((ahead / 1000000))" "$((ahead % 1000000))"
+      read -r -t "$pause" -u "$silent" || true
+    fi
     show_scene "${scenes[count % ${#scenes[@]}]}"
     count=$((count + 1))
   done
@@ -37,9 +42,17 @@ wait_for has_accepted "$hub_address" notices trams
 change_scenes &
 started+=("$!")
 
+# accepted_trams: how many messages of the trams the hub has accepted.
+accepted_trams() {
+  curl -fsS --max-time 5 "http://$hub_address/status" | awk -F '\t' '$1 == "trams" { print $2 }'
+}
+
 status=0
+before=$(accepted_trams)
 samples/follow/follow.py --seconds "$seconds" --compare 10 "$hub_address" city > "$work/lines" 2> "$work/told" || status=$?
 cat "$work/told" >&2
+accepted=$(($(accepted_trams) - before))
 tail -n 1 "$work/lines"
+echo "the hub accepted $accepted messages meanwhile, $((accepted / seconds)) a second"
 [ "$status" = 0 ] || fail "follow.py ended with status $status"
 tail -n 1 "$work/lines" | awk '{ gsub(",", ""); exit !(2 * $3 > $1) }' || fail "most answers were no differences"

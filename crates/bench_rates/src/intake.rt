@@ -8,9 +8,16 @@ use hub_shared::{FeedSeat, Hub, ingest};
 use hub_state::ReplayHub;
 use std::alloc::{AllocError as NoMemory, Global};
 use std::sync::Wait;
+use std::thread::Threads;
 
 /// Ingests so many messages, and counts those that were accepted.
-pub fn ingested<R: Wait>(rt: &R, alloc: Global, hub: &Hub, seat: FeedSeat, messages: u64) -> u64
+pub fn ingested<R: Threads + Wait + Sync>(
+    rt: &R,
+    alloc: Global,
+    hub: &Hub,
+    seat: FeedSeat,
+    messages: u64,
+) -> u64
     requires { seat.ties ≡ hub.now }
     ensures { result ≤ messages }
 {

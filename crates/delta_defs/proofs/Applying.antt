@@ -11,7 +11,7 @@ use Rattle.std.proofs.lemmas.List.{map-append}
 use Rattle.std.proofs.lemmas.Map.Text.{is_eq-slice_cmp}
 use Rattle.rt_types.specs.declared.message.Entity.{Entity}
 use Rattle.feed_defs.specs.declared.history.Stored.{Stored}
-use Rattle.feed_defs.specs.Combined.{entity_under_feed}
+use Rattle.feed_defs.specs.Combined.{entity_under_feed, gone}
 use Rattle.feed_defs.specs.Renamed.{renamed_entity}
 use Rattle.feed_defs.specs.History.{Change, changes_by_id}
 use Rattle.feed_defs.proofs.Kept.{id_cmp, left, right, listed_sorted}
@@ -23,7 +23,7 @@ use Rattle.board_defs.specs.Feeds.{HubFeed, feeds_from, is_of_schedule, schedule
 use Rattle.board_defs.specs.Fold.{FeedFold}
 use Rattle.board_defs.specs.Views.{no_fold}
 use Rattle.delta_defs.specs.Applied.{BringsTo, combined_message}
-use Rattle.delta_defs.specs.Changes.{gone, is_same, combined_of, change_sent, held_under, feed_changes, held_before, changes}
+use Rattle.delta_defs.specs.Changes.{is_same, combined_of, change_sent, held_under, feed_changes, held_before, changes}
 use Rattle.delta_defs.proofs.IdOrder.{same_id, equal, find_below, or_else, found_alone, found_either}
 use Rattle.delta_defs.proofs.Told.{if_under, told, standing, or_else-none, told-append, got_one, got_two, got_same}
 

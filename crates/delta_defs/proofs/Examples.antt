@@ -5,6 +5,7 @@ use Rattle.rt_types.specs.declared.enums.Incrementality.TheVariants.{Differentia
 use Rattle.rt_types.specs.declared.message.Entity.{Entity}
 use Rattle.rt_types.specs.declared.message.FeedMessage.{FeedMessage}
 use Rattle.pb_wire_defs.specs.Writing.{groups, varint, payload_bytes, field_bytes}
+use Rattle.feed_defs.specs.Combined.{gone}
 use Rattle.feed_defs.specs.History.{Change, since_full, changes_by_id, entities_of}
 use Rattle.feed_defs.specs.Rows.{message_bytes}
 use Rattle.feed_defs.specs.Table.{write}
@@ -13,7 +14,7 @@ use Rattle.sched_types.specs.Schedules.{Schedules}
 use Rattle.board_defs.specs.Fold.{FeedFold}
 use Rattle.board_defs.specs.Views.{no_fold}
 use Rattle.board_defs.proofs.Parts.{trip_on, trip_update, entity_of}
-use Rattle.delta_defs.specs.Changes.{gone, changes, changes_bytes}
+use Rattle.delta_defs.specs.Changes.{changes, changes_bytes}
 use Rattle.delta_defs.specs.Applied.{BringsTo}
 use Rattle.delta_defs.specs.Kept.{KeptView, most_kept, views_with, folds_at}
 

@@ -1,6 +1,6 @@
 -- What changed between two combined feeds of a schedule, as a differential message (GTFS Realtime
 -- 2.0, FeedHeader, `incrementality`; FeedEntity, `is_deleted`).
-use Rattle.std.specs.Prelude.{ℕ, Bool, true, List, [], ◌++◌, map, Option, Some, None, slice_index_or, if◌then◌else◌, codes}
+use Rattle.std.specs.Prelude.{ℕ, Bool, List, [], ◌++◌, map, Option, Some, None, slice_index_or, if◌then◌else◌, codes}
 use Rattle.std.specs.List.{flat_map, filter_map}
 use Rattle.std.specs.Str.{bytes_eq}
 use Rattle.std.specs.Ordering.{nat_cmp}
@@ -10,7 +10,7 @@ use Rattle.rt_types.specs.declared.enums.Incrementality.TheVariants.{Differentia
 use Rattle.rt_types.specs.declared.message.Entity.{Entity}
 use Rattle.rt_types.specs.declared.message.FeedMessage.{FeedMessage}
 use Rattle.feed_defs.specs.declared.history.Stored.{Stored}
-use Rattle.feed_defs.specs.Combined.{entity_under_feed}
+use Rattle.feed_defs.specs.Combined.{entity_under_feed, gone}
 use Rattle.feed_defs.specs.History.{Change, changes_by_id}
 use Rattle.feed_defs.specs.Rows.{message_bytes}
 use Rattle.feed_defs.specs.Table.{entity, write}
@@ -23,17 +23,6 @@ use Rattle.board_defs.specs.Views.{no_fold}
 -- the ids of what a feed held and holds, by their bytes
 abbrev pub ids_of_both : List Change → List Change → List (List ℕ)
 ids_of_both old new = map (λ change. change.0) (changes_by_id (old ++ new))
-
--- an entity that says nothing but that its id is gone
-abbrev pub gone : List ℕ → Entity
-gone id = record {
-  id = id;
-  is_deleted = Some true;
-  trip_update = None;
-  vehicle = None;
-  alert = None;
-  unknown = [];
-}
 
 -- whether two entities are one in a feed: they are written as the same bytes
 abbrev pub is_same : Entity → Entity → Bool

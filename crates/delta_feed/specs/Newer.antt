@@ -1,16 +1,17 @@
 -- What of a feed has a newer stamp, and whether that is all that changed.
-use Rattle.std.specs.Prelude.{ℕ, ◌+◌, ◌==◌, Bool, nat_lt, List, length, map, filter, count_by, Some}
+use Rattle.std.specs.Prelude.{ℕ, ◌+◌, ◌==◌, Bool, ltb, List, length, map, count_by, Some}
 use Rattle.std.specs.Option.{is_none}
+use Rattle.shared_list.specs.Stamps.{newer}
 use Rattle.feed_defs.specs.declared.history.Stored.{Stored}
 use Rattle.feed_defs.specs.History.{Change}
 use Rattle.delta_defs.specs.Changes.{held_under}
 use Rattle.delta_feed.specs.Pairs.{IdPair}
 
 abbrev pub is_newer : ℕ → Stored → Bool
-is_newer stamp one = nat_lt stamp one.stamp
+is_newer stamp one = ltb stamp one.stamp
 
 abbrev pub newer_of : ℕ → List Change → List Stored
-newer_of stamp entities = filter (is_newer stamp) (map (λ change. change.1) entities)
+newer_of stamp entities = newer (λ one. one.stamp) stamp (map (λ change. change.1) entities)
 
 -- an entity that is held, with what was held under its id
 abbrev pub pair_now : List Change → Stored → IdPair

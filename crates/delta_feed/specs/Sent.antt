@@ -1,13 +1,13 @@
 -- What is written of each id of a feed.
 use Rattle.std.specs.Prelude.{◌≡◌, ◌⊎◌, ℕ, ◌^◌, ◌<◌, nat_le, Bool, true, false, length, List, [], Option, Some, None, if◌then◌else◌}
 use Rattle.rt_types.specs.declared.message.Entity.{Entity}
-use Rattle.feed_defs.specs.Combined.{entity_under_feed}
+use Rattle.feed_defs.specs.Combined.{entity_under_feed, gone}
 use Rattle.feed_defs.specs.Renamed.{renamed_entity}
 use Rattle.feed_defs.specs.declared.history.Stored.{Stored}
 use Rattle.feed_defs.specs.Rows.{message_bytes}
 use Rattle.feed_defs.specs.Table.{entity}
 use Rattle.feed_write.specs.Entities.{entity_field}
-use Rattle.delta_defs.specs.Changes.{gone, is_same}
+use Rattle.delta_defs.specs.Changes.{is_same}
 use Rattle.delta_feed.specs.Pairs.{IdPair}
 
 -- an entity of the feed of that name, as the combined feed has it

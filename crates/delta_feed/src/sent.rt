@@ -2,9 +2,9 @@
 
 ghost use Rattle.std.specs.Prelude.{◌≡◌, ◌≤◌, ◌++◌, [], length, drop, take, OnOk, if◌then◌else◌};
 ghost use Rattle.std.specs.Str.{bytes_eq};
-ghost use Rattle.feed_defs.specs.Combined.{entity_under_feed};
+ghost use Rattle.feed_defs.specs.Combined.{entity_under_feed, gone};
 ghost use Rattle.feed_write.specs.Entities.{entity_field};
-ghost use Rattle.delta_defs.specs.Changes.{gone, is_same};
+ghost use Rattle.delta_defs.specs.Changes.{is_same};
 ghost use Rattle.delta_feed.specs.Sent as rule;
 ghost use Rattle.delta_feed.specs.Sent.{named_entity, pair_field, IsShort, IsShortPair, IsSettled};
 

@@ -8,7 +8,7 @@ use Rattle.rt_types.specs.declared.enums.Incrementality.TheVariants.{Differentia
 use Rattle.rt_types.specs.declared.message.Entity.{Entity}
 use Rattle.feed_defs.specs.declared.history.Entry.{Entry}
 use Rattle.feed_defs.specs.declared.history.Stored.{Stored}
-use Rattle.feed_defs.specs.Combined.{entity_under_feed}
+use Rattle.feed_defs.specs.Combined.{entity_under_feed, gone}
 use Rattle.feed_defs.specs.History.{Change, WereRead}
 use Rattle.feed_defs.specs.Table.{read, write}
 use Rattle.feed_defs.proofs.DataSet.{ReadsAgain, WasSaid, gone_again, id_said, message_again}
@@ -20,7 +20,7 @@ use Rattle.board_defs.specs.Feeds.{HubFeed, schedule_feeds}
 use Rattle.board_defs.specs.Fold.{FeedFold, fold_of}
 use Rattle.board_defs.specs.Views.{HubKept, StandsFor, folds_of}
 use Rattle.feed_out.proofs.Again.{IsSaid, IsNameText, folds_said, names_text}
-use Rattle.delta_defs.specs.Changes.{gone, is_same, combined_of, change_sent, held_under, ids_of_both, feed_changes, held_before, changes, changes_bytes}
+use Rattle.delta_defs.specs.Changes.{is_same, combined_of, change_sent, held_under, ids_of_both, feed_changes, held_before, changes, changes_bytes}
 use Rattle.delta_defs.proofs.Applying.{IsKeyed, IsTable, found_keyed, named_one, at_number, each_feed, each_fold}
 use Rattle.delta_defs.proofs.Tables.{folds_tables}
 use Rattle.delta_out.proofs.LawLemmas.{found_has}

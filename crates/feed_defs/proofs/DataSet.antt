@@ -20,6 +20,7 @@ use Rattle.pb_wire_defs.specs.Writing.{field_bytes}
 use Rattle.pb_wire_defs.proofs.Bytes.{AreBytes}
 use Rattle.pb_wire_defs.proofs.Again.{as_field}
 use Rattle.feed_defs.specs.Rows.{span_in, occurrences_of, last_of, unknown_bytes_of, fields_of_all, merged_message, value, message_bytes, numbered_values, with_entity_number, text, embedded, required, numbered, write_all}
+use Rattle.feed_defs.specs.Combined.{gone}
 use Rattle.feed_defs.specs.Enums.{incrementality_number}
 use Rattle.feed_defs.specs.Table.{header_shape, header, entity_shape, entity, feed_shape, feed, read, write}
 use Rattle.feed_defs.proofs.FieldKinds.{embedded_lawful, text_lawful, text_is, text_again, last_own, span_fits, occurring_own, occurring_none, occurring_bytes, merged_again}
@@ -93,9 +94,6 @@ message_again kind stamp es low each small =
 
 -- ---- an entity that says that its id is gone
 
-abbrev pub gone_with : List ℕ → Entity
-gone_with id = record { id = id; is_deleted = Some true; trip_update = None; vehicle = None; alert = None; unknown = [] }
-
 abbrev gone_told : Option Bool × (Option TripUpdate × (Option Vehicle × Option Alert))
 gone_told = (Some true, (None, (None, None)))
 
@@ -103,7 +101,7 @@ told_back : told_rows.read entity_shape.kind (map as_field (told_rows.write gone
 unfolding last_of occurrences_of merged_message
 told_back = refl
 
-pub gone_again : (id : List ℕ) → is_utf8 id ≡ true → ReadsAgain (gone_with id)
+pub gone_again : (id : List ℕ) → is_utf8 id ≡ true → ReadsAgain (gone id)
 unfolding unknown_bytes_of
 gone_again id is_text small =
     made_again entity_shape 1 5 entity_law (lit≤ tt) (lit≤ tt) (λ v unknown. (refl, refl)) [] (id, gone_told) tt

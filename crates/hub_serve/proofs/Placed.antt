@@ -17,6 +17,16 @@ places_with P place (x ∷ xs) [] (z ∷ zs) p q all = absurd (omega (arith, q))
 places_with P place (x ∷ xs) (y ∷ ys) (z ∷ zs) p q all =
     (all.0, places_with P (place + 1) xs ys zs (omega (arith, p)) (omega (arith, q)) all.1)
 
+-- what is true beside each place is true at each
+pub places_and : {A B C P : Type 0} (accepts : ℕ → A → B → C → Type 0) (place : ℕ) (xs : List A) (ys : List B) (zs : List C) → P → ArePlaces accepts place xs ys zs
+    → ArePlaces (λ (k : ℕ) (x : A) (y : B) (z : C). P × accepts k x y z) place xs ys zs
+places_and accepts place [] [] [] p are = tt
+places_and accepts place [] [] (z ∷ zs) p are = absurd are
+places_and accepts place [] (y ∷ ys) zs p are = absurd are
+places_and accepts place (x ∷ xs) [] zs p are = absurd are
+places_and accepts place (x ∷ xs) (y ∷ ys) [] p are = absurd are
+places_and accepts place (x ∷ xs) (y ∷ ys) (z ∷ zs) p are = ((p, are.0), places_and accepts (place + 1) xs ys zs p are.1)
+
 -- the seats of a hub that was opened are its own
 seats_from : {P R : Type 0} (hub : Ties) (first place n : ℕ) (ps : List P) (rs : List R) → length ps ≡ n → length rs ≡ n
     → ArePlaces (λ (k : ℕ) (p : P) (seat : SeatSeen) (r : R). seat.ties ≡ hub) place ps (map (fresh_seat hub) (range_with_len first n)) rs

@@ -7,6 +7,7 @@ use hub_shared::{FeedSeat, Hub, PortReport, ingest_port};
 use place_jobs::PlaceJob;
 use std::alloc::Global;
 use std::sync::Wait;
+use std::thread::Threads;
 
 /// Brings in the messages of each port.
 #[derive(Drop)]
@@ -17,12 +18,15 @@ pub(crate) struct Ingesting<'a, R, G> {
     pub(crate) gate: &'a G,
 }
 
-impl<'a, R: Wait, G: Gate, P: FeedPort> PlaceJob<P, FeedSeat, PortReport> for Ingesting<'a, R, G> {
+impl<'a, R: Threads + Wait + Sync, G: Gate, P: FeedPort> PlaceJob<P, FeedSeat, PortReport>
+    for Ingesting<'a, R, G> {
     ghost use Rattle.std.specs.Prelude.{◌≡◌};
+    ghost use denote.Param.Send.{IsSync};
     ghost use Rattle.hub_serve.specs.Feeds.{ingests_at};
     ghost use Rattle.hub_serve.specs.Words.{port_words};
 
-    ghost accepts = { λ job place port seat report. seat.ties ≡ job.hub.now };
+    // That threads may share the runtime is no bound that a method is given, so it is told here.
+    ghost accepts = { λ job place port seat report. IsSync R.row × (seat.ties ≡ job.hub.now) };
 
     ghost does = { λ job. ingests_at (port_words P.ahead P.faults) };
 

@@ -17,6 +17,7 @@ use hub_core::Refusal;
 use hub_outside::Buf;
 use std::alloc::Global;
 use std::sync::Wait;
+use std::thread::Threads;
 
 /// The most messages that one call asks a port for.
 const MOST_ANSWERS: u64 = 1_000_000_000_000;
@@ -26,7 +27,7 @@ const MOST_ANSWERS: u64 = 1_000_000_000_000;
 /// refused, or for which there is no memory, is counted and left, and the port hears why. Memory
 /// for the longest message is taken before the port is asked for the first, and none for those that
 /// follow. It may wait as [`ingest`](crate::ingest) does.
-pub fn ingest_port<R: Wait, P: FeedPort>(
+pub fn ingest_port<R: Threads + Wait + Sync, P: FeedPort>(
     rt: &R,
     alloc: Global,
     hub: &Hub,
@@ -50,7 +51,7 @@ pub fn ingest_port<R: Wait, P: FeedPort>(
 }
 
 /// The same with a seat that is given, and given back with the report.
-pub fn ingest_all<R: Wait, P: FeedPort>(
+pub fn ingest_all<R: Threads + Wait + Sync, P: FeedPort>(
     rt: &R,
     alloc: Global,
     hub: &Hub,
@@ -91,7 +92,7 @@ fn report(tally: Tally, end: PortEnd) -> PortReport
 }
 
 /// Asks the port for one message after another, and brings in what it hands in.
-fn ask_all<R: Wait, P: FeedPort>(
+fn ask_all<R: Threads + Wait + Sync, P: FeedPort>(
     rt: &R,
     alloc: Global,
     hub: &Hub,
@@ -117,7 +118,7 @@ fn ask_all<R: Wait, P: FeedPort>(
 }
 
 /// Asks the port once, and brings in what it hands in; or says why nothing more comes.
-fn ask<R: Wait, P: FeedPort>(
+fn ask<R: Threads + Wait + Sync, P: FeedPort>(
     rt: &R,
     alloc: Global,
     hub: &Hub,
@@ -150,7 +151,7 @@ fn ask<R: Wait, P: FeedPort>(
 
 /// Ingests a message that a port handed in, and counts what became of it. The port hears why it was
 /// refused.
-fn judge<R: Wait, P: FeedPort>(
+fn judge<R: Threads + Wait + Sync, P: FeedPort>(
     rt: &R,
     alloc: Global,
     hub: &Hub,

@@ -9,11 +9,12 @@ use hub_core::{Refusal, check};
 use snapshot_cell::Receipt;
 use std::alloc::Global;
 use std::sync::Wait;
+use std::thread::Threads;
 
 /// Takes the message of the bytes for the seat's feed, and gives a receipt of it; or refuses it,
 /// and the seat is as it was. It reads and judges the message before it takes the hub's lock, for
 /// which it may wait, as for readers that stand within a look.
-pub fn ingest<R: Wait>(
+pub fn ingest<R: Threads + Wait + Sync>(
     rt: &R,
     alloc: Global,
     hub: &Hub,

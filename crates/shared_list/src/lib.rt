@@ -13,7 +13,7 @@
 //! copied.
 //!
 //! The cost of a change hardly grows with the list: the items stand in leaves of at most 16, the
-//! leaves in nodes of at most 32, and the nodes in one list. `share` takes one share of each node.
+//! leaves in nodes of at most 16, and the nodes in one list. `share` takes one share of each node.
 //! A change copies the node in which the key stands, which is one share of each of its leaves, and
 //! the one leaf in which the key stands, and each only once for each version. A key that is put in
 //! is searched for once; one that is to go, before a copy is made too, so that what doesn't hold it

@@ -123,7 +123,7 @@ impl<T: Keyed> SharedList<T> {
     /// The list after the changes, one after another; or out of memory.
     ///
     /// A node or a leaf that other versions share is copied by the first change that touches it,
-    /// and is this version's own for those after it. So k changes copy at most k nodes of 32 shares
+    /// and is this version's own for those after it. So k changes copy at most k nodes of 16 shares
     /// and k leaves of 16 items, however many items the list has, and each change takes one search.
     /// Where they come in the order of keys, those that touch one leaf find it in the cache.
     pub fn with_all<K: KeyFor<T>>(self, changes: Vec<Change<T, K>>) -> Result<Self, NoMemory>

@@ -1,7 +1,8 @@
 //! What is told of what fails again and again, at given moments.
 
-use hub_ports::{Pace, accept_news, dial_news, poll_news};
+use hub_ports::{NoMemory, Pace, accept_news, dial_news, poll_news};
 use poll_port::{PollFault, ReplyFault};
+use std::alloc::Global;
 use std::io::ErrorKind;
 use std::test::Fail;
 
@@ -21,51 +22,71 @@ fn bytes_of(line: &Option<Vec<u8>>) -> &[u8] {
     }
 }
 
-/// The first is told at once, and those of a minute by one line, with the cause of the last; that
-/// the listener itself has failed is told whatever was told before.
+/// Moments at which a connection can't be accepted, with the cause, and what is told then: the first
+/// at once, and those of a minute by one line, with the cause of the last.
+const PASSING: [(u64, ErrorKind, &str); 7] = [
+    (
+        7,
+        ErrorKind::Uncategorized,
+        "hub: can't accept a connection: too many open files, or another fault of the system\n",
+    ),
+    (7, ErrorKind::PermissionDenied, ""),
+    (66, ErrorKind::OutOfMemory, ""),
+    (
+        67,
+        ErrorKind::ConnectionAborted,
+        "hub: can't accept a connection: 3 times, the last one: broken off\n",
+    ),
+    (126, ErrorKind::ConnectionAborted, ""),
+    (
+        200,
+        ErrorKind::NetworkDown,
+        "hub: can't accept a connection: 2 times, the last one: network down\n",
+    ),
+    (
+        260,
+        ErrorKind::ConnectionReset,
+        "hub: can't accept a connection: reset\n",
+    ),
+];
+
+/// The same where the listener itself has failed, which is told whatever was told before.
+const FINAL: [(u64, ErrorKind, &str); 4] = [
+    (
+        7,
+        ErrorKind::ConnectionReset,
+        "hub: can't accept a connection: reset\n",
+    ),
+    (8, ErrorKind::TimedOut, ""),
+    (
+        9,
+        ErrorKind::InvalidInput,
+        "hub: can't accept a connection: 2 times, the last one: the listener has failed\n",
+    ),
+    (
+        9,
+        ErrorKind::InvalidInput,
+        "hub: can't accept a connection: the listener has failed\n",
+    ),
+];
+
+/// Whether that is told of connections that can't be accepted, one after another.
+fn are_told(alloc: Global, accepts: &[(u64, ErrorKind, &str)]) -> Result<bool, NoMemory> {
+    let mut pace = Pace::new();
+    for (now, cause, line) in accepts {
+        let told = accept_news(alloc, &mut pace, *now, *cause)?;
+        if shown(&told) != *line {
+            return Ok(false);
+        }
+    }
+    Ok(true)
+}
+
 #[test]
 fn connections_that_are_not_accepted_are_told(rt: HostRuntime) -> Result<(), Fail> {
     let alloc = rt.alloc();
-    let mut pace = Pace::new();
-    for (now, cause, line) in [
-        (
-            7,
-            ErrorKind::Uncategorized,
-            "hub: can't accept a connection: too many open files, or another fault of the system\n",
-        ),
-        (7, ErrorKind::PermissionDenied, ""),
-        (66, ErrorKind::OutOfMemory, ""),
-        (
-            67,
-            ErrorKind::ConnectionAborted,
-            "hub: can't accept a connection: 3 times, the last one: broken off\n",
-        ),
-        (126, ErrorKind::ConnectionAborted, ""),
-        (
-            200,
-            ErrorKind::NetworkDown,
-            "hub: can't accept a connection: 2 times, the last one: network down\n",
-        ),
-        (
-            260,
-            ErrorKind::ConnectionReset,
-            "hub: can't accept a connection: reset\n",
-        ),
-        (261, ErrorKind::TimedOut, ""),
-        (
-            262,
-            ErrorKind::InvalidInput,
-            "hub: can't accept a connection: 2 times, the last one: the listener has failed\n",
-        ),
-        (
-            262,
-            ErrorKind::InvalidInput,
-            "hub: can't accept a connection: the listener has failed\n",
-        ),
-    ] {
-        let told = accept_news(alloc, &mut pace, now, cause)?;
-        assert_eq!(rt; shown(&told), line, "at {now}");
-    }
+    assert!(rt; are_told(alloc, &PASSING)?);
+    assert!(rt; are_told(alloc, &FINAL)?);
     Ok(())
 }
 

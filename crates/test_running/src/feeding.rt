@@ -16,6 +16,7 @@ use snapshot_cell::Pass;
 use std::alloc::Global;
 use std::sync::Wait;
 use std::test::Fail;
+use std::thread::Threads;
 
 /// What a report tells: how many were accepted, refused, starved and too long, and the last stamp;
 /// and the end.
@@ -32,7 +33,7 @@ fn told(report: &IngestReport) -> ([u64; 5], PortEnd) {
 
 /// Takes in all that the port hands in, and ends the hub; what the report told, and how many
 /// messages the ended hub has.
-fn run<R: Wait, P: FeedPort>(
+fn run<R: Threads + Wait + Sync, P: FeedPort>(
     rt: &R,
     alloc: Global,
     hub: Hub,
@@ -53,7 +54,7 @@ fn run<R: Wait, P: FeedPort>(
 }
 
 /// Ends a hub of one seat; how many messages it has.
-fn end_of_one<R: Wait>(rt: &R, hub: Hub, seat: FeedSeat) -> Option<u64>
+fn end_of_one<R: Threads + Wait + Sync>(rt: &R, hub: Hub, seat: FeedSeat) -> Option<u64>
     requires { seat.ties ≡ hub }
 {
     let Ok(ending) = close_hub(rt, hub, &mut [seat]) else {
@@ -65,7 +66,7 @@ fn end_of_one<R: Wait>(rt: &R, hub: Hub, seat: FeedSeat) -> Option<u64>
 }
 
 /// The same of a hub that is opened.
-fn run_over<R: Wait, P: FeedPort>(
+fn run_over<R: Threads + Wait + Sync, P: FeedPort>(
     rt: &R,
     alloc: Global,
     port: &mut P,
@@ -127,7 +128,7 @@ impl FeedPort for Watching {
 }
 
 /// What a watching port saw, of two messages.
-fn watched<R: Wait>(rt: &R, alloc: Global) -> Option<u64> {
+fn watched<R: Threads + Wait + Sync>(rt: &R, alloc: Global) -> Option<u64> {
     let inner = port(alloc, &[&FIVE, &UPDATE], &[]).ok()?;
     let Ok(opened) = open_hub(rt, alloc, one_feed(alloc).ok()?, 1) else {
         return None;

@@ -38,7 +38,7 @@ struct Told {
 }
 
 /// Two feeds send a message each, the first of them a second time, and a pass learns of it.
-fn told_by_two<R: Wait>(
+fn told_by_two<R: Threads + Wait + Sync>(
     rt: &R,
     alloc: Global,
     hub: &Hub,
@@ -68,7 +68,12 @@ fn told_by_two<R: Wait>(
 }
 
 /// What an ended hub tells: how many messages it has, and how many a pass finds that knows its end.
-fn ended<R: Wait>(rt: &R, hub: Hub, seats: &mut [FeedSeat], pass: &mut Pass) -> Option<[u64; 2]>
+fn ended<R: Threads + Wait + Sync>(
+    rt: &R,
+    hub: Hub,
+    seats: &mut [FeedSeat],
+    pass: &mut Pass,
+) -> Option<[u64; 2]>
     requires seats { All (λ seat. seat.ties ≡ hub) seats.old }
     requires pass { IsOf pass.old.line hub }
 {
@@ -83,7 +88,7 @@ fn ended<R: Wait>(rt: &R, hub: Hub, seats: &mut [FeedSeat], pass: &mut Pass) -> 
 }
 
 /// A run on one thread, or none where no memory was found.
-fn run_of_one<R: Wait>(rt: &R, alloc: Global) -> Option<(Told, [u64; 2])> {
+fn run_of_one<R: Threads + Wait + Sync>(rt: &R, alloc: Global) -> Option<(Told, [u64; 2])> {
     let Ok(plans) = four_feeds(alloc) else {
         return None;
     };
@@ -117,7 +122,7 @@ fn a_pass_learns_of_a_message(rt: HostRuntime) -> Result<(), Fail> {
 }
 
 /// Offers so many messages of a feed.
-fn ingest_many<R: Wait>(rt: &R, alloc: Global, hub: &Hub, seat: &mut FeedSeat)
+fn ingest_many<R: Threads + Wait + Sync>(rt: &R, alloc: Global, hub: &Hub, seat: &mut FeedSeat)
     requires { seat.old.ties ≡ hub.now }
     ensures { seat.new.ties ≡ seat.old.ties }
 {
@@ -143,7 +148,9 @@ fn ingest_all<R: Threads + Wait + Sync>(
         rt,
         seats.as_mut_slice(),
         4,
-        &|_, seat| ingest_many(rt, alloc, hub, seat),
+        &|_, seat|
+            requires { IsSync R.row × (seat.old.ties ≡ hub.now) }
+        { ingest_many(rt, alloc, hub, seat) },
     );
     seats
 }
@@ -208,7 +215,12 @@ fn run_of_four<R: Threads + Wait + Sync>(rt: &R, alloc: Global) -> Option<[u64; 
 }
 
 /// Ends the hub, and adds up what its seats tell.
-fn end_all<R: Wait>(rt: &R, hub: Hub, seats: Vec<FeedSeat>, odd: u64) -> Option<[u64; 4]>
+fn end_all<R: Threads + Wait + Sync>(
+    rt: &R,
+    hub: Hub,
+    seats: Vec<FeedSeat>,
+    odd: u64,
+) -> Option<[u64; 4]>
     requires { All (λ seat. seat.ties ≡ hub) seats.items }
 {
     let mut seats = seats;

@@ -22,7 +22,7 @@ const LAST: u32 = 100;
 const LOOKS: u32 = 1000;
 
 /// Sends the stamps of a feed, one after another.
-fn send_all<R: Wait>(rt: &R, alloc: Global, hub: &Hub, seat: &mut FeedSeat)
+fn send_all<R: Threads + Wait + Sync>(rt: &R, alloc: Global, hub: &Hub, seat: &mut FeedSeat)
     requires { seat.old.ties ≡ hub.now }
     ensures { seat.new.ties ≡ seat.old.ties }
 {
@@ -47,7 +47,9 @@ fn send_beside<R: Threads + Wait + Sync>(
         rt,
         seats.as_mut_slice(),
         2,
-        &|_, seat| send_all(rt, alloc, hub, seat),
+        &|_, seat|
+            requires { IsSync R.row × (seat.old.ties ≡ hub.now) }
+        { send_all(rt, alloc, hub, seat) },
     );
     seats
 }
@@ -89,7 +91,7 @@ struct Told {
 }
 
 /// Ends a hub of which two passes learned; none where no memory was found.
-fn end_of_two<R: Wait>(
+fn end_of_two<R: Threads + Wait + Sync>(
     rt: &R,
     hub: Hub,
     seats: &mut [FeedSeat],
@@ -161,7 +163,7 @@ fn passes_that_learn_of_feeds_find_all_messages(rt: HostRuntime) -> Result<(), F
 }
 
 /// What a feed tells that sends the stamp 5 twice and then 6.
-fn send_three<R: Wait>(
+fn send_three<R: Threads + Wait + Sync>(
     rt: &R,
     alloc: Global,
     hub: &Hub,
@@ -178,7 +180,7 @@ fn send_three<R: Wait>(
 }
 
 /// What a pass finds before two messages, has behind them without a look, and finds then.
-fn look_round<R: Wait>(
+fn look_round<R: Threads + Wait + Sync>(
     rt: &R,
     alloc: Global,
     hub: &Hub,
@@ -197,14 +199,14 @@ fn look_round<R: Wait>(
 }
 
 /// Ends a hub that nobody needs any more.
-fn end<R: Wait>(rt: &R, hub: Hub) {
+fn end<R: Threads + Wait + Sync>(rt: &R, hub: Hub) {
     if let Ok(ending) = close_hub(rt, hub, &mut []) {
         ending.end(rt);
     }
 }
 
 /// What a feed tells that sends three messages, on one thread.
-fn run_of_three<R: Wait>(rt: &R, alloc: Global) -> Option<(u64, bool, u64)> {
+fn run_of_three<R: Threads + Wait + Sync>(rt: &R, alloc: Global) -> Option<(u64, bool, u64)> {
     let Ok(plans) = two_feeds(alloc) else {
         return None;
     };
@@ -222,7 +224,7 @@ fn run_of_three<R: Wait>(rt: &R, alloc: Global) -> Option<(u64, bool, u64)> {
 }
 
 /// What a pass tells round two messages, on one thread.
-fn run_of_round<R: Wait>(rt: &R, alloc: Global) -> Option<[u64; 3]> {
+fn run_of_round<R: Threads + Wait + Sync>(rt: &R, alloc: Global) -> Option<[u64; 3]> {
     let Ok(plans) = two_feeds(alloc) else {
         return None;
     };
@@ -272,7 +274,7 @@ fn empty_looks_of(passes: &mut [Pass]) -> u32 {
 }
 
 /// How many looks of 64 passes found no message in a hub that has none.
-fn run_of_many<R: Wait>(rt: &R, alloc: Global) -> Option<u32> {
+fn run_of_many<R: Threads + Wait + Sync>(rt: &R, alloc: Global) -> Option<u32> {
     let Ok(plans) = two_feeds(alloc) else {
         return None;
     };

@@ -12,13 +12,14 @@ use snapshot_cell::Pass;
 use std::alloc::Global;
 use std::sync::Wait;
 use std::test::Fail;
+use std::thread::Threads;
 
 /// The response after the update alone.
 const LIVE: &str =
     "HTTP/1.1 200 OK\r\nContent-Type: text/plain; charset=utf-8\r\nContent-Length: 134\r\nX-Hub-Sequence: 1\r\nX-Hub-Moment: 1743314000\r\nConnection: keep-alive\r\n\r\nstop\tS3\tHarbour\nexpected\tscheduled\tdelay\tstate\troute\theadsign\ttrip\tdate\tplatform\n1743315300\t1743315000\t300\tlive\t7\tHill\tT1\t20250330\tS3\n";
 
 /// The first feed sends the update, of which the pass learns.
-fn send_update<R: Wait>(
+fn send_update<R: Threads + Wait + Sync>(
     rt: &R,
     alloc: Global,
     hub: &Hub,
@@ -48,7 +49,7 @@ fn served_by(alloc: Global, pass: &mut Pass) -> Result<Option<u64>, NoMemory> {
 
 /// The number of the response of a pass that learned of the update, and whether one which did not
 /// serves either.
-fn serve_both<R: Wait>(
+fn serve_both<R: Threads + Wait + Sync>(
     rt: &R,
     alloc: Global,
     hub: &Hub,
@@ -66,7 +67,7 @@ fn serve_both<R: Wait>(
 }
 
 /// The same of the city with two passes.
-fn run_both<R: Wait>(rt: &R, alloc: Global) -> Option<(Option<u64>, bool)> {
+fn run_both<R: Threads + Wait + Sync>(rt: &R, alloc: Global) -> Option<(Option<u64>, bool)> {
     let Ok(plans) = two_feeds(alloc) else {
         return None;
     };

@@ -225,43 +225,45 @@ fn tells_texts_by_number(rt: HostRuntime) -> Result<(), Fail> {
     Ok(())
 }
 
+/// What is missing in a message, or wrong where something is missing too.
+const MISSING_LAST: [(Path, &[u8], What, Kind, u32); 7] = [
+    (POSITION, &[], What::Missing, Kind::Position, 1),
+    (
+        POSITION,
+        &[0x0d, 0, 0, 0, 0, 0x10, 1],
+        What::Missing,
+        Kind::Position,
+        2,
+    ),
+    (
+        TRANSLATION,
+        &[0x12, 1, 0xff],
+        What::NotText,
+        Kind::Translation,
+        2,
+    ),
+    (TRANSLATED, &[0x0a, 0], What::Missing, Kind::Translation, 1),
+    (
+        ALERT,
+        &[0x5a, 2, 0x0a, 0],
+        What::Missing,
+        Kind::Translation,
+        1,
+    ),
+    (
+        TRIP_UPDATE,
+        &[0x1a, 3, 0x0a, 1, 0xff],
+        What::NotText,
+        Kind::VehicleDescriptor,
+        1,
+    ),
+    (TRIP_UPDATE, &[0x20, 1], What::Missing, Kind::TripUpdate, 1),
+];
+
 /// What is missing is told last, by rising number.
 #[test]
 fn tells_missing_fields_last(rt: HostRuntime) -> Result<(), Fail> {
-    let cases: [(Path, &[u8], What, Kind, u32); 7] = [
-        (POSITION, &[], What::Missing, Kind::Position, 1),
-        (
-            POSITION,
-            &[0x0d, 0, 0, 0, 0, 0x10, 1],
-            What::Missing,
-            Kind::Position,
-            2,
-        ),
-        (
-            TRANSLATION,
-            &[0x12, 1, 0xff],
-            What::NotText,
-            Kind::Translation,
-            2,
-        ),
-        (TRANSLATED, &[0x0a, 0], What::Missing, Kind::Translation, 1),
-        (
-            ALERT,
-            &[0x5a, 2, 0x0a, 0],
-            What::Missing,
-            Kind::Translation,
-            1,
-        ),
-        (
-            TRIP_UPDATE,
-            &[0x1a, 3, 0x0a, 1, 0xff],
-            What::NotText,
-            Kind::VehicleDescriptor,
-            1,
-        ),
-        (TRIP_UPDATE, &[0x20, 1], What::Missing, Kind::TripUpdate, 1),
-    ];
-    for (path, bytes, what, kind, field) in cases.iter() {
+    for (path, bytes, what, kind, field) in MISSING_LAST.iter() {
         assert_eq!(rt;
             fault_in(rt.alloc(), path, bytes)?,
             Some((1, *what, *kind, *field))

@@ -14,8 +14,8 @@ use Rattle.hub_shared.proofs.Fronts.{last_feed_more}
 use Rattle.hub_shared.proofs.Taking.{newer_at, legal_at, room, more, last_more, locked_more, takes, legal_moved, stands_moved, grown_moved}
 use Rattle.hub_shared.proofs.locked.Locked.take_in.Goals as goal
 
-pub prepare-requires-clause-newer : goal.prepare-requires-clause-newer
-prepare-requires-clause-newer g c =
+pub next_view-requires-clause-newer : goal.next_view-requires-clause-newer
+next_view-requires-clause-newer g c κs within =
     let l = c.self.inside in let seat = c.args.seat.now in
     let feed_is : c.feed-feed.result ≡ seat.feed = c.feed-feed.ensures ∙ ap (λ (s : SeatSeen). s.feed) c.level.ensures.seat in
     let one : seat.feed < length l.core.plans.feeds = subst (λ (n : ℕ). seat.feed < n) (ap (λ (t : Ties). length t.plans.feeds) (c.requires.tie ∙ sym c.self.view_is)) c.level.ensures.one in

@@ -1,6 +1,0 @@
--- The history goes on from what it was.
-use Rattle.test_differences.proofs.OfHistory.{of_offered}
-use Rattle.test_differences.proofs.followed.follow.Goals as goal
-
-pub keep-requires : goal.keep-requires
-keep-requires c = of_offered 0 c.args.message.now c.args.hub.now c.offer.new.self c.in_ok-offer.field-0 c.args.kept.now c.in_ok-offer.ensures.offered c.offer.ensures.plans c.requires.kept
