@@ -1,6 +1,7 @@
 -- The parts of a list, as the lists that they are.
 use Rattle.std.specs.Prelude.{◌≡◌, ℕ, ◌<◌, List, [], ◌∷◌, ◌++◌, length, map, Option, Some, None, Bool, true, false, refl}
 use Rattle.std.proofs.Common.{◌∙◌, arith}
+use Rattle.std.specs.Global.{Vec}
 use Rattle.std.specs.List.{flat_map, AllByRecursion}
 use Rattle.std.specs.declared.cmp.Ordering.{Ordering}
 use Rattle.std.specs.declared.sync.Arc.{Arc}
@@ -68,6 +69,12 @@ node_items node = items_in leaf_items node.parts.items
 
 abbrev pub IsFilled : {X : Type 0} → (X → ℕ) → Node (Leaf X) → Type 0
 IsFilled stamp node = IsNode leaf_items (IsDated stamp) stamp node
+
+-- the nodes of a list, which has none before it has an item
+abbrev pub nodes_of : {X : Type 0} → Option (Arc (Vec (Arc (Node (Leaf X)) Global)) Global)
+    → List (Arc (Node (Leaf X)) Global)
+nodes_of None = []
+nodes_of (Some shared) = shared.value.items
 
 -- what is true of the nodes of a list with so many items
 pub record AreNodes {K X : Type 0} (cmp : K → K → Ordering) (key : X

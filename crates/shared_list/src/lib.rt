@@ -13,9 +13,10 @@
 //! copied.
 //!
 //! The cost of a change hardly grows with the list: the items stand in leaves of at most 16, the
-//! leaves in nodes of at most 16, and the nodes in one list. `share` takes one share of each node.
-//! A change copies the node in which the key stands, which is one share of each of its leaves, and
-//! the one leaf in which the key stands, and each only once for each version. A key that is put in
+//! leaves in nodes of at most 16, and the nodes in one list. `share` takes one share of that list.
+//! A version's first change copies it, which is one share of each node; a change copies the node in
+//! which the key stands, which is one share of each of its leaves, and the one leaf in which the
+//! key stands, and each only once for each version. A key that is put in
 //! is searched for once; one that is to go, before a copy is made too, so that what doesn't hold it
 //! stays shared. Keys that come in rising order leave full leaves. Each leaf and each node keeps a
 //! stamp that none of its items is above, by which `newer` passes over those in which nothing is
@@ -37,6 +38,7 @@ mod list;
 mod newer;
 mod node;
 mod part;
+mod root;
 mod shared;
 mod sorted;
 mod split;

@@ -11,22 +11,19 @@ use crate::NoMemory;
 use crate::change::Change;
 use crate::iter::Iter;
 use crate::keyed::{KeyFor, Keyed};
-use crate::leaf::Leaf;
 use crate::newer::Newer;
-use crate::node::Node;
-use crate::shared::{item_in, put_shared, share, take_out_shared};
+use crate::root::Root;
+use crate::shared::item_in;
 use crate::sorted::nodes_of;
-use crate::split::Arrival;
 use std::alloc::Global;
 use std::marker::Model;
-use std::sync::Arc;
 
 /// Items in the order of their keys, each key once. A contract sees them as a list of pairs of key
 /// and item.
 #[derive(Drop)]
 pub struct SharedList<T: Keyed> {
     // Neither a node nor a leaf within one is empty.
-    nodes: Vec<Arc<Node<Leaf<T>>>>,
+    nodes: Root<T>,
     len: usize,
 }
 
@@ -38,9 +35,9 @@ impl<T: Keyed> Model for SharedList<T> {
     ghost use Rattle.shared_list.specs.Order.{entries};
     ghost use Rattle.shared_list.specs.Parts.{items_in, node_items, AreNodes};
 
-    ghost view = { λ list. entries T.key_of (items_in node_items list.nodes.items) };
+    ghost view = { λ list. entries T.key_of (items_in node_items list.nodes) };
 
-    ghost invariant = { λ list. AreNodes T.key_cmp T.key_of T.stamp_of list.nodes.items list.len };
+    ghost invariant = { λ list. AreNodes T.key_cmp T.key_of T.stamp_of list.nodes list.len };
 }
 
 /// A list after a change at one key.
@@ -58,7 +55,7 @@ impl<T: Keyed> SharedList<T> {
         ensures { result ≡ [] }
     {
         SharedList {
-            nodes: Vec::new(alloc),
+            nodes: Root::empty(alloc),
             len: 0,
         }
     }
@@ -70,16 +67,16 @@ impl<T: Keyed> SharedList<T> {
         ensures { IfOk result (λ list. list ≡ entries T.key_of items.items) }
     {
         let len = items.len();
-        let nodes = nodes_of(alloc, items)?;
+        let nodes = Root::of(alloc, nodes_of(alloc, items)?)?;
         Ok(SharedList { nodes, len })
     }
 
-    /// The same list, with all its nodes shared, or want of memory.
+    /// The same list, with all its nodes shared at once, or want of memory.
     pub fn share(&self) -> Result<Self, NoMemory>
         ensures { IfOk result (λ same. same ≡ self.now) }
     {
         Ok(SharedList {
-            nodes: share(&self.nodes, 0)?,
+            nodes: self.nodes.share()?,
             len: self.len,
         })
     }
@@ -93,10 +90,7 @@ impl<T: Keyed> SharedList<T> {
             ≡ find T.key_cmp (T.key_of item) self) }
     {
         let SharedList { mut nodes, len } = self;
-        let Arrival {
-            replaced,
-            at_end: _,
-        } = put_shared(&mut nodes, item)?;
+        let replaced = nodes.put(item)?;
         let len = len_with(len, replaced.is_some())?;
         Ok(Changed {
             list: SharedList { nodes, len },
@@ -112,7 +106,7 @@ impl<T: Keyed> SharedList<T> {
             ≡ find T.key_cmp (K.sought key) self) }
     {
         let SharedList { mut nodes, len } = self;
-        let taken = take_out_shared(&mut nodes, key)?;
+        let taken = nodes.take_out(key)?;
         let len = len_without(len, taken.is_some());
         Ok(Changed {
             list: SharedList { nodes, len },
@@ -152,7 +146,7 @@ impl<T: Keyed> SharedList<T> {
     pub fn get<K: KeyFor<T>>(&self, key: K) -> Option<&T>
         ensures { option_copied result ≡ find T.key_cmp (K.sought key) self.entry.now }
     {
-        item_in(self.nodes.as_slice(), key)
+        item_in(self.nodes.nodes(), key)
     }
 
     /// The items in the order of their keys, which strictly rise; each is under its own key.
@@ -161,7 +155,7 @@ impl<T: Keyed> SharedList<T> {
         ensures rising { IsSo (is_sorted T.key_cmp self.entry.now) }
         ensures keyed { entries T.key_of (map (λ entry. entry.1) self.entry.now) ≡ self.entry.now }
     {
-        Iter::over(self.nodes.as_slice())
+        Iter::over(self.nodes.nodes())
     }
 
     /// The items from a key on, as `iter` gives them: those whose keys are not below it. The first
@@ -172,7 +166,7 @@ impl<T: Keyed> SharedList<T> {
         ensures rising { IsSo (is_sorted T.key_cmp self.entry.now) }
         ensures keyed { entries T.key_of (map (λ entry. entry.1) self.entry.now) ≡ self.entry.now }
     {
-        Iter::starting(self.nodes.as_slice(), key)
+        Iter::starting(self.nodes.nodes(), key)
     }
 
     /// The items whose stamps are above the given one, in the order of their keys. Nodes and leaves
@@ -180,7 +174,7 @@ impl<T: Keyed> SharedList<T> {
     pub fn newer(&self, than: u64) -> Newer<'_, T>
         ensures { result ≡ newer T.stamp_of than (map (λ entry. entry.1) self.entry.now) }
     {
-        Newer::among(self.nodes.as_slice(), than)
+        Newer::among(self.nodes.nodes(), than)
     }
 
     /// How many items there are.

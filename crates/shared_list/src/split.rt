@@ -18,8 +18,8 @@ pub(crate) struct Arrival<T> {
 /// of which all items are copied: so a leaf has few.
 pub(crate) const LEAF_MOST: usize = 16;
 
-/// The most parts of a node. Of a node that is changed all parts are shared once more, and each
-/// version of a list has a share of each node: more parts cost the first, fewer the second.
+/// The most parts of a node. Of a node that is changed all parts are shared once more, and of a list
+/// that is changed all nodes: more parts cost the first, fewer the second.
 pub(crate) const NODE_MOST: usize = 16;
 
 /// Takes the back of a part that has more than so many items off, by whether the newest is the

@@ -5,7 +5,7 @@ use Rattle.shared_list.proofs.Places.{items_entries, keyed_entries}
 use Rattle.shared_list.proofs.list.SharedList.iter.Goals as goal
 
 pub returns-clause-items : goal.returns-clause-items
-returns-clause-items g c = rw (c.over.ensures, c.as_slice.ensures.value, ← c.self.view_is) (sym (items_entries g.T.Keyed.key_of (items_in node_items c.self.inside.nodes.items)))
+returns-clause-items g c = rw (c.over.ensures, c.nodes.ensures, ← c.self.view_is) (sym (items_entries g.T.Keyed.key_of (items_in node_items c.self.inside.nodes)))
 
 pub returns-clause-keyed : goal.returns-clause-keyed
-returns-clause-keyed g c = rw (← c.self.view_is) (keyed_entries g.T.Keyed.key_of (items_in node_items c.self.inside.nodes.items))
+returns-clause-keyed g c = rw (← c.self.view_is) (keyed_entries g.T.Keyed.key_of (items_in node_items c.self.inside.nodes))

@@ -7,5 +7,5 @@ use Rattle.shared_list.proofs.list.SharedList.newer.Goals as goal
 
 pub returns : goal.returns
 returns g c =
-    rw (c.among.ensures, c.as_slice.ensures.value, ← c.self.view_is)
-    (ap (newer g.T.Keyed.stamp_of c.args.than) (sym (items_entries g.T.Keyed.key_of (items_in node_items c.self.inside.nodes.items))))
+    rw (c.among.ensures, c.nodes.ensures, ← c.self.view_is)
+    (ap (newer g.T.Keyed.stamp_of c.args.than) (sym (items_entries g.T.Keyed.key_of (items_in node_items c.self.inside.nodes))))
