@@ -1,17 +1,15 @@
 -- An entity is its id and what stands behind it, and a message grows entity by entity.
-use Rattle.std.proofs.Common.{◌≡◌, ℕ, ◌+◌, List, [], ◌∷◌, ◌++◌, take, drop, length, refl, sym, ap, ◌∙◌, append_assoc, append-nil, codes}
+use Rattle.std.proofs.Common.{◌≡◌, ℕ, List, [], ◌∷◌, ◌++◌, refl, sym, ap, ◌∙◌, append_assoc, append-nil, codes}
 use Rattle.std.specs.Prelude.{Result, Ok, Err, OnOk}
 use Rattle.std.specs.List.{flat_map}
 use Rattle.rt_types.specs.declared.message.Entity.{Entity}
 use Rattle.rt_types.specs.declared.message.Header.{Header}
 use Rattle.pb_wire_defs.specs.Field.Payload.{Span}
-use Rattle.pb_wire_defs.specs.Writing.{varint, field_bytes}
+use Rattle.pb_wire_defs.specs.Writing.{field_bytes}
 use Rattle.feed_defs.specs.Combined.{entity_under_feed}
 use Rattle.feed_defs.specs.Rows.{message_bytes, write_all}
 use Rattle.feed_defs.specs.Table.{header, entity, write}
 use Rattle.feed_write.specs.Entities.{entity_field, content_fields, content_bytes}
-use Rattle.feed_write.specs.Puts.{IsOpened}
-use Rattle.feed_write.proofs.Spelling.{framed}
 
 entity_bytes : (m : Entity) → message_bytes entity m ≡ field_bytes (record { number = 1; payload = Span m.id }) ++ content_bytes m
 unfolding message_bytes content_bytes
@@ -31,17 +29,15 @@ named_bytes feed m =
     ap (λ id. field_bytes (record { number = 1; payload = Span id }) ++ content_bytes m) (sym (append_assoc feed (codes ":") m.id))
     ∙ sym (entity_bytes (entity_under_feed feed m))
 
-pub under_feed : {A E : Type 0} (r : Result A E) (place : ℕ) (feed id : List ℕ) (m : Entity) (old opened named all after : List ℕ) → IsOpened 2 place old opened → id ≡ m.id
-    → named ≡ opened ++ field_bytes (record { number = 1; payload = Span (feed ++ (codes ":" ++ id)) }) → all ≡ named ++ content_bytes m
-    → OnOk r (after ≡ take place all ++ (varint (length (drop (place + 1) all)) ++ drop (place + 1) all))
-    → OnOk r (after ≡ old ++ entity_field (entity_under_feed feed m))
-unfolding entity_field
-under_feed r place feed id m old opened named all after open_is is front behind measured =
-    framed r 2 place old (message_bytes entity (entity_under_feed feed m)) opened all after open_is
-    (behind ∙ ap (λ bs. bs ++ content_bytes m) (front ∙ ap (λ x. opened ++ own x) is) ∙ append_assoc opened (own m.id) (content_bytes m) ∙ ap (λ bs. opened ++ bs) (named_bytes feed m)) measured
+pub under_feed : {A E : Type 0} (r : Result A E) (feed id : List ℕ) (m : Entity) (old named all : List ℕ) → id ≡ m.id
+    → named ≡ old ++ field_bytes (record { number = 1; payload = Span (feed ++ (codes ":" ++ id)) }) → OnOk r (all ≡ named ++ content_bytes m)
+    → OnOk r (all ≡ old ++ message_bytes entity (entity_under_feed feed m))
+under_feed (Ok x) feed id m old named all is front behind =
+    behind ∙ ap (λ bs. bs ++ content_bytes m) (front ∙ ap (λ x. old ++ own x) is) ∙ append_assoc old (own m.id) (content_bytes m) ∙ ap (λ bs. old ++ bs) (named_bytes feed m)
   where
     own : List ℕ → List ℕ
     own x = field_bytes (record { number = 1; payload = Span (feed ++ (codes ":" ++ x)) })
+under_feed (Err e) feed id m old named all is front behind = tt
 
 all_fields : (entities : List Entity) → flat_map field_bytes (write_all 2 entity entities) ≡ flat_map entity_field entities
 unfolding entity_field

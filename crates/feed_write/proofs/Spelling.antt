@@ -1,5 +1,5 @@
 -- Fields one after another are spelled one after another.
-use Rattle.std.proofs.Common.{◌≡◌, ◌<◌, ℕ, ◌+◌, ◌*◌, List, [], ◌∷◌, ◌++◌, take, drop, length, map, refl, sym, ap, ◌∙◌, subst, append_assoc, append-nil, arith}
+use Rattle.std.proofs.Common.{◌≡◌, ◌<◌, ℕ, ◌+◌, ◌-◌, ◌*◌, List, [], ◌∷◌, ◌++◌, take, drop, length, map, refl, sym, ap, ◌∙◌, subst, append_assoc, append-nil, arith}
 use Rattle.std.specs.Prelude.{◌^◌, Option, Result, Ok, Err, OnOk}
 use Rattle.std.specs.List.{flat_map}
 use Rattle.std.specs.Option.{option_map}
@@ -10,6 +10,7 @@ use Rattle.pb_wire_defs.specs.Field.Payload.{Span}
 use Rattle.pb_wire_defs.specs.Writing.{Written, varint, payload_bytes, field_bytes}
 use Rattle.feed_defs.specs.Rows.{Message, message_bytes, write_if, write_all}
 use Rattle.pb_wire_defs.specs.Spelling.{AreBytes}
+use Rattle.pb_wire_defs.proofs.Again.{last_group}
 use Rattle.rt_types.specs.declared.message.FeedMessage.{FeedMessage}
 use Rattle.feed_defs.specs.Table.{feed, read, write}
 use Rattle.feed_defs.proofs.Rereading.{read_again}
@@ -45,14 +46,25 @@ pub field_then : {A E : Type 0} (r : Result A E) (old mid new : List ℕ) (w : W
     → OnOk r (new ≡ old ++ (flat_map field_bytes ((w ∷ []) ++ vs) ++ unknown))
 field_then r old mid new w vs unknown here behind = row_then r old mid new (w ∷ []) vs unknown (here ∙ ap (λ bs. old ++ bs) (sym (append-nil (field_bytes w)))) behind
 
--- content with its length before it, in place of the byte that was kept, behind its tag
-pub framed : {A E : Type 0} (r : Result A E) (n place : ℕ) (old content opened all after : List ℕ) → IsOpened n place old opened → all ≡ opened ++ content
-    → OnOk r (after ≡ take place all ++ (varint (length (drop (place + 1) all)) ++ drop (place + 1) all))
+-- a tag below 128 is one byte, which is appended together with the byte that is kept
+pub opened : (number tag size : ℕ) (old new : List ℕ) → tag ≡ number * 8 + 2 → tag < 128 → new ≡ old ++ tag ∷ 0 ∷ [] → size ≡ length new → IsOpened number (0 ∷ []) (size - 1) old new
+unfolding varint
+opened number tag size old new is below whole measured = record {
+  begins = omega (arith, measured, ap length whole, length-append old (tag ∷ 0 ∷ []), ap (λ xs. length (old ++ xs)) one, length-append old (tag ∷ []));
+  whole = whole ∙ sym (ap (λ xs. old ++ xs ++ 0 ∷ []) one ∙ append_assoc old (tag ∷ []) (0 ∷ []));
+}
+  where
+    one : varint (number * 8 + 2) ≡ tag ∷ []
+    one = ap varint (sym is) ∙ last_group 9 tag below
+
+-- content with its length before it, in place of the bytes that were kept, behind its tag
+pub framed : {A E : Type 0} (r : Result A E) (n : ℕ) (room : List ℕ) (place : ℕ) (old content opened all after : List ℕ) → IsOpened n room place old opened → all ≡ opened ++ content
+    → OnOk r (after ≡ take place all ++ (varint (length (drop (place + length room) all)) ++ drop (place + length room) all))
     → OnOk r (after ≡ old ++ field_bytes (record { number = n; payload = Span content }))
 unfolding field_bytes payload_bytes
-framed (Ok x) n place old content opened all after open_is whole measured =
+framed (Ok x) n room place old content opened all after open_is whole measured =
     measured
-    ∙ ap (λ bs. bs ++ (varint (length (drop (place + 1) all)) ++ drop (place + 1) all)) front
+    ∙ ap (λ bs. bs ++ (varint (length (drop (place + length room) all)) ++ drop (place + length room) all)) front
     ∙ ap (λ bs. tagged ++ (varint (length bs) ++ bs)) behind
     ∙ append_assoc old (varint (n * 8 + 2)) (varint (length content) ++ content)
   where
@@ -60,17 +72,17 @@ framed (Ok x) n place old content opened all after open_is whole measured =
     tagged = old ++ varint (n * 8 + 2)
 
     front : take place all ≡ tagged
-    front = ap (λ k. take k all) open_is.begins ∙ ap (take (length tagged)) (whole ∙ ap (λ bs. bs ++ content) open_is.whole ∙ append_assoc tagged (0 ∷ []) content) ∙ take-append_seam tagged _
+    front = ap (λ k. take k all) open_is.begins ∙ ap (take (length tagged)) (whole ∙ ap (λ bs. bs ++ content) open_is.whole ∙ append_assoc tagged room content) ∙ take-append_seam tagged _
 
-    behind : drop (place + 1) all ≡ content
-    behind = let size : place + 1 ≡ length opened = omega (arith, open_is.begins, ap length open_is.whole, length-append tagged (0 ∷ [])) in ap (λ k. drop k all) size ∙ ap (drop (length opened)) whole ∙ drop-append_seam opened content
-framed (Err e) n place old content opened all after open_is whole measured = tt
+    behind : drop (place + length room) all ≡ content
+    behind = let size : place + length room ≡ length opened = omega (arith, open_is.begins, ap length open_is.whole, length-append tagged room) in ap (λ k. drop k all) size ∙ ap (drop (length opened)) whole ∙ drop-append_seam opened content
+framed (Err e) n room place old content opened all after open_is whole measured = tt
 
--- what stands up to the byte that was kept stays, and so does what stood before its tag
-pub framed_begins : (n place : ℕ) (old opened all after : List ℕ) → IsOpened n place old opened → StartsWith opened all → take place after ≡ take place all → StartsWith old after
-framed_begins n place old opened all after open_is onward same =
+-- what stands up to the bytes that were kept stays, and so does what stood before its tag
+pub framed_begins : (n : ℕ) (room : List ℕ) (place : ℕ) (old opened all after : List ℕ) → IsOpened n room place old opened → StartsWith opened all → take place after ≡ take place all → StartsWith old after
+framed_begins n room place old opened all after open_is onward same =
     let front : take place after ≡ old ++ varint (n * 8 + 2) = same ∙ ap (λ k. take k all) open_is.begins
-    ∙ ap (take (length (old ++ varint (n * 8 + 2)))) (onward.whole ∙ ap (λ bs. bs ++ onward.more) open_is.whole ∙ append_assoc (old ++ varint (n * 8 + 2)) (0 ∷ []) onward.more)
+    ∙ ap (take (length (old ++ varint (n * 8 + 2)))) (onward.whole ∙ ap (λ bs. bs ++ onward.more) open_is.whole ∙ append_assoc (old ++ varint (n * 8 + 2)) room onward.more)
     ∙ take-append_seam (old ++ varint (n * 8 + 2)) _ in
     record {
       more = varint (n * 8 + 2) ++ drop place after;

@@ -30,6 +30,11 @@ impl Message for Entity {
 
     ghost renamed = { renamed_entity };
 
+    /// A trip update makes it long, and hardly anything else does.
+    fn is_long(&self) -> bool {
+        self.trip_update.is_some()
+    }
+
     #[tactic(auto, unfolding(feed_defs::specs::Rows::message_bytes), using(crate::proofs::Spelling::puts))]
     fn put(&self, prefix: &str, out: &mut Vec<u8>) -> Result<(), NoMemory> {
         put_text(1, &self.id, out)?;

@@ -1,6 +1,6 @@
 //! How each kind of field is written.
 
-ghost use Rattle.std.specs.Prelude.{◌≡◌, ◌≤◌, ◌++◌, map, IfOk, OnOk};
+ghost use Rattle.std.specs.Prelude.{◌≡◌, ◌≤◌, [], ◌∷◌, ◌++◌, map, IfOk, OnOk};
 ghost use Rattle.std.specs.List.{flat_map};
 ghost use Rattle.std.specs.Option.{option_map};
 ghost use Rattle.pb_wire_defs.specs.Field.Payload.{Span};
@@ -11,7 +11,9 @@ ghost use Rattle.feed_write.specs.Puts.{StartsWith, IsOpened};
 use crate::NoMemory;
 use crate::message::Message;
 use crate::scalar::Scalar;
-use pb_wire::{write_field, write_four, write_length, write_scalar, write_varint};
+use pb_wire::{
+    write_field, write_four, write_length, write_long_length, write_scalar, write_varint,
+};
 use rt_types::{Bytes, Degrees, Items, Shared, Text};
 
 /// Appends a number, where there is one.
@@ -91,6 +93,11 @@ pub(crate) fn put_message<M: Message>(
         })) }
     ensures begins { StartsWith out.old.items out.new.items }
 {
+    if message.is_long() {
+        let place = open_long_message(number, out)?;
+        message.put(prefix, out)?;
+        return write_long_length(place, out);
+    }
     let place = open_message(number, out)?;
     message.put(prefix, out)?;
     write_length(place, out)
@@ -100,11 +107,30 @@ pub(crate) fn put_message<M: Message>(
 /// its content: it is enough for most. Gives the place of that byte.
 pub(crate) fn open_message(number: u32, out: &mut Vec<u8>) -> Result<usize, NoMemory>
     requires { number ≤ 536870911 }
-    ensures opened { IfOk result (λ place. IsOpened number place out.old.items out.new.items) }
+    ensures opened { IfOk result
+        (λ place. IsOpened number (0 ∷ []) place out.old.items out.new.items) }
     ensures begins { StartsWith out.old.items out.new.items }
 {
-    write_varint(u64::from(number) * 8 + 2, out)?;
+    let tag = u64::from(number) * 8 + 2;
+    // In one piece, since an entity has some twenty messages in it.
+    if tag < 128 {
+        out.extend_from_slice(&[tag as u8, 0])?;
+        return Ok(out.len() - 1);
+    }
+    write_varint(tag, out)?;
     let place = out.len();
+    out.push(0)?;
+    Ok(place)
+}
+
+/// The same with two bytes for its length, which are enough for nearly all that are longer.
+pub(crate) fn open_long_message(number: u32, out: &mut Vec<u8>) -> Result<usize, NoMemory>
+    requires { number ≤ 536870911 }
+    ensures opened { IfOk result
+        (λ place. IsOpened number (0 ∷ 0 ∷ []) place out.old.items out.new.items) }
+    ensures begins { StartsWith out.old.items out.new.items }
+{
+    let place = open_message(number, out)?;
     out.push(0)?;
     Ok(place)
 }

@@ -12,6 +12,12 @@ pub(crate) trait Message {
     // The message with a prefix before its ids of the timetable.
     ghost renamed: { List ℕ → Self → Self };
 
+    /// Whether it is hardly ever shorter than 128 bytes. Two bytes are kept for the length of such a
+    /// one, so that it needn't move when that becomes known.
+    fn is_long(&self) -> bool {
+        false
+    }
+
     /// Appends the bytes of the message with the prefix before each id of the timetable in it that
     /// is there and isn't empty: its fields by rising number, and then those that it doesn't know.
     fn put(&self, prefix: &str, out: &mut Vec<u8>) -> Result<(), NoMemory>

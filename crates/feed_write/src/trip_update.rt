@@ -57,6 +57,11 @@ impl Message for TripUpdate {
 
     ghost renamed = { renamed_update };
 
+    /// Nearly every one foretells several stops.
+    fn is_long(&self) -> bool {
+        true
+    }
+
     #[tactic(auto, unfolding(feed_defs::specs::Rows::message_bytes), using(crate::proofs::Spelling::puts))]
     fn put(&self, prefix: &str, out: &mut Vec<u8>) -> Result<(), NoMemory> {
         put_message(1, &self.trip, prefix, out)?;

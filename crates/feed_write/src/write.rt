@@ -4,16 +4,18 @@ ghost use Rattle.std.specs.Prelude.{◌≡◌, ℕ, List, ◌++◌, OnOk, OnErr}
 ghost use Rattle.pb_wire_defs.specs.Spelling.{AreBytes};
 ghost use Rattle.feed_defs.specs.Combined.{entity_under_feed};
 ghost use Rattle.feed_defs.specs.Renamed.{renamed_entity};
+ghost use Rattle.feed_defs.specs.Rows.{message_bytes};
+ghost use Rattle.feed_defs.specs.Table as rows;
 ghost use Rattle.feed_defs.specs.Table.{read, write};
 ghost use Rattle.feed_write.specs.Entities.{entity_field};
 ghost use Rattle.feed_write.specs.Puts.{StartsWith};
 
 use crate::NoMemory;
 use crate::feed::put_content;
-use crate::fields::open_message;
+use crate::fields::{open_long_message, open_message};
 use crate::ids::put_joined;
 use crate::message::Message;
-use pb_wire::write_length;
+use pb_wire::{write_length, write_long_length};
 use rt_types::{Entity, FeedMessage};
 
 /// Appends the bytes of the message. Want of memory leaves `out` as it was. A message that reading
@@ -67,8 +69,24 @@ fn put_under_feed(
         ++ entity_field (entity_under_feed feed.now (renamed_entity prefix.now entity.now))) }
     ensures begins { StartsWith out.old.items out.new.items }
 {
+    if entity.is_long() {
+        let place = open_long_message(2, out)?;
+        put_named(feed, prefix, entity, out)?;
+        return write_long_length(place, out);
+    }
     let place = open_message(2, out)?;
-    put_joined(1, feed, ":", entity.id.as_str(), out)?;
-    put_content(entity, prefix, out)?;
+    put_named(feed, prefix, entity, out)?;
     write_length(place, out)
+}
+
+/// Appends the fields of the entity, its own id under the name of its feed.
+fn put_named(feed: &str, prefix: &str, entity: &Entity, out: &mut Vec<u8>) -> Result<(), NoMemory>
+    ensures written { OnOk result (out.new.items
+        ≡ out.old.items
+        ++ message_bytes rows.entity
+        (entity_under_feed feed.now (renamed_entity prefix.now entity.now))) }
+    ensures begins { StartsWith out.old.items out.new.items }
+{
+    put_joined(1, feed, ":", entity.id.as_str(), out)?;
+    put_content(entity, prefix, out)
 }

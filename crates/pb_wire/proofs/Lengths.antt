@@ -8,6 +8,7 @@ use Rattle.std.proofs.lemmas.List.Edits.{length-insert}
 use Rattle.std.specs.List.{insert}
 use Rattle.pb_wire_defs.specs.Writing.{groups, varint}
 use Rattle.pb_wire_defs.proofs.Again.{last_group, more_groups, quotient_below}
+use Rattle.pb_wire.proofs.Spelt.{two}
 
 -- before the byte at `last` stand the front and the first groups of the run's length, behind it stands the run
 pub record Widens (place : ℕ) (front run now : List ℕ) (last rest : ℕ) : Type 0 where
@@ -77,3 +78,33 @@ ends place front run now last rest so_far lt =
 -- what stands before the place stays when a byte behind it is set
 pub stays : (place : ℕ) (front run now : List ℕ) (last rest byte : ℕ) → Widens place front run now last rest → take place (set now last byte) ≡ front
 stays place front run now last rest byte so_far = take-set-le place now last byte so_far.onward ∙ so_far.kept
+
+-- ---- a length of two groups, for which two bytes were kept
+
+pub long : (place count : ℕ) (now : List ℕ) → place + 1 < length now → count ≡ (length now - place) - 2 → 128 ≤ count → count < 16384
+    → set (set now place (count % 128 + 128)) (place + 1) (count / 128) ≡ take place now ++ (varint (length (drop (place + 2) now)) ++ drop (place + 2) now)
+long place count now within is from below =
+    set_split now' (place + 1) last (omega (arith, length-set now place low))
+    ∙ ap (λ xs. xs ++ last ∷ drop (suc (place + 1)) now') (take_more_set now place low (omega arith))
+    ∙ append_assoc (take place now) (low ∷ []) (last ∷ drop (suc (place + 1)) now')
+    ∙ ap (λ xs. take place now ++ (low ∷ last ∷ xs)) (ap (λ n. drop n now') behind ∙ drop-set-lt (place + 2) now place low (omega arith))
+    ∙ ap (λ xs. take place now ++ (xs ++ run)) (two count last refl (omega arith) (omega arith))
+    ∙ ap (λ n. take place now ++ (varint n ++ run)) size
+  where
+    low : ℕ
+    low = count % 128 + 128
+
+    last : ℕ
+    last = count / 128
+
+    now' : List ℕ
+    now' = set now place low
+
+    run : List ℕ
+    run = drop (place + 2) now
+
+    behind : suc (place + 1) ≡ place + 2
+    behind = omega arith
+
+    size : count ≡ length run
+    size = omega (arith, length-drop (place + 2) now)

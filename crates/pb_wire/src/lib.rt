@@ -26,4 +26,6 @@ pub use fields::read_fields;
 pub use part::{Part, PartPayload};
 pub use reading::field_at;
 pub use std::alloc::AllocError as NoMemory;
-pub use writing::{write_field, write_four, write_length, write_scalar, write_varint};
+pub use writing::{
+    write_field, write_four, write_length, write_long_length, write_scalar, write_varint,
+};

@@ -41,13 +41,13 @@ fn write_long(value: u64, out: &mut Vec<u8>) -> Result<(), NoMemory>
     ensures written { OnOk result (out.new.items ≡ out.old.items ++ varint value) }
     ensures kept { OnErr result (out.new.items ≡ out.old.items) }
 {
-    let second = value / 128;
-    if 0 < second && second < 128 {
-        return out.extend_from_slice(&two_groups(value, second));
-    }
     let fifth = value / LEAST_OF_FIVE;
     if 0 < fifth && fifth < 128 {
         return out.extend_from_slice(&five_groups(value, fifth));
+    }
+    let second = value / 128;
+    if 0 < second && second < 128 {
+        return out.extend_from_slice(&two_groups(value, second));
     }
     if value < LEAST_OF_TEN {
         return write_groups(value, out);
@@ -148,6 +148,25 @@ pub fn write_length(place: usize, out: &mut Vec<u8>) -> Result<(), NoMemory>
     }
     out[last] = rest as u8;
     Ok(())
+}
+
+/// Puts the length of what stands behind the two bytes at the place, as its shortest varint, in
+/// place of these bytes. For runs of 128 to 16,383 bytes, which then don't move; a shorter or a
+/// longer one moves. What stands before the place stays, also where memory is wanting.
+pub fn write_long_length(place: usize, out: &mut Vec<u8>) -> Result<(), NoMemory>
+    requires { place + 1 < length out.old.items }
+    ensures written { OnOk result (out.new.items ≡ take place out.old.items
+        ++ (varint (length (drop (place + 2) out.old.items)) ++ drop (place + 2) out.old.items)) }
+    ensures kept { take place out.new.items ≡ take place out.old.items }
+{
+    let count = out.len() - place - 2;
+    if 128 <= count && count < 16_384 {
+        out[place] = (count % 128) as u8 + 128;
+        out[place + 1] = (count / 128) as u8;
+        return Ok(());
+    }
+    out.remove(place + 1);
+    write_length(place, out)
 }
 
 /// Appends a field of wire type 0: its tag and the value, in shortest varints. Want of memory

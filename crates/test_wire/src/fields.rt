@@ -2,7 +2,7 @@
 
 use pb_wire::{
     Field, NoMemory, PartPayload, Payload, WireFault, field_at, read_fields, write_field,
-    write_length, write_scalar, write_varint,
+    write_length, write_long_length, write_scalar, write_varint,
 };
 use std::process::Abort;
 use std::test::Fail;
@@ -155,21 +155,42 @@ fn varints(rt: HostRuntime) -> Result<(), Fail> {
     Ok(())
 }
 
-/// Whether a run of so many bytes behind one byte has this length put before it.
-fn has_length(rt: &impl AllocGlobal, count: usize, length: &[u8]) -> Result<bool, NoMemory> {
+/// A byte, so many that are kept for a length, and a run of so many bytes.
+fn run_behind(rt: &impl AllocGlobal, kept: u8, count: u16) -> Result<Vec<u8>, NoMemory> {
     let mut out = Vec::new(rt.alloc());
-    out.extend_from_slice(&[7, 0])?;
-    for _ in 0..count {
-        out.push(9)?;
+    out.push(7)?;
+    let behind = 1 + usize::from(kept);
+    out.resize(behind, 0)?;
+    out.resize(behind + usize::from(count), 9)?;
+    Ok(out)
+}
+
+/// Whether this length stands behind the first byte of such a run.
+fn says(out: &[u8], length: &[u8]) -> bool {
+    match out.strip_prefix(&[7]) {
+        Some(rest) => rest.starts_with(length),
+        None => false,
     }
+}
+
+/// Whether a run of so many bytes behind one that is kept gets this length.
+fn has_length(rt: &impl AllocGlobal, count: u16, length: &[u8]) -> Result<bool, NoMemory> {
+    let mut out = run_behind(rt, 1, count)?;
     if out.len() < 2 {
         return Ok(false);
     }
     write_length(1, &mut out)?;
-    match out.strip_prefix(&[7]) {
-        Some(rest) => Ok(rest.starts_with(length)),
-        None => Ok(false),
+    Ok(says(out.as_slice(), length))
+}
+
+/// The same behind two bytes that are kept.
+fn has_long_length(rt: &impl AllocGlobal, count: u16, length: &[u8]) -> Result<bool, NoMemory> {
+    let mut out = run_behind(rt, 2, count)?;
+    if out.len() < 3 {
+        return Ok(false);
     }
+    write_long_length(1, &mut out)?;
+    Ok(says(out.as_slice(), length))
 }
 
 #[test]
@@ -178,6 +199,15 @@ fn lengths(rt: HostRuntime) -> Result<(), Fail> {
     assert!(&rt; has_length(&rt, 127, &[0x7f, 9])?);
     assert!(&rt; has_length(&rt, 300, &[0xac, 0x02, 9])?);
     assert!(&rt; has_length(&rt, 20_000, &[0xa0, 0x9c, 0x01, 9])?);
+    Ok(())
+}
+
+#[test]
+fn long_lengths(rt: HostRuntime) -> Result<(), Fail> {
+    assert!(&rt; has_long_length(&rt, 127, &[0x7f, 9])?);
+    assert!(&rt; has_long_length(&rt, 128, &[0x80, 0x01, 9])?);
+    assert!(&rt; has_long_length(&rt, 16_383, &[0xff, 0x7f, 9])?);
+    assert!(&rt; has_long_length(&rt, 16_384, &[0x80, 0x80, 0x01, 9])?);
     Ok(())
 }
 
