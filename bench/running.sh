@@ -1,6 +1,6 @@
 #!/usr/bin/env bash
 # Measures a running hub: how many messages a second it takes (ingest), how long a whole data set takes it on all
-# processors and on one (whole), how fast it answers, next to nginx (load), and
+# processors and by one thread (whole), how fast it answers, next to nginx (load), and
 # over a large city next to a small one (cities), its memory over an hour's worth of messages (memory), what clients
 # that never read cost it (unread), and what it takes by size (sizes). The words say which, all where there are none.
 #   bench/running.sh [ingest] [whole] [load] [cities] [memory] [unread] [sizes]

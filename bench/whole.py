@@ -2,10 +2,12 @@
 
 usage: whole.py PROGRAM [ROUNDS]   the data sets of each size, by default 15
 
-From the last byte of a data set to the first status that counts it: on all processors, and on one of them, in turns. The
-medians, and how many times as long it takes on one.
+From the last byte of a data set to the first status that counts it: by a hub whose threads may use all processors, and by
+one each of whose threads is kept to a processor of its own, so that a data set is made by one at a time. The medians, and
+how many times as long it takes the second.
 """
 import http.client
+import os
 import statistics
 import sys
 import time
@@ -16,7 +18,6 @@ PROGRAM = sys.argv[1]
 ROUNDS = int(sys.argv[2]) if len(sys.argv) > 2 else 15
 SIZES = (2_047, 2_048, 3_000, 10_000, 30_000)
 LARGEST = 30_000
-ALONE = ("taskset", "-c", "0")
 
 
 class Timed(Sender):
@@ -56,11 +57,20 @@ def took(hub, sender, count, link):
             return time.monotonic() - sender.gone
 
 
-def medians(before):
-    """The median for each size, of a hub with these words in front of its own."""
+def keep_apart(hub):
+    """Keeps each thread of the hub to a processor of its own, and so the threads that it starts."""
+    for place, thread in enumerate(os.listdir(f"/proc/{hub.process.pid}/task")):
+        os.sched_setaffinity(int(thread), {place % os.cpu_count()})
+
+
+def medians(apart):
+    """The median for each size, of a hub whose threads are kept apart or not."""
     parts = [part for place, size in enumerate(SIZES) for part in data_sets(size, FIRST + place * ROUNDS)]
     sender = Timed(parts)
-    hub = Hub(PROGRAM, LARGEST, 1, [sender], before)
+    hub = Hub(PROGRAM, LARGEST, 1, [sender])
+    hub.wait_for(0)
+    if apart:
+        keep_apart(hub)
     link = http.client.HTTPConnection(hub.address, timeout=60)
     seconds = [took(hub, sender, count + 1, link) for count in range(len(parts))]
     link.close()
@@ -70,8 +80,8 @@ def medians(before):
 
 
 def main():
-    for size, many, one in zip(SIZES, medians(()), medians(ALONE)):
-        print(f"a whole data set of {size:,}: {many * 1000:.1f} ms on all processors, {one * 1000:.1f} ms on one, "
+    for size, many, one in zip(SIZES, medians(False), medians(True)):
+        print(f"a whole data set of {size:,}: {many * 1000:.1f} ms on all processors, {one * 1000:.1f} ms by one thread, "
               f"{one / many:.2f} times as long", flush=True)
 
 
