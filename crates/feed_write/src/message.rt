@@ -12,8 +12,8 @@ pub(crate) trait Message {
     // The message with a prefix before its ids of the timetable.
     ghost renamed: { List ℕ → Self → Self };
 
-    /// Whether it is hardly ever shorter than 128 bytes. Two bytes are kept for the length of such a
-    /// one, so that it needn't move when that becomes known.
+    /// Whether it is likely to take 128 bytes or more. Two bytes are kept for the length of such a
+    /// one, so that it needn't move when that becomes known; one that is shorter after all does.
     fn is_long(&self) -> bool {
         false
     }

@@ -57,7 +57,7 @@ impl Message for TripUpdate {
 
     ghost renamed = { renamed_update };
 
-    /// Nearly every one foretells several stops.
+    /// Most foretell several stops; one of a few delays alone is shorter.
     fn is_long(&self) -> bool {
         true
     }
