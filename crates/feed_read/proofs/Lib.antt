@@ -2,3 +2,4 @@ pub mod Events
 pub mod Fields
 pub mod Noting
 pub mod Numbers
+mod Together

@@ -15,10 +15,12 @@ mod descriptor;
 mod feed;
 mod message;
 mod nested;
+mod on_threads;
 mod read;
 mod trip_update;
 mod vehicle;
 
 pub use field_read::ReadFault;
+pub use on_threads::read_message_on;
 pub use read::read_message;
 pub use std::alloc::AllocError as NoMemory;

@@ -5,7 +5,7 @@ ghost use Rattle.hub_shared.specs.Calls.{Ingested};
 
 use crate::hub::Hub;
 use crate::seat::FeedSeat;
-use hub_core::{Refusal, check};
+use hub_core::{Refusal, check_on};
 use snapshot_cell::Receipt;
 use std::alloc::Global;
 use std::sync::Wait;
@@ -26,7 +26,7 @@ pub fn ingest<R: Threads + Wait + Sync>(
     ensures hub { seat.new.ties ≡ seat.old.ties }
     ensures feed { seat.new.feed ≡ seat.old.feed }
 {
-    let message = check(alloc, seat.last(), bytes)?;
+    let message = check_on(rt, alloc, seat.last(), bytes)?;
     let (mut locked, loan) = hub.lock.take(rt);
     let answer = locked.take_in(rt, alloc, seat, message);
     hub.lock.put_back(locked, loan);

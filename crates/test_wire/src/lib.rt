@@ -13,6 +13,8 @@ mod faults;
 #[cfg(test)]
 mod fields;
 #[cfg(test)]
+mod many;
+#[cfg(test)]
 mod short_texts;
 #[cfg(test)]
 mod values;
