@@ -4,8 +4,10 @@ usage: since.py PROGRAM
 
 A hub with one reader runs under callgrind. It is sent a whole data set, and then messages of 20 changed entities, one
 after another. Behind each of the first ones it is asked what changed, so that the reader keeps as many looks as it ever
-does. Behind each of the others a first run asks nothing, a second what changed, a third for the whole feed. All else is the
-same in the three: so what the second and the third have more than the first, divided by the messages, is a request.
+does. Then callgrind begins to count: before, large blocks of the heap grow, and whether one is moved for that differs from
+run to run by more than all requests cost. Behind each of the other messages a first run asks nothing, a second what
+changed, a third for the whole feed. All else is the same in the three: so what the second and the third have more than the
+first, divided by the messages, is a request.
 """
 import http.client
 import os
@@ -85,6 +87,7 @@ def talk(hub, sent, trips, asked, pause):
         if before == KEPT + 1:
             client.close()
             client = Client(hub)
+            subprocess.run(["callgrind_control", "--instr=on", str(hub.process.pid)], check=True, capture_output=True)
         sent.put(frames([message]))
         settle(hub, pause)
         if before <= KEPT:
@@ -104,7 +107,8 @@ def run_of(folder, trips, asked, pause):
     sender = Sender(iter(sent.get, None))
     with tempfile.TemporaryDirectory() as work:
         calls = os.path.join(work, "calls")
-        hub = Hub(PROGRAM, folder, 1, [sender], ["valgrind", "--tool=callgrind", f"--callgrind-out-file={calls}"])
+        words = ["valgrind", "--tool=callgrind", "--instr-atstart=no", f"--callgrind-out-file={calls}"]
+        hub = Hub(PROGRAM, folder, 1, [sender], words)
         sender.begin.set()
         try:
             body = talk(hub, sent, trips, asked, pause)
