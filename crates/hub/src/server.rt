@@ -1,16 +1,16 @@
-//! A running hub on the outside of a system.
+//! A running hub on the outside of a system: a port for each feed, a listener that all doors share,
+//! and a door and a clock for each reader, handed to `hub_serve::run_serve`.
 
 ghost use Rattle.std.specs.Prelude.{◌≡◌, length};
 ghost use Rattle.std.specs.Arc.{arc_value};
 ghost use Rattle.hub_config_defs.specs.Right.{IsLegal};
 
-use crate::NoMemory;
 use hub_config_defs::HubConf;
 use hub_outside::{OpenGate, Sink};
 use hub_ports::{HeldNumbers, clocks_of, doors_of, listen, open_ports};
 use hub_serve::run_serve;
 use sched_types::Plans;
-use std::alloc::Global;
+use std::alloc::{AllocError as NoMemory, Global};
 use std::io::Write;
 use std::net::{Net, TcpListener, TcpStream};
 use std::rt;
@@ -22,7 +22,7 @@ use std::thread::Threads;
 /// `out` gets the lines at the end of the run, and `errors` those of `hub_ports`; several threads
 /// write to it, a whole line at once. Nothing that is opened is taken for standard input, output or
 /// error, also where the program was started without them.
-pub fn serve_on_system<R, K, E>(
+pub(crate) fn serve_on_system<R, K, E>(
     rt: &R,
     alloc: Global,
     plans: Arc<Plans>,

@@ -1,6 +1,6 @@
 -- There are as many ports as feeds.
 use Rattle.std.proofs.Common.{length, ap, arith}
-use Rattle.hub_system.proofs.server.serve_on_system.Goals as goal
+use Rattle.hub.proofs.server.serve_on_system.Goals as goal
 
 pub run_serve-requires-clause-ports : goal.run_serve-requires-clause-ports
 run_serve-requires-clause-ports g c κs within =
