@@ -1,11 +1,12 @@
 """How fast a running hub answers for a small board, next to nginx with a file of the same bytes, for running.sh.
 
-usage: load.py PROGRAM [SECONDS [ROUNDS]]   the seconds of each measurement, by default 2, and how many of them, by default 7
+usage: load.py PROGRAM [SECONDS [ROUNDS]]   the seconds of each measurement, by default 1, and how many of them, by default 9
 
 With 1, 2 and 4 readers, each at work for one connection of wrk, and again while 200 messages a second come in. The
 numbers are those of wrk: answers a second, and the median and the 99th of a hundred of the times that they took. The
-hub and nginx are measured in turns, since a machine that others share is now faster and now slower; what is printed is
-the median of the rounds, and of the ratios of each round the median, the least and the greatest.
+hub and nginx are measured in turns, each for a short time, since a machine that others share is now faster and now
+slower; what is printed is the median of the rounds, and of the ratios of each round the median, the least and the
+greatest.
 """
 import csv
 import os
@@ -20,8 +21,8 @@ import time
 from running_hub import BENCH, Hub, Sender, changes, frames
 
 PROGRAM = sys.argv[1]
-SECONDS = int(sys.argv[2]) if len(sys.argv) > 2 else 2
-ROUNDS = int(sys.argv[3]) if len(sys.argv) > 3 else 7
+SECONDS = int(sys.argv[2]) if len(sys.argv) > 2 else 1
+ROUNDS = int(sys.argv[3]) if len(sys.argv) > 3 else 9
 MILLISECONDS = {"us": 0.001, "ms": 1.0, "s": 1000.0}
 CITY = os.path.join(os.path.dirname(BENCH), "samples/serve/city")
 BOARD = "/board/city/ST?limit=5"
