@@ -1,4 +1,2 @@
-pub mod Lists
-pub mod Appended
 pub mod NextView
 pub mod Overs

@@ -1,4 +1,3 @@
 pub mod Walks
 pub mod Looks
-pub mod Appended
 pub mod Whole

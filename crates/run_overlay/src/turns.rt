@@ -38,8 +38,9 @@ pub(crate) struct Turn {
 fn push_run(mention: Option<Mention>, runs: &mut Vec<Run>) -> Result<(), NoMemory>
     ensures { OnOk result (runs.new.items ≡ runs.old.items ++ changing.run_in mention) }
 {
-    if let Some(mention) = mention {
-        runs.push(mention.run)?;
+    match mention {
+        Some(Mention { run, .. }) => runs.push(run)?,
+        None => {}
     }
     Ok(())
 }
