@@ -7,9 +7,9 @@ use Rattle.board_defs.specs.declared.call.Call.{Call}
 use Rattle.board_defs.specs.declared.query.BoardQuery.{BoardQuery}
 use Rattle.board_defs.specs.Choice.{Update, text_or_none, is_outdone, not_outdone}
 use Rattle.board_defs.specs.Rows.{BoardRow, added_row, added_row_at, added_trip_rows, calls_of, departing_calls, is_asked, is_within, route_named}
-use Rattle.board_base.specs.Appended.{Become, Adds}
-use Rattle.board_base.proofs.Appended.{adds_all}
-use Rattle.board_base.proofs.Lists.{filter_each, filter_flat, kept}
+use Rattle.board_parts.specs.Appended.{Become, Adds}
+use Rattle.board_parts.proofs.Appended.{adds_all}
+use Rattle.board_parts.proofs.Lists.{filter_each, filter_flat, kept}
 use Rattle.board_added.specs.declared.row.AddedRow.{AddedRow}
 use Rattle.board_added.specs.Added.{as_row, row_by, rows_of, rows_unless, IsInOrder, IsThere}
 use Rattle.board_added.proofs.Outdone.{outdone_same}

@@ -7,8 +7,8 @@ ghost use Rattle.board_defs.specs.Rows as rule;
 ghost use Rattle.board_added.specs.Added.{IsCall};
 
 use crate::NoMemory;
-use board_base::stop_named;
 use board_defs::Call;
+use board_parts::stop_named;
 use rt_types::{Event, StopRelation, StopUpdate, TripUpdate};
 use sched_types::Plan;
 use std::alloc::Global;

@@ -6,7 +6,7 @@ ghost use Rattle.board_defs.specs.Choice as choosing;
 ghost use Rattle.board_added.specs.Added.{key_cmp, full_cmp, IsInOrder};
 
 use crate::NoMemory;
-use board_base::{Update, text_of};
+use board_parts::{Update, text_of};
 use rt_types::TripRef;
 use std::alloc::Global;
 use std::cmp::Ordering;
@@ -24,7 +24,7 @@ fn trip_order(a: &TripRef, b: &TripRef) -> Ordering
 fn order(a: &Update<'_>, b: &Update<'_>) -> Ordering
     ensures { result ≡ full_cmp a.now b.now }
 {
-    trip_order(&a.update.trip, &b.update.trip).then(a.order(b))
+    trip_order(&a.trip_update().trip, &b.trip_update().trip).then(a.order(b))
 }
 
 /// The same updates again; or want of memory.
@@ -53,8 +53,8 @@ pub(crate) fn is_outdone(sorted: &[Update<'_>], update: &Update<'_>) -> bool
     requires { IsSorted full_cmp sorted.now }
     ensures { result ≡ choosing.is_outdone sorted.now update.now }
 {
-    let trip = &update.update.trip;
-    let count = sorted.partition_point(|other| trip_order(&other.update.trip, trip).is_le());
+    let trip = &update.trip_update().trip;
+    let count = sorted.partition_point(|other| trip_order(&other.trip_update().trip, trip).is_le());
     match sorted[..count].last() {
         Some(last) => order(last, update).is_gt(),
         None => false,

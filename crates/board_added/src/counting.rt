@@ -7,7 +7,7 @@ ghost use Rattle.std.specs.Option.{option_to_list};
 ghost use Rattle.text_defs.specs.Moments.{last_moment};
 ghost use Rattle.board_defs.specs.Choice.{not_outdone};
 ghost use Rattle.board_defs.specs.Rows.{is_within, departing_calls, added_trip_rows};
-ghost use Rattle.board_base.specs.Appended.{Become, Adds};
+ghost use Rattle.board_parts.specs.Appended.{Become, Adds};
 ghost use Rattle.board_added.specs.Added.{full_cmp, as_row, rows_by, rows_of, rows_unless, IsCall, IsThere};
 
 use crate::NoMemory;
@@ -15,8 +15,8 @@ use crate::calls::calls_of;
 use crate::choice::{in_order, is_outdone};
 use crate::row::{AddedRow, key_of, row_at};
 use alert_select::AddedKey;
-use board_base::Update;
 use board_defs::{BoardQuery, Call};
+use board_parts::Update;
 use rt_types::TripUpdate;
 use sched_types::Plan;
 use std::alloc::Global;
@@ -94,7 +94,7 @@ fn push_unless<'a>(
     if is_outdone(sorted, update) {
         return Ok(());
     }
-    push_trip(alloc, plan, query, stop, update.update, out)
+    push_trip(alloc, plan, query, stop, update.trip_update(), out)
 }
 
 /// The rows of added trips on the board of a stop, by its number, of the updates of added trips, in

@@ -8,8 +8,8 @@ ghost use Rattle.board_defs.specs.Rows.{route_named};
 ghost use Rattle.board_added.specs.Added.{as_row, row_by, IsThere};
 
 use alert_select::AddedKey;
-use board_base::{is_asked, is_within, route_named, text_of};
 use board_defs::{BoardQuery, Call};
+use board_parts::{is_asked, is_within, route_named, text_of};
 use rt_types::TripRef;
 use sched_types::Plan;
 

@@ -7,8 +7,8 @@ ghost use Rattle.board_added.specs.Added.{as_row, IsThere};
 
 use crate::NoMemory;
 use crate::row::AddedRow;
-use board_base::{route_name, stop_id};
 use board_defs::{Row, RowState};
+use board_parts::{route_name, stop_id};
 use rt_types::Text;
 use sched_types::Plan;
 use std::alloc::Global;

@@ -28,7 +28,7 @@ use Rattle.run_overlay.specs.Keys.{id_cmp, stored_key}
 use Rattle.run_overlay.specs.Kept.{FeedOverlay, IsTable, added_of, if_added, mentions_of, overlay_of}
 use Rattle.run_overlay.specs.Updates.{about_found, about_update, held_alone}
 use Rattle.board_parts.specs.Walks.{held_of}
-use Rattle.board_base.proofs.Lists.{filter_each, kept}
+use Rattle.board_parts.proofs.Lists.{filter_each, kept}
 use Rattle.board_core.specs.declared.feeds.ScheduleFeed.{ScheduleFeed}
 use Rattle.board_core.specs.FeedsOfSchedule.{hub_feed_of}
 

@@ -19,8 +19,8 @@ use Rattle.board_defs.specs.Views.{HubKept, StandsFor, folds_of}
 use Rattle.alert_defs.specs.Alerts.{touched_as}
 use Rattle.alert_select.specs.declared.subject.Subject.{Subject}
 use Rattle.alert_select.specs.Subjects.{touched_by, IsWithin}
-use Rattle.board_base.specs.Appended.{Become}
-use Rattle.board_base.proofs.Lists.{map_twice}
+use Rattle.board_parts.specs.Appended.{Become}
+use Rattle.board_parts.proofs.Lists.{map_twice}
 use Rattle.run_departures.specs.declared.departure.Departure.{Departure}
 use Rattle.run_departures.specs.Departures.{as_row, IsThere}
 use Rattle.board_added.specs.declared.row.AddedRow.{AddedRow}

@@ -10,7 +10,7 @@ ghost use Rattle.board_core.specs.FeedsOfSchedule.{hub_feed_of};
 
 use crate::NoMemory;
 use crate::feeds::ScheduleFeed;
-use board_parts::{HeldEntity, Update, update_at};
+use board_parts::{HeldEntity, Update};
 use sched_types::Plan;
 use std::alloc::Global;
 
@@ -23,7 +23,7 @@ fn push_update<'a>(
     ensures { OnOk result (updates.new.items
         ≡ updates.old.items ++ option_to_list (update_at at held.entry.now)) }
 {
-    if let Some(update) = update_at(held, at) {
+    if let Some(update) = Update::at(held, at) {
         updates.push(update)?;
     }
     Ok(())

@@ -10,7 +10,7 @@ ghost use Rattle.board_defs.specs.Fold.{fold_of};
 ghost use Rattle.board_defs.specs.Rows.{BoardRow, row_cmp, board_at, timetable_in};
 ghost use Rattle.board_defs.specs.Views.{StandsFor, folds_of};
 ghost use Rattle.run_departures.specs.Departures.{as_row, IsThere};
-ghost use Rattle.board_base.specs.Appended.{Become};
+ghost use Rattle.board_parts.specs.Appended.{Become};
 ghost use Rattle.board_added.specs.Added as others;
 ghost use Rattle.board_core.specs.Answers.{IsAnswer, AreAbout, AreSubjects};
 ghost use Rattle.board_core.specs.Lines.{line_row, IsInPlan};

@@ -26,7 +26,7 @@ use Rattle.alert_select.specs.FeedAlerts.{alerts_of}
 use Rattle.alert_select.specs.declared.subject.Subject.{Subject}
 use Rattle.alert_select.specs.Subjects.{touched_by}
 use Rattle.board_parts.specs.Walks.{walked_by, walked_in}
-use Rattle.board_base.proofs.Lists.{both_maps}
+use Rattle.board_parts.proofs.Lists.{both_maps}
 use Rattle.order.proofs.Lists.{filter_map_same}
 use Rattle.board_core.specs.Answers.{AreOfBoard, AreSubjects}
 use Rattle.board_core.specs.declared.fault.RowsFault.{RowsFault}

@@ -1,2 +1,4 @@
+pub mod Lists
+pub mod Appended
 pub mod NextView
 pub mod Overs

@@ -1,3 +1,4 @@
 pub mod Walks
 pub mod Looks
+pub mod Appended
 pub mod Whole

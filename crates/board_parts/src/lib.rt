@@ -8,9 +8,10 @@
 //! meanings are the history that was published, the timetables, and how often it was looked at.
 //! `StandsFor` of `board_defs` says what history a view stands for. `feeds_of` and `entities_of` go
 //! over the feeds of a schedule, and over what they hold, by feed and then by id; each list of the
-//! hub is made by one of these walks. `update_at` is the trip update of an entity, as it counts.
-//! What else rows need is handed on from `board_base` and `run_overlay`: which stops and instants a
-//! board asks for, what counts at a moment and by which stamp, and how routes and stops are named.
+//! hub is made by one of these walks. `Update` is a trip update, with the order in which updates
+//! count. What else rows need is handed on from `board_base` and `run_overlay`: which stops and
+//! instants a board asks for, what counts at a moment and by which stamp, and how routes and stops
+//! are named.
 //!
 //! It stands on `feed_view` for what is kept of a feed, on `alert_select` for the alerts in it, on
 //! `stop_index`, and on the definitions of `board_defs`.
@@ -24,7 +25,7 @@ mod updates;
 mod view;
 
 pub use board_base::{
-    Update, counts_at, is_asked, is_within, route_name, route_named, stop_id, stop_named, text_of,
+    counts_at, is_asked, is_within, route_name, route_named, stop_id, stop_named, text_of,
 };
 pub use entities::{HeldEntities, HeldEntity};
 pub use feeds::{HubFeed, HubFeeds, ScheduleFeeds};
@@ -32,5 +33,5 @@ pub use indexes::Indexes;
 pub use oracle::Oracle;
 pub use run_overlay::stamp_of;
 pub use std::alloc::AllocError as NoMemory;
-pub use updates::update_at;
+pub use updates::Update;
 pub use view::HubView;

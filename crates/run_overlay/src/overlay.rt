@@ -98,9 +98,15 @@ impl Overlay {
         ensures { IfOk result (λ overlay. overlay ≡ overlay_of plan.now table.now) }
     {
         let _all = table.iter();
-        let ids = changes_on(rt, alloc, plan, table)?;
         let none = Overlay::empty(alloc);
-        none.after_on(rt, alloc, plan, table, ids.as_slice())
+        let changes = changes_on(rt, alloc, plan, table)?;
+        let ids = changes.as_slice();
+        let mentions = none.mentions.after(alloc, table, ids)?;
+        let runs = touched_runs(alloc, ids)?;
+        let candidates = mentions.candidates();
+        let turns = turns_on(rt, alloc, plan, table, candidates, runs.as_slice())?;
+        let live = none.live.after(alloc, turns)?;
+        Ok(Overlay { mentions, live })
     }
 
     /// The overlay after a message, which is that of the table after it: what [`Overlay::build`]
@@ -181,28 +187,6 @@ impl Overlay {
             &hints,
             steps,
         )?;
-        let live = self.live.after(alloc, turns)?;
-        Ok(Overlay { mentions, live })
-    }
-
-    /// The same, where runs are walked on as many threads as the machine has processors, and nobody
-    /// counts the walks.
-    fn after_on(
-        &self,
-        rt: &(impl Threads + Sync),
-        alloc: Global,
-        plan: &Plan,
-        table: &Table,
-        ids: &[IdChange],
-    ) -> Result<Overlay, NoMemory>
-        requires changes { AreIdChanges plan.now self.now table.now ids.now }
-        requires table { IsTable table.now }
-        ensures { IfOk result (λ next. next ≡ overlay_of plan.now table.now) }
-    {
-        let mentions = self.mentions.after(alloc, table, ids)?;
-        let runs = touched_runs(alloc, ids)?;
-        let candidates = mentions.candidates();
-        let turns = turns_on(rt, alloc, plan, table, candidates, runs.as_slice())?;
         let live = self.live.after(alloc, turns)?;
         Ok(Overlay { mentions, live })
     }

@@ -38,9 +38,8 @@ pub(crate) struct Turn {
 fn push_run(mention: Option<Mention>, runs: &mut Vec<Run>) -> Result<(), NoMemory>
     ensures { OnOk result (runs.new.items ≡ runs.old.items ++ changing.run_in mention) }
 {
-    match mention {
-        Some(Mention { run, .. }) => runs.push(run)?,
-        None => {}
+    if let Some(mention) = mention {
+        runs.push(mention.run)?;
     }
     Ok(())
 }

@@ -1,6 +1,6 @@
 -- One update more, and at the end the rows of those that count.
 use Rattle.std.proofs.Common.{[]}
-use Rattle.board_base.proofs.Appended.{goes_item, all_gone}
+use Rattle.board_parts.proofs.Appended.{goes_item, all_gone}
 use Rattle.board_added.specs.Added.{as_row, rows_unless, IsThere}
 use Rattle.board_added.proofs.Adding.{counted}
 use Rattle.board_added.proofs.counting.added_rows.Goals as goal

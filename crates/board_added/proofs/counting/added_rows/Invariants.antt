@@ -1,7 +1,7 @@
 -- The rows of the updates that were gone over were appended.
 use Rattle.std.proofs.Common.{[], drop}
 use Rattle.std.specs.List.{flat_map}
-use Rattle.board_base.proofs.Appended.{IsLeft}
+use Rattle.board_parts.proofs.Appended.{IsLeft}
 use Rattle.board_added.specs.Added.{as_row, rows_unless, IsThere}
 use Rattle.board_added.proofs.counting.added_rows.Given as goal
 

@@ -1,7 +1,7 @@
 -- One call more.
 use Rattle.std.proofs.Common.{take, pos}
 use Rattle.board_defs.specs.declared.call.Call.{Call}
-use Rattle.board_base.proofs.Appended.{goes_numbered}
+use Rattle.board_parts.proofs.Appended.{goes_numbered}
 use Rattle.board_added.specs.Added.{as_row, row_by, IsThere}
 use Rattle.board_added.proofs.counting.push_calls.Goals as goal
 

@@ -1,7 +1,7 @@
 -- The rows of the calls that were gone over were appended.
 use Rattle.std.proofs.Common.{drop}
 use Rattle.std.specs.List.{enumerate_from}
-use Rattle.board_base.proofs.Appended.{IsLeft}
+use Rattle.board_parts.proofs.Appended.{IsLeft}
 use Rattle.board_added.specs.Added.{as_row, rows_by, IsThere}
 use Rattle.board_added.proofs.counting.push_calls.Given as goal
 

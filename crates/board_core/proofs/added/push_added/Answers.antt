@@ -1,7 +1,7 @@
 -- All that the overlay keeps was gone over, and that is what the table has.
 use Rattle.std.proofs.Common.{◌++◌, map, refl, ap, subst, ◌∙◌}
 use Rattle.run_overlay.specs.Kept.{FeedOverlay, IsTable}
-use Rattle.board_base.proofs.Lists.{gone_over}
+use Rattle.board_parts.proofs.Lists.{gone_over}
 use Rattle.board_core.specs.FeedsOfSchedule.{hub_feed_of}
 use Rattle.board_core.proofs.AddedTrips.{of_feed, stored_updates}
 use Rattle.board_core.proofs.added.push_added.Goals as goal

@@ -9,7 +9,7 @@ use Rattle.board_defs.specs.Feeds.{held_in}
 use Rattle.board_defs.specs.Rows.{is_within, run_rows}
 use Rattle.board_defs.specs.Views.{folds_of}
 use Rattle.feed_view.specs.Kept.{IsOver}
-use Rattle.board_base.proofs.Appended.{become_same}
+use Rattle.board_parts.proofs.Appended.{become_same}
 use Rattle.board_added.specs.Added as others
 use Rattle.board_core.specs.declared.feeds.ScheduleFeed.{ScheduleFeed}
 use Rattle.board_core.specs.FeedsOfSchedule.{hub_feed_of}

@@ -5,7 +5,7 @@ use Rattle.sched_types.specs.declared.plans.NamedFeed.{NamedFeed}
 use Rattle.board_defs.specs.Feeds.{HubFeed}
 use Rattle.board_defs.specs.Fold.{FeedFold}
 use Rattle.board_parts.specs.Walks.{held_of, walked, walked_by}
-use Rattle.board_base.proofs.Lists.{map_twice}
+use Rattle.board_parts.proofs.Lists.{map_twice}
 use Rattle.board_parts.proofs.entities.FeedEntities.over.Goals as goal
 
 all_held : (one : HubFeed) (alerts : Bool) (number : ℕ) (feed : NamedFeed) (fold : FeedFold) (left : List Stored) → number ≡ one.number → feed ≡ one.feed → fold ≡ one.fold

@@ -6,7 +6,7 @@ use Rattle.std.specs.Option.{option_map, option_to_list}
 use Rattle.std.proofs.lemmas.List.{map-append, drop_all, drop_more}
 use Rattle.std.proofs.lemmas.List.Elements.{All-nil, All-cons, All-append}
 use Rattle.board_defs.specs.Rows.{BoardRow}
-use Rattle.board_base.specs.Appended.{Become, Adds}
+use Rattle.board_parts.specs.Appended.{Become, Adds}
 use Rattle.order.proofs.Lists.{cons_is}
 
 module _ {X : Type 0} (row_of : X → BoardRow) (IsThere : X → Type 0) where
