@@ -25,8 +25,8 @@ pub fn check(alloc: Global, last: u64, bytes: &[u8]) -> Result<FeedMessage, Refu
     newer(last, message)
 }
 
-/// What [`check`] gives. A message of some thousand entities is read on as many threads as the
-/// machine has processors.
+/// What [`check`] gives. From some two thousand entities on, these are read on as many threads as
+/// the machine has processors.
 pub fn check_on(
     rt: &(impl Threads + Sync),
     alloc: Global,
